@@ -1,30 +1,32 @@
-//! Errors and moments, on which every crate of the project stands.
+//! Texts, errors and moments, on which every crate of the project stands.
 #![tactic(auto)]
 
-use thiserror::Error;
+mod database_fault;
+mod depth;
+mod error;
+mod fault;
+mod io_fault;
+mod kind;
+mod logger;
+mod moment;
+mod out_of_memory;
+mod sql_str;
+mod statement_cache;
+mod summary;
+#[cfg(test)]
+mod tests;
+mod ustr;
 
-/// Want of memory.
-#[derive(Clone, Copy, Debug, PartialEq, Eq, Error)]
-#[error("out of memory")]
-pub struct OutOfMemory;
-
-/// A moment in nanoseconds, by a clock of the caller's.
-#[derive(Clone, Copy, Debug, PartialEq, Eq, PartialOrd, Ord)]
-pub struct Moment(pub u64);
-
-/// What a call of the project may answer in place of its value.
-#[derive(Debug, Drop, Error)]
-pub enum Error {
-    /// The deadline of an acquire came.
-    #[error("pool timed out while waiting for an open connection")]
-    PoolTimedOut,
-    /// The pool was closed.
-    #[error("attempted to acquire a connection on a closed pool")]
-    PoolClosed,
-    /// Want of memory.
-    #[error("out of memory")]
-    OutOfMemory,
-    /// A count that numbers things stands at its last value.
-    #[error("numbers are used up")]
-    Exhausted,
-}
+pub use database_fault::{DatabaseFault, ErrorKind};
+pub use depth::Depth;
+pub use error::{Error, Result};
+pub use fault::{Fault, UnexpectedNullError};
+pub use io_fault::IoFault;
+pub use kind::AnyTypeInfoKind;
+pub use logger::{LogSettings, QueryLogger, QueryRecord};
+pub use moment::Moment;
+pub use out_of_memory::OutOfMemory;
+pub use sql_str::{AssertSqlSafe, SqlSafeStr, SqlStr};
+pub use statement_cache::StatementCache;
+pub use summary::parse_query_summary;
+pub use ustr::UStr;

@@ -1,0 +1,5 @@
+mod ByTexts
+mod Examples
+mod Inserted
+mod Prefixes
+mod Summaries
