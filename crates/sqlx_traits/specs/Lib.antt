@@ -1,0 +1,9 @@
+pub mod Faults
+pub mod StepList
+pub mod Handed
+pub mod Places
+pub mod Reads
+pub mod Options
+pub mod Arguments
+pub mod Parameters
+pub mod Origin

@@ -1,0 +1,59 @@
+//! A connection: pings, its cache of statements, its buffers, and closing.
+ghost use Rattle.std.specs.Prelude.{◌≡◌, ◌≤◌, ℕ, Bool, IfErr, OnOk};
+ghost use Rattle.sqlx_traits.specs.Faults.{FaultCause};
+
+use crate::{Database, Faults};
+use sqlx_text::{Depth, Error};
+
+/// A connection to a database.
+pub trait Connection<DB: Database>: Depth + Faults + Sized {
+    /// Whether it closes without a refusal, whatever comes.
+    ghost closes: { Self → Bool };
+
+    /// How many statements are cached.
+    ghost cached: { Self → ℕ } = { λ _. 0 };
+
+    /// Whether something waits to be flushed.
+    ghost unflushed: { Self → Bool } = { λ _. Bool.false };
+
+    /// Closes the connection, and tells its peer.
+    fn close(self) -> Result<(), Error>
+        ensures { IfErr result (λ _. closes self ≡ Bool.false) };
+
+    /// Closes the connection at once.
+    fn close_hard(self) -> Result<(), Error>
+        ensures { IfErr result (λ _. closes self ≡ Bool.false) };
+
+    /// Asks for a sign of life. It leaves the depth.
+    fn ping(&mut self) -> Result<(), Error>
+        ensures levels { Self.levels self.new ≡ Self.levels self.old }
+        ensures rises { Self.faults self.old ≤ Self.faults self.new }
+        ensures cause { IfErr result (λ e. FaultCause (Self.faults self.old) (Self.faults self.new) e) };
+
+    /// How many statements are cached; 0 where the driver has no cache.
+    fn cached_statements_size(&self) -> usize
+        ensures { result ≡ cached self.now };
+
+    /// Forgets the cached statements. It leaves the depth.
+    fn clear_cached_statements(&mut self) -> Result<(), Error>
+        ensures ok { OnOk result (cached self.new ≡ 0) }
+        ensures levels { Self.levels self.new ≡ Self.levels self.old }
+        ensures rises { Self.faults self.old ≤ Self.faults self.new }
+        ensures cause { IfErr result (λ e. FaultCause (Self.faults self.old) (Self.faults self.new) e) };
+
+    /// Gives back memory that isn't needed. It leaves the depth.
+    fn shrink_buffers(&mut self)
+        ensures levels { Self.levels self.new ≡ Self.levels self.old }
+        ensures rises { Self.faults self.old ≤ Self.faults self.new };
+
+    /// Sends what waits. It leaves the depth.
+    fn flush(&mut self) -> Result<(), Error>
+        ensures ok { OnOk result (unflushed self.new ≡ Bool.false) }
+        ensures levels { Self.levels self.new ≡ Self.levels self.old }
+        ensures rises { Self.faults self.old ≤ Self.faults self.new }
+        ensures cause { IfErr result (λ e. FaultCause (Self.faults self.old) (Self.faults self.new) e) };
+
+    /// Whether something waits to be flushed.
+    fn should_flush(&self) -> bool
+        ensures { result ≡ unflushed self.now };
+}
