@@ -1,2 +1,30 @@
-//! Not written yet.
+//! Transactions. For now the texts of the levels and the law that they make nested levels.
 #![tactic(auto)]
+
+pub use sqlx_savepoints::{
+    begin_ansi_transaction_sql, commit_ansi_transaction_sql, laws, rollback_ansi_transaction_sql,
+};
+
+#[cfg(test)]
+mod tests {
+    use super::*;
+    use std::test::Fail;
+
+    #[test]
+    fn texts(rt: HostRuntime) -> Result<(), Fail> {
+        let text = begin_ansi_transaction_sql(rt.alloc(), 0)?;
+        assert_eq!(rt; text.as_str(), "BEGIN");
+        let text = begin_ansi_transaction_sql(rt.alloc(), 1)?;
+        assert_eq!(rt; text.as_str(), "SAVEPOINT _sqlx_savepoint_1");
+        let text = commit_ansi_transaction_sql(rt.alloc(), 1)?;
+        assert_eq!(rt; text.as_str(), "COMMIT");
+        let text = commit_ansi_transaction_sql(rt.alloc(), 3)?;
+        assert_eq!(rt; text.as_str(), "RELEASE SAVEPOINT _sqlx_savepoint_2");
+        let text = rollback_ansi_transaction_sql(rt.alloc(), 1)?;
+        assert_eq!(rt; text.as_str(), "ROLLBACK");
+        let text = rollback_ansi_transaction_sql(rt.alloc(), 2)?;
+        assert_eq!(rt; text.as_str(), "ROLLBACK TO SAVEPOINT _sqlx_savepoint_1");
+        laws::savepoints_are_levels();
+        Ok(())
+    }
+}

@@ -1,0 +1,4 @@
+pub mod StepByStep
+pub mod SavepointTheorem
+pub mod Laid
+pub mod Examples
