@@ -1,0 +1,11 @@
+pub mod Kept
+pub mod Struck
+pub mod Undone
+pub mod CutAway
+pub mod Tells
+pub mod Swaps
+pub mod StoreOf
+pub mod Readers
+pub mod Linking
+pub mod Answering
+pub mod Examples
