@@ -1,0 +1,5 @@
+pub mod Trees
+pub mod Numbers
+pub mod LevelTexts
+pub mod OneReading
+pub mod MapInPlace
