@@ -1,0 +1,5 @@
+pub mod Rows
+pub mod Cuts
+pub mod Digits
+mod WorkedRows
+pub mod ScriptBytes

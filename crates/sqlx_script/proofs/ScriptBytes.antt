@@ -1,0 +1,397 @@
+-- Each byte of a valid script is a newline or from 0x20 to 0x7E.
+use Rattle.std.proofs.Common.{◌≡◌, ℕ, zero, suc, ◌+◌, ◌-◌, ◌^◌, ◌==◌, ◌&&◌, Bool, true, false, not, cond, IsTrue, List, [], ◌∷◌, Option, Some, None, length, take, slice_index, codes, refl, sym, ap, subst, ◌∙◌, inl, inr, nat_lt, nat_le, arith}
+use Rattle.std.specs.Char.{is_ascii_digit}
+use Rattle.std.specs.Str.{all_ascii_digits, bytes_eq}
+use Rattle.std.specs.Str.Parse.{digits_value}
+use Rattle.std.specs.List.{list_all, slice_split, onto_first}
+use Rattle.std.proofs.lemmas.Bool.{cases_Bool, cond-true, cond-false, and_parts, and_from}
+use Rattle.std.proofs.lemmas.Bool.Decides.{nat_tests}
+use Rattle.std.proofs.lemmas.Slice.Eq.{bytes_eq-Decides}
+use Rattle.sqlx_script.specs.Words.{is_blank, words_of, ends_well, lines_of, longer}
+use Rattle.sqlx_script.specs.Numbers.{◌>>=◌, is_number, has_leading_zero, number_in, value, plain_value, minus_value, limit_nanos, millis, nanos, exactly}
+use Rattle.sqlx_script.specs.Letters.{plus_or_minus, hook_letter, after_connect_letter, connect_letter, statement_letter, sign, statement, poll_answers, give_answers, switches}
+use Rattle.sqlx_script.specs.Rows.{row, ended, words0, words1, words2, words3, words4, words5}
+use Rattle.sqlx_script.specs.Laws.{is_plain, is_script_byte}
+use Rattle.sqlx_script.specs.Grammar.{step_of, event_words, pool_words, event_of, pool_of, whole, Reading, reading_at, reading_from, Script, script_after, script_lines, IsScript}
+use Rattle.sqlx_script.specs.declared.answers.HookAnswer.{HookAnswer}
+use Rattle.sqlx_script.specs.declared.answers.AfterConnectAnswer.{AfterConnectAnswer}
+use Rattle.sqlx_script.specs.declared.answers.ConnectAnswer.{ConnectAnswer}
+use Rattle.sqlx_script.specs.declared.answers.StatementAnswer.{StatementAnswer}
+use Rattle.sqlx_script.specs.declared.pool_line.PoolLine.{PoolLine}
+use Rattle.sqlx_script.specs.declared.step.Event.{Event}
+use Rattle.sqlx_script.specs.declared.step.Step.{Step}
+use Rattle.sqlx_script.specs.declared.step.Step.TheVariants.{Ask, Poll, Cancel, Try, Give, End, Detach, Leak, Reap, Min, CloseState, Begin, Custom, Put, Del, Get, Commit, Rollback, GiveUp, Close}
+
+-- the bytes of a word are from 0x20 to 0x7E
+abbrev plain : List ℕ → Bool
+plain word = list_all is_plain word
+
+-- those of all these words are
+abbrev all_plain : List (List ℕ) → Bool
+all_plain words = list_all plain words
+
+-- ---- from words to the text between blanks
+
+onto_plain : (b : ℕ) (words : List (List ℕ)) → all_plain (onto_first b words) ≡ true → (is_plain b ≡ true) × (all_plain words ≡ true)
+onto_plain b [] h = ((and_parts (is_plain b) true (and_parts (is_plain b && true) true h).0).0, refl)
+onto_plain b (w ∷ ws) h =
+    let both = and_parts (is_plain b && plain w) (all_plain ws) h in
+    let first = and_parts (is_plain b) (plain w) both.0 in
+    (first.0, and_from (plain w) (all_plain ws) first.1 both.1)
+
+-- a text is plain where its words are
+text_plain : (text : List ℕ) → all_plain (slice_split is_blank text) ≡ true → plain text ≡ true
+text_plain [] h = refl
+text_plain (b ∷ text) h = elim (cases_Bool (is_blank b)) [
+  | inl yes' ↦
+      let here : is_plain b ≡ true = grind (arith, nat_tests) in
+      let rest : all_plain (slice_split is_blank text) ≡ true = subst (λ ws. all_plain ws ≡ true) (cond-true (is_blank b) ([] ∷ slice_split is_blank text) _ yes') h in
+      and_from (is_plain b) (plain text) here (text_plain text rest)
+  | inr no' ↦
+      let split : all_plain (onto_first b (slice_split is_blank text)) ≡ true = subst (λ ws. all_plain ws ≡ true) (cond-false (is_blank b) ([] ∷ slice_split is_blank text) _ no') h in
+      let parts = onto_plain b (slice_split is_blank text) split in
+      and_from (is_plain b) (plain text) parts.0 (text_plain text parts.1)
+]
+
+-- ---- steps
+
+-- what was made of a value was made of one that is there
+bound : {A B : Type 0} (o : Option A) (f : A → Option B) (y : B) → (o >>= f) ≡ Some y → (x : A) × (o ≡ Some x) × (f x ≡ Some y)
+bound (Some x) f y h = (x, refl, h)
+bound None f y h = cc
+
+-- ---- the kinds of words
+
+-- a word of this kind is plain
+abbrev IsPlainKind : {A : Type 0} → (List ℕ → Option A) → Type 0
+IsPlainKind {A} p = (w : List ℕ) (x : A) → p w ≡ Some x → plain w ≡ true
+
+digits_plain : (w : List ℕ) → all_ascii_digits w ≡ true → plain w ≡ true
+digits_plain [] h = refl
+digits_plain (b ∷ w) h =
+    let parts = and_parts (is_ascii_digit b) (all_ascii_digits w) h in
+    let digit : is_ascii_digit b ≡ true = parts.0 in
+    let here : is_plain b ≡ true = grind (arith, nat_tests) in
+    and_from (is_plain b) (plain w) here (digits_plain w parts.1)
+
+-- what a test let through passed it
+passed : {A : Type 0} (b : Bool) (x y : A) → cond b (Some x) None ≡ Some y → b ≡ true
+passed true x y h = refl
+passed false x y h = cc
+
+number_plain : (low high : ℕ) → IsPlainKind (number_in low high)
+unfolding number_in
+number_plain low high w x h =
+    let all = passed (is_number w && nat_le low (digits_value 10 w) && nat_lt (digits_value 10 w) high) (digits_value 10 w) x h in
+    let first = (and_parts (is_number w && nat_le low (digits_value 10 w)) (nat_lt (digits_value 10 w) high) all).0 in
+    let number = (and_parts (is_number w) (nat_le low (digits_value 10 w)) first).0 in
+    digits_plain w (and_parts (not (length w == 0) && not (has_leading_zero w)) (all_ascii_digits w) number).1
+
+value_plain : IsPlainKind value
+unfolding value
+value_plain [] x h = refl
+value_plain (b ∷ w) x h = elim (cases_Bool (b == 45)) [
+  | inl yes' ↦
+      let here : is_plain b ≡ true = grind (arith, nat_tests) in
+      let read : minus_value w ≡ Some x = sym (cond-true (b == 45) (minus_value w) (plain_value (b ∷ w)) yes') ∙ h in
+      let number = bound (number_in 1 9223372036854775809 w) _ x read in
+      and_from (is_plain b) (plain w) here (number_plain 1 9223372036854775809 w number.0 number.1)
+  | inr no' ↦
+      let read : plain_value (b ∷ w) ≡ Some x = sym (cond-false (b == 45) (minus_value w) (plain_value (b ∷ w)) no') ∙ h in
+      let number = bound (number_in 0 9223372036854775808 (b ∷ w)) _ x read in
+      number_plain 0 9223372036854775808 (b ∷ w) number.0 number.1
+]
+
+-- a word that equals a plain text
+same_plain : (w text : List ℕ) → bytes_eq w text ≡ true → plain text ≡ true → plain w ≡ true
+same_plain w text same h = subst (λ x. plain x ≡ true) (sym ((bytes_eq-Decides w text).0 same)) h
+
+exactly_plain : (text : List ℕ) → plain text ≡ true → IsPlainKind (exactly text)
+unfolding exactly
+exactly_plain text t w x h = same_plain w text (passed (bytes_eq w text) w x h) t
+
+limit_nanos_plain : IsPlainKind limit_nanos
+unfolding limit_nanos
+limit_nanos_plain w x h = elim (cases_Bool (bytes_eq w (45 ∷ []))) [
+  | inl yes' ↦ same_plain w (45 ∷ []) yes' refl
+  | inr no' ↦
+      let read : (millis w >>= λ ms. Some (Some (nanos ms))) ≡ Some x = sym (cond-false (bytes_eq w (45 ∷ [])) _ _ no') ∙ h in
+      let number = bound (millis w) _ x read in
+      number_plain 0 (2 ^ 40) w number.0 number.1
+]
+
+-- ---- letters
+
+plus_or_minus_plain : (b : ℕ) (x : Bool) → plus_or_minus b ≡ Some x → is_plain b ≡ true
+unfolding plus_or_minus
+plus_or_minus_plain b x h = grind (arith, nat_tests)
+
+hook_letter_plain : (b : ℕ) (x : HookAnswer) → hook_letter b ≡ Some x → is_plain b ≡ true
+unfolding hook_letter
+hook_letter_plain b x h = grind (arith, nat_tests)
+
+after_connect_letter_plain : (b : ℕ) (x : AfterConnectAnswer) → after_connect_letter b ≡ Some x → is_plain b ≡ true
+unfolding after_connect_letter
+after_connect_letter_plain b x h = grind (arith, nat_tests)
+
+connect_letter_plain : (b : ℕ) (x : ConnectAnswer) → connect_letter b ≡ Some x → is_plain b ≡ true
+unfolding connect_letter
+connect_letter_plain b x h = grind (arith, nat_tests)
+
+statement_letter_plain : (b : ℕ) (x : StatementAnswer) → statement_letter b ≡ Some x → is_plain b ≡ true
+unfolding statement_letter
+statement_letter_plain b x h = grind (arith, nat_tests)
+
+one_plain : (b : ℕ) → is_plain b ≡ true → plain (b ∷ []) ≡ true
+one_plain b h = and_from (is_plain b) true h refl
+
+sign_plain : IsPlainKind sign
+unfolding sign
+sign_plain [] x h = cc
+sign_plain (b ∷ []) x h = one_plain b (plus_or_minus_plain b x h)
+sign_plain (b ∷ c ∷ w) x h = cc
+
+statement_plain : IsPlainKind statement
+unfolding statement
+statement_plain [] x h = cc
+statement_plain (b ∷ []) x h = one_plain b (statement_letter_plain b x h)
+statement_plain (b ∷ c ∷ w) x h = cc
+
+give_answers_plain : IsPlainKind give_answers
+unfolding give_answers
+give_answers_plain [] x h = cc
+give_answers_plain (r ∷ []) x h = cc
+give_answers_plain (r ∷ p ∷ []) x h =
+    let release = bound (hook_letter r) _ x h in
+    let ping = bound (plus_or_minus p) _ x release.2 in
+    and_from (is_plain r) (plain (p ∷ [])) (hook_letter_plain r release.0 release.1) (one_plain p (plus_or_minus_plain p ping.0 ping.1))
+give_answers_plain (r ∷ p ∷ c ∷ w) x h = cc
+
+-- four plain bytes
+four_plain : (p b c a : ℕ) → is_plain p ≡ true → is_plain b ≡ true → is_plain c ≡ true → is_plain a ≡ true → plain (p ∷ b ∷ c ∷ a ∷ []) ≡ true
+four_plain p b c a h i j k =
+    and_from (is_plain p) (plain (b ∷ c ∷ a ∷ [])) h (and_from (is_plain b) (plain (c ∷ a ∷ [])) i (and_from (is_plain c) (plain (a ∷ [])) j (one_plain a k)))
+
+poll_answers_plain : IsPlainKind poll_answers
+unfolding poll_answers
+poll_answers_plain [] x h = cc
+poll_answers_plain (p ∷ []) x h = cc
+poll_answers_plain (p ∷ b ∷ []) x h = cc
+poll_answers_plain (p ∷ b ∷ c ∷ []) x h = cc
+poll_answers_plain (p ∷ b ∷ c ∷ a ∷ []) x h =
+    let ping = bound (plus_or_minus p) _ x h in
+    let before = bound (hook_letter b) _ x ping.2 in
+    let connect = bound (connect_letter c) _ x before.2 in
+    let after = bound (after_connect_letter a) _ x connect.2 in
+    four_plain p b c a (plus_or_minus_plain p ping.0 ping.1) (hook_letter_plain b before.0 before.1) (connect_letter_plain c connect.0 connect.1) (after_connect_letter_plain a after.0 after.1)
+poll_answers_plain (p ∷ b ∷ c ∷ a ∷ d ∷ w) x h = cc
+
+switches_plain : IsPlainKind switches
+unfolding switches
+switches_plain [] x h = cc
+switches_plain (p ∷ []) x h = cc
+switches_plain (p ∷ a ∷ []) x h = cc
+switches_plain (p ∷ a ∷ b ∷ []) x h = cc
+switches_plain (p ∷ a ∷ b ∷ r ∷ []) x h =
+    let ping = bound (plus_or_minus p) _ x h in
+    let after = bound (plus_or_minus a) _ x ping.2 in
+    let before = bound (plus_or_minus b) _ x after.2 in
+    let release = bound (plus_or_minus r) _ x before.2 in
+    four_plain p a b r (plus_or_minus_plain p ping.0 ping.1) (plus_or_minus_plain a after.0 after.1) (plus_or_minus_plain b before.0 before.1) (plus_or_minus_plain r release.0 release.1)
+switches_plain (p ∷ a ∷ b ∷ r ∷ d ∷ w) x h = cc
+
+-- ---- rows of words
+
+-- words of which something was made are plain
+abbrev Tame : {R : Type 0} → (List (List ℕ) → Option R) → Type 0
+Tame {R} f = (ws : List (List ℕ)) (r : R) → f ws ≡ Some r → all_plain ws ≡ true
+
+ended_tame : {R : Type 0} (made : R) → Tame (ended made)
+ended_tame made [] r h = refl
+ended_tame made (w ∷ ws) r h = cc
+
+row_tame : {A R : Type 0} (p : List ℕ → Option A) (f : A → List (List ℕ) → Option R) → IsPlainKind p → ((x : A) → Tame (f x)) → Tame (row p f)
+row_tame p f kind tame [] r h = cc
+row_tame p f kind tame (w ∷ ws) r h =
+    let first = bound (p w) (λ x. f x ws) r h in
+    and_from (plain w) (all_plain ws) (kind w first.0 first.1) (tame first.0 ws r first.2)
+
+tame0 : {R : Type 0} (made : R) → Tame (words0 made)
+unfolding words0
+tame0 made = ended_tame made
+
+tame1 : {A R : Type 0} {p : List ℕ → Option A} → IsPlainKind p → (make : A → R) → Tame (words1 p make)
+unfolding words1
+tame1 {p = p} k make = row_tame p _ k (λ x. ended_tame (make x))
+
+tame2 : {A B R : Type 0} {p : List ℕ → Option A} {q : List ℕ → Option B} → IsPlainKind p → IsPlainKind q → (make : A → B → R) → Tame (words2 p q make)
+unfolding words2
+tame2 {p = p} {q = q} k l make = row_tame p _ k (λ x. row_tame q _ l (λ y. ended_tame (make x y)))
+
+tame3 : {A B C R : Type 0} {p : List ℕ → Option A} {q : List ℕ → Option B} {r : List ℕ → Option C} → IsPlainKind p → IsPlainKind q → IsPlainKind r → (make : A → B → C → R) → Tame (words3 p q r make)
+unfolding words3
+tame3 {p = p} {q = q} {r = r} k l m make = row_tame p _ k (λ x. row_tame q _ l (λ y. row_tame r _ m (λ z. ended_tame (make x y z))))
+
+tame4 : {A B C D R : Type 0} {p : List ℕ → Option A} {q : List ℕ → Option B} {r : List ℕ → Option C} {s : List ℕ → Option D} → IsPlainKind p → IsPlainKind q → IsPlainKind r → IsPlainKind s
+    → (make : A → B → C → D → R) → Tame (words4 p q r s make)
+unfolding words4
+tame4 {p = p} {q = q} {r = r} {s = s} k l m n make = row_tame p _ k (λ x. row_tame q _ l (λ y. row_tame r _ m (λ z. row_tame s _ n (λ u. ended_tame (make x y z u)))))
+
+tame5 : {A B C D E R : Type 0} {p : List ℕ → Option A} {q : List ℕ → Option B} {r : List ℕ → Option C} {s : List ℕ → Option D} {t : List ℕ → Option E}
+    → IsPlainKind p → IsPlainKind q → IsPlainKind r → IsPlainKind s → IsPlainKind t → (make : A → B → C → D → E → R) → Tame (words5 p q r s t make)
+unfolding words5
+tame5 {p = p} {q = q} {r = r} {s = s} {t = t} k l m n o make =
+    row_tame p _ k (λ x. row_tame q _ l (λ y. row_tame r _ m (λ z. row_tame s _ n (λ u. row_tame t _ o (λ v. ended_tame (make x y z u v))))))
+
+-- ---- lines
+
+-- a name that is this text has plain fields, or the others are asked
+pick : (name text : List ℕ) (fields : List (List ℕ)) (f : List (List ℕ) → Option Step) (others : Option Step) (step : Step) → cond (bytes_eq name text) (f fields) others ≡ Some step
+    → plain text ≡ true → Tame f → (others ≡ Some step → (plain name ≡ true) × (all_plain fields ≡ true)) → (plain name ≡ true) × (all_plain fields ≡ true)
+pick name text fields f others step h t tame rest = elim (cases_Bool (bytes_eq name text)) [
+  | inl yes' ↦ (same_plain name text yes' t, tame fields step (sym (cond-true (bytes_eq name text) (f fields) others yes') ∙ h))
+  | inr no' ↦ rest (sym (cond-false (bytes_eq name text) (f fields) others no') ∙ h)
+]
+
+step_plain : (name : List ℕ) (fields : List (List ℕ)) (step : Step) → step_of name fields ≡ Some step → (plain name ≡ true) × (all_plain fields ≡ true)
+unfolding step_of
+step_plain name fields step h =
+    pick name (codes "ask") fields _ _ step h refl (tame1 (number_plain 0 (2 ^ 32)) Ask) (λ h1.
+    pick name (codes "poll") fields _ _ step h1 refl (tame3 (number_plain 0 (2 ^ 32)) (number_plain 0 (2 ^ 32)) poll_answers_plain Poll) (λ h2.
+    pick name (codes "cancel") fields _ _ step h2 refl (tame2 (number_plain 0 (2 ^ 32)) (number_plain 0 (2 ^ 32)) Cancel) (λ h3.
+    pick name (codes "try") fields _ _ step h3 refl (tame1 (number_plain 0 (2 ^ 32)) Try) (λ h4.
+    pick name (codes "give") fields _ _ step h4 refl (tame4 (number_plain 0 (2 ^ 32)) (number_plain 0 (2 ^ 32)) give_answers_plain (number_plain 0 65536) Give) (λ h5.
+    pick name (codes "end") fields _ _ step h5 refl (tame3 (number_plain 0 (2 ^ 32)) (number_plain 0 (2 ^ 32)) (number_plain 0 65536) End) (λ h6.
+    pick name (codes "detach") fields _ _ step h6 refl (tame3 (number_plain 0 (2 ^ 32)) (number_plain 0 (2 ^ 32)) (number_plain 0 65536) Detach) (λ h7.
+    pick name (codes "leak") fields _ _ step h7 refl (tame3 (number_plain 0 (2 ^ 32)) (number_plain 0 (2 ^ 32)) (number_plain 0 65536) Leak) (λ h8.
+    pick name (codes "reap") fields _ _ step h8 refl (tame1 (number_plain 0 65536) Reap) (λ h9.
+    pick name (codes "min") fields _ _ step h9 refl (tame1 (number_plain 0 65536) Min) (λ h10.
+    pick name (codes "closed") fields _ _ step h10 refl (tame0 CloseState) (λ h11.
+    pick name (codes "begin") fields _ _ step h11 refl (tame3 (number_plain 0 (2 ^ 32)) (number_plain 0 (2 ^ 32)) statement_plain Begin) (λ h12.
+    pick name (codes "custom") fields _ _ step h12 refl (tame4 (number_plain 0 (2 ^ 32)) (number_plain 0 (2 ^ 32)) sign_plain statement_plain Custom) (λ h13.
+    pick name (codes "put") fields _ _ step h13 refl (tame5 (number_plain 0 (2 ^ 32)) (number_plain 0 (2 ^ 32)) (number_plain 0 1000) value_plain statement_plain Put) (λ h14.
+    pick name (codes "del") fields _ _ step h14 refl (tame4 (number_plain 0 (2 ^ 32)) (number_plain 0 (2 ^ 32)) (number_plain 0 1000) statement_plain Del) (λ h15.
+    pick name (codes "get") fields _ _ step h15 refl (tame4 (number_plain 0 (2 ^ 32)) (number_plain 0 (2 ^ 32)) (number_plain 0 1000) statement_plain Get) (λ h16.
+    pick name (codes "commit") fields _ _ step h16 refl (tame3 (number_plain 0 (2 ^ 32)) (number_plain 0 (2 ^ 32)) statement_plain Commit) (λ h17.
+    pick name (codes "rollback") fields _ _ step h17 refl (tame3 (number_plain 0 (2 ^ 32)) (number_plain 0 (2 ^ 32)) statement_plain Rollback) (λ h18.
+    pick name (codes "giveup") fields _ _ step h18 refl (tame2 (number_plain 0 (2 ^ 32)) (number_plain 0 (2 ^ 32)) GiveUp) (λ h19.
+    pick name (codes "close") fields _ _ step h19 refl (tame0 Close) (λ h20.
+    cc))))))))))))))))))))
+
+event_plain : Tame event_words
+unfolding event_words
+event_plain [] r h = cc
+event_plain (name ∷ []) r h = cc
+event_plain (name ∷ w ∷ fields) r h =
+    let now = bound (millis w) _ r h in
+    let step = bound (step_of name fields) _ r now.2 in
+    let both = step_plain name fields step.0 step.1 in
+    and_from (plain name) (all_plain (w ∷ fields)) both.0 (and_from (plain w) (all_plain fields) (number_plain 0 (2 ^ 40) w now.0 now.1) both.1)
+
+pool_plain : Tame pool_words
+unfolding pool_words
+pool_plain =
+    row_tame _ _ (exactly_plain (codes "pool") refl) (λ _.
+    row_tame _ _ (number_plain 1 65536) (λ max.
+    row_tame _ _ (number_plain 0 65536) (λ min.
+    row_tame _ _ (number_plain 0 (2 ^ 40)) (λ timeout.
+    row_tame _ _ limit_nanos_plain (λ lifetime.
+    row_tame _ _ limit_nanos_plain (λ idle.
+    row_tame _ _ switches_plain (λ on.
+    ended_tame _)))))))
+
+-- the bytes of a line may stand in a script
+abbrev ok : List ℕ → Bool
+ok line = list_all is_script_byte line
+
+-- a newline after plain bytes
+ok_by_last : (line : List ℕ) (n : ℕ) → length line ≡ suc n → (slice_index line n == 10) ≡ true → plain (take n line) ≡ true → ok line ≡ true
+ok_by_last [] n e newline h = refl
+ok_by_last (b ∷ []) zero e newline h = let here : is_script_byte b ≡ true = grind (arith, nat_tests) in and_from (is_script_byte b) true here refl
+ok_by_last (b ∷ c ∷ line) zero e newline h = absurd (omega arith)
+ok_by_last (b ∷ line) (suc n) e newline h =
+    let parts = and_parts (is_plain b) (plain (take n line)) h in
+    let first : is_plain b ≡ true = parts.0 in
+    let here : is_script_byte b ≡ true = grind (arith, nat_tests) in
+    and_from (is_script_byte b) (ok line) here (ok_by_last line n (omega arith) newline parts.1)
+
+ok_line : (line : List ℕ) → ends_well line ≡ true → all_plain (words_of line) ≡ true → ok line ≡ true
+ok_line [] ends h = refl
+ok_line (b ∷ line) ends h =
+    let less : length (b ∷ line) - 1 ≡ length line = omega arith in
+    ok_by_last (b ∷ line) (length line) refl (subst (λ n. (slice_index (b ∷ line) n == 10) ≡ true) less ends)
+    (subst (λ n. plain (take n (b ∷ line)) ≡ true) less (text_plain (take (length (b ∷ line) - 1) (b ∷ line)) h))
+
+whole_ok : {R : Type 0} (f : List (List ℕ) → Option R) (line : List ℕ) (r : R) → Tame f → whole f line ≡ Some r → ok line ≡ true
+whole_ok f line r tame h = elim (cases_Bool (ends_well line)) [
+  | inl yes' ↦ ok_line line yes' (tame (words_of line) r (sym (cond-true (ends_well line) (f (words_of line)) None yes') ∙ h))
+  | inr no' ↦ let none : None ≡ Some r = sym (cond-false (ends_well line) (f (words_of line)) None no') ∙ h in cc
+]
+
+event_ok : (line : List ℕ) (e : Event) → event_of line ≡ Some e → ok line ≡ true
+unfolding event_of
+event_ok line e h = let read = bound (whole event_words line) _ e h in whole_ok event_words line read.0 event_plain read.1
+
+pool_ok : (line : List ℕ) (p : PoolLine) → pool_of line ≡ Some p → ok line ≡ true
+unfolding pool_of
+pool_ok line p h = whole_ok pool_words line p pool_plain h
+
+-- ---- scripts
+
+abbrev all_ok : List (List ℕ) → Bool
+all_ok lines = list_all ok lines
+
+longer_ok : (b : ℕ) (lines : List (List ℕ)) → all_ok (longer b lines) ≡ true → (is_script_byte b ≡ true) × (all_ok lines ≡ true)
+longer_ok b [] h = ((and_parts (is_script_byte b) true (and_parts (is_script_byte b && true) true h).0).0, refl)
+longer_ok b (line ∷ lines) h =
+    let both = and_parts (is_script_byte b && ok line) (all_ok lines) h in
+    let first = and_parts (is_script_byte b) (ok line) both.0 in
+    (first.0, and_from (ok line) (all_ok lines) first.1 both.1)
+
+-- bytes may stand in a script where those of its lines may
+ok_bytes : (bytes : List ℕ) → all_ok (lines_of bytes) ≡ true → ok bytes ≡ true
+ok_bytes [] h = refl
+ok_bytes (b ∷ bytes) h = elim (cases_Bool (b == 10)) [
+  | inl yes' ↦
+      let here : is_script_byte b ≡ true = grind (arith, nat_tests) in
+      let cut : all_ok ((b ∷ []) ∷ lines_of bytes) ≡ true = subst (λ ls. all_ok ls ≡ true) (cond-true (b == 10) ((b ∷ []) ∷ lines_of bytes) (longer b (lines_of bytes)) yes') h in
+      and_from (is_script_byte b) (ok bytes) here (ok_bytes bytes (and_parts (ok (b ∷ [])) (all_ok (lines_of bytes)) cut).1)
+  | inr no' ↦
+      let cut : all_ok (longer b (lines_of bytes)) ≡ true = subst (λ ls. all_ok ls ≡ true) (cond-false (b == 10) ((b ∷ []) ∷ lines_of bytes) (longer b (lines_of bytes)) no') h in
+      let parts = longer_ok b (lines_of bytes) cut in
+      and_from (is_script_byte b) (ok bytes) parts.0 (ok_bytes bytes parts.1)
+]
+
+-- a line that is an event, before lines of which none is bad where none of them is
+good_event : (n last : ℕ) (line : List ℕ) (lines : List (List ℕ)) (o : Option Event) → event_of line ≡ o → ((now : ℕ) → (reading_from (n + 1) now lines).bad ≡ None → all_ok lines ≡ true)
+    → (reading_at n last (λ now. reading_from (n + 1) now lines) o).bad ≡ None → all_ok (line ∷ lines) ≡ true
+good_event n last line lines None e rest h = cc
+good_event n last line lines (Some event) e rest h = elim (cases_Bool (nat_lt event.moment.0 last)) [
+  | inl yes' ↦
+      let none : Some n ≡ None = ap (λ (r : Reading). r.bad) (sym (cond-true (nat_lt event.moment.0 last) (record { events = []; bad = Some n }) _ yes')) ∙ h in
+      cc
+  | inr no' ↦
+      let later : (reading_from (n + 1) event.moment.0 lines).bad ≡ None = ap (λ (r : Reading). r.bad) (sym (cond-false (nat_lt event.moment.0 last) _ _ no')) ∙ h in
+      and_from (ok line) (all_ok lines) (event_ok line event e) (rest event.moment.0 later)
+]
+
+-- lines of which none is bad
+good_lines : (lines : List (List ℕ)) (n last : ℕ) → (reading_from n last lines).bad ≡ None → all_ok lines ≡ true
+unfolding reading_from
+good_lines [] n last h = refl
+good_lines (line ∷ lines) n last h = good_event n last line lines (event_of line) refl (λ now. good_lines lines (n + 1) now) h
+
+good_script : (line : List ℕ) (lines : List (List ℕ)) (script : Script) (o : Option PoolLine) → pool_of line ≡ o → script_after o lines ≡ Some script → script.lines.bad ≡ None → all_ok (line ∷ lines) ≡ true
+good_script line lines script None e reads good = cc
+good_script line lines script (Some pool) e reads good =
+    let same : reading_from 2 0 lines ≡ script.lines = cc in
+    and_from (ok line) (all_ok lines) (pool_ok line pool e) (good_lines lines 2 0 (ap (λ (r : Reading). r.bad) same ∙ good))
+
+good_whole : (lines : List (List ℕ)) (script : Script) → script_lines lines ≡ Some script → script.lines.bad ≡ None → all_ok lines ≡ true
+unfolding script_lines
+good_whole [] script reads good = refl
+good_whole (line ∷ lines) script reads good = good_script line lines script (pool_of line) refl reads good
+
+-- each byte of a valid script may stand in a script
+pub script_bytes : (bytes : List ℕ) (script : Script) → IsScript bytes script → IsTrue (list_all is_script_byte bytes)
+script_bytes bytes script s = ok_bytes bytes (good_whole (lines_of bytes) script s.reads s.good)

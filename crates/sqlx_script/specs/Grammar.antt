@@ -1,0 +1,136 @@
+-- What each line of a script says, and which line is the first bad one.
+use Rattle.std.specs.Prelude.{◌≡◌, ℕ, ◌+◌, ◌≤◌, List, [], ◌∷◌, length, codes, if◌then◌else◌, nat_lt, Option, Some, None}
+use Rattle.std.specs.Str.{bytes_eq}
+use Rattle.sqlx_script.specs.Words.{lines_of, ends_well, words_of}
+use Rattle.sqlx_script.specs.Numbers.{◌>>=◌, number_in, millis, nanos, name_number, key, opens, value, limit_nanos, any, exactly}
+use Rattle.sqlx_script.specs.Letters.{sign, statement, poll_answers, give_answers, switches}
+use Rattle.sqlx_script.specs.Rows.{row, ended, words0, words1, words2, words3, words4, words5}
+use Rattle.sqlx_script.specs.Built.{is_built}
+use Rattle.sqlx_script.specs.declared.pool_line.PoolLine.{PoolLine}
+use Rattle.sqlx_script.specs.declared.step.Event.{Event}
+use Rattle.sqlx_script.specs.declared.step.Step.{Step}
+use Rattle.sqlx_script.specs.declared.step.Step.TheVariants.{Ask, Poll, Cancel, Try, Give, End, Detach, Leak, Reap, Min, CloseState, Begin, Custom, Put, Del, Get, Commit, Rollback, GiveUp, Close}
+
+-- ---- lines
+
+-- what follows the moment, for each name
+unfoldable pub step_of : List ℕ → List (List ℕ) → Option Step
+step_of name fields =
+    if bytes_eq name (codes "ask") then words1 name_number Ask fields else
+    if bytes_eq name (codes "poll") then words3 name_number name_number poll_answers Poll fields else
+    if bytes_eq name (codes "cancel") then words2 name_number name_number Cancel fields else
+    if bytes_eq name (codes "try") then words1 name_number Try fields else
+    if bytes_eq name (codes "give") then words4 name_number name_number give_answers opens Give fields else
+    if bytes_eq name (codes "end") then words3 name_number name_number opens End fields else
+    if bytes_eq name (codes "detach") then words3 name_number name_number opens Detach fields else
+    if bytes_eq name (codes "leak") then words3 name_number name_number opens Leak fields else
+    if bytes_eq name (codes "reap") then words1 opens Reap fields else
+    if bytes_eq name (codes "min") then words1 opens Min fields else
+    if bytes_eq name (codes "closed") then words0 CloseState fields else
+    if bytes_eq name (codes "begin") then words3 name_number name_number statement Begin fields else
+    if bytes_eq name (codes "custom") then words4 name_number name_number sign statement Custom fields else
+    if bytes_eq name (codes "put") then words5 name_number name_number key value statement Put fields else
+    if bytes_eq name (codes "del") then words4 name_number name_number key statement Del fields else
+    if bytes_eq name (codes "get") then words4 name_number name_number key statement Get fields else
+    if bytes_eq name (codes "commit") then words3 name_number name_number statement Commit fields else
+    if bytes_eq name (codes "rollback") then words3 name_number name_number statement Rollback fields else
+    if bytes_eq name (codes "giveup") then words2 name_number name_number GiveUp fields else
+    if bytes_eq name (codes "close") then words0 Close fields else
+    None
+
+-- a line after the first: a name, a moment, and the fields of the name
+unfoldable pub event_words : List (List ℕ) → Option Event
+event_words = row any (λ name. row millis (λ ms fields. step_of name fields >>= λ step. Some (record { moment = record { 0 = nanos ms }; step = step })))
+
+-- the first line, `pool max min timeout lifetime idle switches`
+unfoldable pub pool_words : List (List ℕ) → Option PoolLine
+pool_words =
+    row (exactly (codes "pool")) (λ _.
+    row (number_in 1 65536) (λ max.
+    row opens (λ min.
+    row millis (λ timeout.
+    row limit_nanos (λ lifetime.
+    row limit_nanos (λ idle.
+    row switches (λ on.
+    ended (record {
+      max = max;
+      min = min;
+      timeout = nanos timeout;
+      lifetime = lifetime;
+      idle = idle;
+      test_before_acquire = on.test_before_acquire;
+      after_connect = on.after_connect;
+      before_acquire = on.before_acquire;
+      after_release = on.after_release;
+    }))))))))
+
+-- what a line says by its words, if it ends with its newline
+abbrev pub whole : {R : Type 0} → (List (List ℕ) → Option R) → List ℕ → Option R
+whole f line = if ends_well line then f (words_of line) else None
+
+-- the event of a line, if it is one that is played
+unfoldable pub event_of : List ℕ → Option Event
+event_of line = whole event_words line >>= λ event. if is_built event.step then Some event else None
+
+-- what a first line says
+unfoldable pub pool_of : List ℕ → Option PoolLine
+pool_of line = whole pool_words line
+
+-- ---- scripts
+
+-- Events, and the number of the first bad line after them, if there is one.
+pub record Reading : Type 0 where
+  pub events : List Event
+  pub bad : Option ℕ
+
+-- the reading with an event in front
+abbrev pub with_event : Event → Reading → Reading
+with_event event reading = record { events = event ∷ reading.events; bad = reading.bad }
+
+-- Line n, which follows a line of the moment last: it is no event, its moment is below last, or rest says how it goes on.
+abbrev pub reading_at : ℕ → ℕ → (ℕ → Reading) → Option Event → Reading
+reading_at n last rest None = record { events = []; bad = Some n }
+reading_at n last rest (Some event) = if nat_lt event.moment.0 last then record { events = []; bad = Some n } else with_event event (rest event.moment.0)
+
+-- what these lines say, of which the first has number n and follows a line of the moment last
+unfoldable pub reading_from : ℕ → ℕ → List (List ℕ) → Reading
+reading_from n last [] = record { events = []; bad = None }
+reading_from n last (line ∷ lines) = reading_at n last (λ now. reading_from (n + 1) now lines) (event_of line)
+
+-- what the first line says, and what the lines after it say
+pub record Script : Type 0 where
+  pub pool : PoolLine
+  pub lines : Reading
+
+-- the script of a first line and of lines after it
+abbrev pub script_after : Option PoolLine → List (List ℕ) → Option Script
+script_after None lines = None
+script_after (Some pool) lines = Some (record { pool = pool; lines = reading_from 2 0 lines })
+
+-- what lines say; None where the first is bad, or there is none
+unfoldable pub script_lines : List (List ℕ) → Option Script
+script_lines [] = None
+script_lines (line ∷ lines) = script_after (pool_of line) lines
+
+-- what bytes say as a script
+abbrev pub script_of : List ℕ → Option Script
+script_of bytes = script_lines (lines_of bytes)
+
+-- the number of the first bad line
+abbrev pub bad_line : Option Script → Option ℕ
+bad_line None = Some 1
+bad_line (Some script) = script.lines.bad
+
+-- the number of the first bad line, which is 1 for no bytes; None where no line is bad
+abbrev pub first_bad : List ℕ → Option ℕ
+first_bad bytes = bad_line (script_of bytes)
+
+-- how many bytes a script may have
+abbrev pub limit : ℕ
+limit = 1048576
+
+-- The bytes are this script, and no line is bad.
+pub record IsScript (bytes : List ℕ) (script : Script) : Type 0 where
+  pub short : length bytes ≤ limit
+  pub reads : script_of bytes ≡ Some script
+  pub good : script.lines.bad ≡ None

@@ -1,0 +1,47 @@
+-- Words in a row, each of its kind, and no more.
+use Rattle.std.specs.Prelude.{◌≡◌, ℕ, List, [], ◌∷◌, Option, Some, None}
+use Rattle.sqlx_script.specs.Numbers.{◌>>=◌}
+
+-- what was made of the words, where none is left
+abbrev pub ended : {R : Type 0} → R → List (List ℕ) → Option R
+ended made [] = Some made
+ended made (w ∷ ws) = None
+
+-- a word of this kind, and then what f says of the others
+abbrev pub row : {A R : Type 0} → (List ℕ → Option A) → (A → List (List ℕ) → Option R) → List (List ℕ) → Option R
+row p f [] = None
+row p f (w ∷ ws) = p w >>= λ x. f x ws
+
+-- no word
+unfoldable pub words0 : {R : Type 0} → R → List (List ℕ) → Option R
+words0 made = ended made
+
+-- one word
+unfoldable pub words1 : {A R : Type 0} → (List ℕ → Option A) → (A → R) → List (List ℕ) → Option R
+words1 p make = row p (λ x. ended (make x))
+
+-- two words
+unfoldable pub words2 : {A B R : Type 0} → (List ℕ → Option A) → (List ℕ → Option B) → (A → B → R) → List (List ℕ) → Option R
+words2 p q make = row p (λ x. row q (λ y. ended (make x y)))
+
+-- three words
+unfoldable pub words3 : {A B C R : Type 0} → (List ℕ → Option A) → (List ℕ → Option B) → (List ℕ → Option C) → (A → B → C → R) → List (List ℕ) → Option R
+words3 p q r make = row p (λ x. row q (λ y. row r (λ z. ended (make x y z))))
+
+-- four words
+unfoldable pub words4 : {A B C D R : Type 0} → (List ℕ → Option A) → (List ℕ → Option B) → (List ℕ → Option C) → (List ℕ → Option D) → (A → B → C → D → R) → List (List ℕ) → Option R
+words4 p q r s make = row p (λ x. row q (λ y. row r (λ z. row s (λ u. ended (make x y z u)))))
+
+-- five words
+unfoldable pub words5 : {A B C D E R : Type 0} → (List ℕ → Option A) → (List ℕ → Option B) → (List ℕ → Option C) → (List ℕ → Option D) → (List ℕ → Option E) → (A → B → C → D → E → R) → List (List ℕ) → Option R
+words5 p q r s t make = row p (λ x. row q (λ y. row r (λ z. row s (λ u. row t (λ v. ended (make x y z u v))))))
+
+-- a word of this kind from the front, and the others
+unfoldable pub word : {A : Type 0} → (List ℕ → Option A) → List (List ℕ) → Option (A × List (List ℕ))
+word p [] = None
+word p (w ∷ ws) = p w >>= λ x. Some (x, ws)
+
+-- what a call that reads a word of this kind gives and leaves
+abbrev pub Reads : {A : Type 0} → (List ℕ → Option A) → Option A → List (List ℕ) → List (List ℕ) → Type 0
+Reads p (Some x) old new = word p old ≡ Some (x, new)
+Reads p None old new = word p old ≡ None

@@ -1,0 +1,135 @@
+//! What a line of a script says.
+ghost use Rattle.std.specs.Prelude.{◌≡◌, ◌≤◌, IfSome, true};
+ghost use Rattle.sqlx_script.specs.Built.{is_built};
+ghost use Rattle.std.specs.Str.{bytes_eq};
+ghost use Rattle.sqlx_script.specs.Grammar.{step_of, event_of, pool_of, event_words, pool_words, whole};
+
+use crate::built::is_built;
+use crate::fields;
+use crate::numbers::NANOS;
+use crate::pool_line::PoolLine;
+use crate::step::{Event, Step};
+use crate::words::Words;
+use sqlx_text::Moment;
+
+// Whether a word is this text.
+fn is(word: &[u8], text: &[u8]) -> bool
+    ensures { result ≡ bytes_eq word.now text.now }
+{
+    word == text
+}
+
+// What follows the moment.
+#[tactic(auto, unfolding(crate::specs::Grammar::step_of))]
+fn step(name: &[u8], words: &mut Words<'_>) -> Option<Step>
+    ensures { result ≡ step_of name.now words.old }
+{
+    if is(name, b"ask") {
+        fields::ask(words)
+    } else if is(name, b"poll") {
+        fields::poll(words)
+    } else if is(name, b"cancel") {
+        fields::cancel(words)
+    } else if is(name, b"try") {
+        fields::try_idle(words)
+    } else if is(name, b"give") {
+        fields::give(words)
+    } else if is(name, b"end") {
+        fields::end(words)
+    } else if is(name, b"detach") {
+        fields::detach(words)
+    } else if is(name, b"leak") {
+        fields::leak(words)
+    } else if is(name, b"reap") {
+        fields::reap(words)
+    } else if is(name, b"min") {
+        fields::min(words)
+    } else if is(name, b"closed") {
+        fields::close_state(words)
+    } else if is(name, b"begin") {
+        fields::begin(words)
+    } else if is(name, b"custom") {
+        fields::custom(words)
+    } else if is(name, b"put") {
+        fields::put(words)
+    } else if is(name, b"del") {
+        fields::del(words)
+    } else if is(name, b"get") {
+        fields::get(words)
+    } else if is(name, b"commit") {
+        fields::commit(words)
+    } else if is(name, b"rollback") {
+        fields::rollback(words)
+    } else if is(name, b"giveup") {
+        fields::give_up(words)
+    } else if is(name, b"close") {
+        fields::close(words)
+    } else {
+        None
+    }
+}
+
+// The event of a line, played or not.
+#[tactic(auto, using(crate::proofs::Rows::reads), unfolding(crate::specs::Grammar::event_words))]
+fn whole_event(line: &[u8]) -> Option<Event>
+    ensures { result ≡ whole event_words line.now }
+{
+    let mut words = Words::of_line(line)?;
+    let name = words.next()?;
+    let now = words.millis()?;
+    let step = step(name, &mut words)?;
+    Some(Event {
+        moment: Moment(now * NANOS),
+        step,
+    })
+}
+
+/// What a line after the first says, if it is an event that is played.
+#[tactic(auto, unfolding(crate::specs::Grammar::event_of))]
+pub fn read_event(line: &[u8]) -> Option<Event>
+    ensures says { result ≡ event_of line.now }
+    ensures built { IfSome result (λ event. is_built event.step ≡ true) }
+{
+    let event = whole_event(line)?;
+    if is_built(&event.step) {
+        Some(event)
+    } else {
+        None
+    }
+}
+
+// What a first line says, played or not.
+#[tactic(auto, using(crate::proofs::Rows::reads), unfolding(crate::specs::Grammar::pool_words))]
+fn whole_pool_line(line: &[u8]) -> Option<PoolLine>
+    ensures says { result ≡ whole pool_words line.now }
+    ensures some { IfSome result (λ pool. 1 ≤ pool.max) }
+{
+    let mut words = Words::of_line(line)?;
+    words.exactly(b"pool")?;
+    let max = words.number(1, 65_536)?;
+    let min = words.opens()?;
+    let timeout = words.millis()?;
+    let lifetime = words.limit_nanos()?;
+    let idle = words.limit_nanos()?;
+    let on = words.switches()?;
+    words.finish(PoolLine {
+        max: max as u32,
+        min,
+        timeout: timeout * NANOS,
+        lifetime,
+        idle,
+        test_before_acquire: on.test_before_acquire,
+        after_connect: on.after_connect,
+        before_acquire: on.before_acquire,
+        after_release: on.after_release,
+    })
+}
+
+/// What a first line says.
+#[tactic(auto, unfolding(crate::specs::Grammar::pool_of))]
+pub fn read_pool_line(line: &[u8]) -> Option<PoolLine>
+    ensures says { result ≡ pool_of line.now }
+    ensures some { IfSome result (λ pool. 1 ≤ pool.max) }
+{
+    whole_pool_line(line)
+}
