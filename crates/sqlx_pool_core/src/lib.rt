@@ -1,2 +1,29 @@
-//! Not written yet.
+//! The connection pool as a pure state machine.
+//!
+//! [`PoolCore`] decides who gets which connection and when. It makes no connection, waits for nobody and
+//! reads no clock: each call is one step, given the moment at which it happens. What the steps did is told
+//! by a list of [`Mark`]s, and every rule of the pool is a definition over such a list (`specs/`).
 #![tactic(auto)]
+
+mod filled;
+pub mod laws;
+mod lists;
+mod mark;
+mod options;
+mod outside;
+mod pool_core;
+mod probe;
+mod steps;
+mod ticket;
+mod turn;
+
+pub use mark::Mark;
+pub use options::PoolOptions;
+pub use outside::{Outside, PoolConnectionMetadata};
+pub use pool_core::PoolCore;
+pub use steps::{
+    AfterConnect, AfterTest, CloseState, Given, Idle, Lent, Openings, Polled, Start, Tried, Verdict,
+};
+
+#[cfg(test)]
+mod tests;

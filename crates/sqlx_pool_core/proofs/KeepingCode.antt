@@ -1,0 +1,179 @@
+-- What holds of every core's value holds after a reap, after the minimum and after a close.
+use Rattle.std.proofs.Common.{◌≡◌, ℕ, suc, ◌+◌, ◌-◌, ◌<◌, ◌≤◌, List, [], ◌∷◌, ◌++◌, length, refl, ap, sym, ◌∙◌, arith, find, get_or, slice_index_or, Bool, true, false, not, cond, ltb, count_by, Option, Some, None, IfSome, OnSome, IsSome, inl, inr, length-append}
+use Rattle.std.specs.List.{position_or_len, remove}
+use Rattle.std.proofs.lemmas.Bool.Decides.{eqb_tells}
+use Rattle.sqlx_pool_core.specs.declared.steps.Idle.{Idle}
+use Rattle.sqlx_pool_core.specs.Core.{Core}
+use Rattle.sqlx_pool_core.specs.Sound.{IsSound, rests}
+use Rattle.sqlx_pool_core.specs.Edits.{without_idle, is_another_idle}
+use Rattle.sqlx_pool_core.specs.KeepingSteps.{is_reaped_at, without_first, reaped}
+use Rattle.sqlx_pool_core.proofs.ListFacts.{found_counts, filter_none, length-filter_not, count_by-cons, same_number}
+use Rattle.sqlx_pool_core.proofs.Counting.{one, count-filter, count-push}
+use Rattle.sqlx_pool_core.proofs.Soundness.{one-le}
+
+-- ---- the first that passes a test
+
+module _ {X : Type 0} (p : X → Bool) where
+  pub first-removed : (xs : List X) → remove xs (position_or_len p xs) ≡ without_first p xs
+  first-removed [] = refl
+  first-removed (x ∷ xs) = by (first-removed xs) (p x)
+    where
+      by : remove xs (position_or_len p xs) ≡ without_first p xs → (b : Bool) → remove (x ∷ xs) (cond (not b) (1 + position_or_len p xs) 0) ≡ cond b xs (x ∷ without_first p xs)
+      by rest true = refl
+      by rest false = let e : 1 + position_or_len p xs ≡ suc (position_or_len p xs) = omega arith in ap (remove (x ∷ xs)) e ∙ ap (λ l. x ∷ l) rest
+
+  pub first-found : (xs : List X) (d : X) → position_or_len p xs < length xs → find p xs ≡ Some (get_or xs (position_or_len p xs) d)
+  first-found [] d h = absurd (omega (arith, h))
+  first-found (x ∷ xs) d h = by (first-found xs d) (p x) h
+    where
+      by : (position_or_len p xs < length xs → find p xs ≡ Some (get_or xs (position_or_len p xs) d)) → (b : Bool) → cond (not b) (1 + position_or_len p xs) 0 < suc (length xs) → cond b (Some x) (find p xs) ≡ Some (get_or (x ∷ xs) (cond (not b) (1 + position_or_len p xs) 0) d)
+      by rest true k = refl
+      by rest false k =
+          let e : 1 + position_or_len p xs ≡ suc (position_or_len p xs) = omega arith in
+          rest (omega (arith, k)) ∙ sym (ap (λ n. Some (get_or (x ∷ xs) n d)) e)
+
+  pub none-found : (xs : List X) → length xs ≤ position_or_len p xs → (find p xs ≡ None) × (without_first p xs ≡ xs)
+  none-found [] h = (refl, refl)
+  none-found (x ∷ xs) h = by (none-found xs) (p x) h
+    where
+      by : (length xs ≤ position_or_len p xs → (find p xs ≡ None) × (without_first p xs ≡ xs)) → (b : Bool) → suc (length xs) ≤ cond (not b) (1 + position_or_len p xs) 0 → (cond b (Some x) (find p xs) ≡ None) × (cond b xs (x ∷ without_first p xs) ≡ x ∷ xs)
+      by further true k = absurd (omega (arith, k))
+      by further false k = let rest = further (omega (arith, k)) in (rest.0, ap (λ l. x ∷ l) rest.1)
+
+  place_at : (xs : List X) (o : Option ℕ) (b : Bool) → ltb (position_or_len p xs) (length xs) ≡ b → o ≡ cond b (Some (position_or_len p xs)) None
+      → (i : ℕ) → o ≡ Some i → (i ≡ position_or_len p xs) × (position_or_len p xs < length xs)
+  place_at xs o true e is i some = (let s : Some i ≡ Some (position_or_len p xs) = sym some ∙ is in cc, grind (arith, e))
+  place_at xs o false e is i some = absurd (let s : ◌≡◌ {A = Option ℕ} (Some i) None = sym some ∙ is in cc)
+
+  none_at : (xs : List X) (b : Bool) → ltb (position_or_len p xs) (length xs) ≡ b → None ≡ cond b (Some (position_or_len p xs)) None → length xs ≤ position_or_len p xs
+  none_at xs true e is = absurd cc
+  none_at xs false e is = grind (arith, e)
+
+  -- no element passes
+  pub none-taken : (xs : List X) → None ≡ cond (ltb (position_or_len p xs) (length xs)) (Some (position_or_len p xs)) None → (find p xs ≡ None) × (without_first p xs ≡ xs)
+  none-taken xs is = none-found xs (none_at xs (ltb (position_or_len p xs) (length xs)) refl is)
+
+  taken_some : (xs : List X) (i : ℕ) (o : Option X) (new : List X) → i ≡ position_or_len p xs → position_or_len p xs < length xs
+      → IfSome o (λ y. y ≡ slice_index_or xs i y) → OnSome o (new ≡ remove xs i) → IsSome o → (o ≡ find p xs) × (new ≡ without_first p xs)
+  taken_some xs i None new e h value items some = absurd cc
+  taken_some xs i (Some y) new e h value items some =
+      (ap Some (value ∙ ap (λ n. get_or xs n y) e) ∙ sym (first-found xs y h), items ∙ ap (remove xs) e ∙ first-removed xs)
+
+  -- what is taken from the first place at which the test passes
+  pub first-taken : (xs : List X) (i : ℕ) (o : Option X) (new : List X) → Some i ≡ cond (ltb (position_or_len p xs) (length xs)) (Some (position_or_len p xs)) None
+      → IfSome o (λ y. y ≡ slice_index_or xs i y) → OnSome o (new ≡ remove xs i) → (i < length xs → IsSome o) → (o ≡ find p xs) × (new ≡ without_first p xs)
+  first-taken xs i o new is value items some =
+      let at = place_at xs (Some i) (ltb (position_or_len p xs) (length xs)) refl is i refl in
+      taken_some xs i o new at.0 at.1 value items (some (let e = at.0 in let h = at.1 in omega (arith, e, h)))
+
+-- ---- reaped
+
+-- the first that passes, of connections that differ, is out alone
+pub first-out : {C : Type 0} (p : Idle C → Bool) (xs : List (Idle C)) (i : Idle C) → find p xs ≡ Some i → count_by (rests i.lent.id) xs ≤ 1 → without_first p xs ≡ without_idle i.lent.id xs
+first-out p [] i e h = absurd cc
+first-out {C} p (x ∷ xs) i e h = by (first-out p xs i) (p x) e
+  where
+    c : ℕ
+    c = i.lent.id
+
+    parts : count_by (rests c) (x ∷ xs) ≡ cond (rests c x) 1 0 + count_by (rests c) xs
+    parts = count_by-cons (rests c) x xs
+
+    not_here : (b : Bool) → cond {A = ℕ} b 1 0 ≡ 0 → b ≡ false
+    not_here true z = absurd (omega (arith, z))
+    not_here false z = refl
+
+    by : (find p xs ≡ Some i → count_by (rests c) xs ≤ 1 → without_first p xs ≡ without_idle c xs) → (b : Bool)
+        → cond b (Some x) (find p xs) ≡ Some i → cond b xs (x ∷ without_first p xs) ≡ cond (not (rests c x)) (x ∷ without_idle c xs) (without_idle c xs)
+    by rest true k =
+        let here : x ≡ i = cc in
+        let same : rests c x ≡ true = ap (rests c) here ∙ same_number c in
+        let one : cond {A = ℕ} (rests c x) 1 0 ≡ 1 = ap (λ (b : Bool). cond {A = ℕ} b 1 0) same in
+        let sum = parts in
+        rw same (sym (filter_none (rests c) xs (omega (arith, h, sum, one))))
+    by rest false k =
+        let counts = found_counts p (rests c) xs i k (same_number c) in
+        let sum = parts in
+        let other : rests c x ≡ false = not_here (rests c x) (omega (arith, h, sum, counts)) in
+        rw other (ap (λ l. x ∷ l) (rest k (omega (arith, h, sum))))
+
+pub sound-without : {C : Type 0} (core : Core C) (c m : ℕ) → IsSound core → IsSound (record core { idle = without_idle c core.idle; last = m })
+sound-without core c m s = record {
+  some = s.some;
+  few = s.few;
+  rising = s.rising;
+  within = let w = s.within in let l = length-filter_not (rests c) core.idle in omega (arith, w, l);
+  few_tickets = s.few_tickets;
+  numbers = s.numbers;
+  few_conns = s.few_conns;
+  once = λ d. let w = s.once d in let f = count-filter (rests d) (is_another_idle c) core.idle in omega (arith, w, f);
+  opened = λ d n. let w = s.opened d n in let f = count-filter (rests d) (is_another_idle c) core.idle in omega (arith, w, f);
+}
+
+-- the idle list from which one was taken
+pub reaping : {C : Type 0} (core : Core C) (i : Idle C) (idle : List (Idle C)) (m : ℕ) → IsSound core → Some i ≡ find (is_reaped_at core.options m) core.idle → idle ≡ without_first (is_reaped_at core.options m) core.idle
+    → IsSound (record core { idle = idle; last = m }) × (record core { idle = idle; last = m } ≡ reaped m (Some i) core)
+reaping core i idle m s is left =
+    let w = s.once i.lent.id in
+    let e = left ∙ first-out (is_reaped_at core.options m) core.idle i (sym is) (omega (arith, w)) in
+    (rw e (sound-without core i.lent.id m s), rw e refl)
+
+rest_none : {C : Type 0} (p : Idle C → Bool) (xs : List (Idle C)) → find p xs ≡ None → without_first p xs ≡ xs
+rest_none p [] e = refl
+rest_none {C} p (x ∷ xs) e = by (rest_none p xs) (p x) e
+  where
+    by : (find p xs ≡ None → without_first p xs ≡ xs) → (b : Bool) → cond b (Some x) (find p xs) ≡ None → cond b xs (x ∷ without_first p xs) ≡ x ∷ xs
+    by rest true k = absurd cc
+    by rest false k = ap (λ l. x ∷ l) (rest k)
+
+-- the idle list from which none was taken
+pub reaping-none : {C : Type 0} (core : Core C) (idle : List (Idle C)) (m : ℕ) → IsSound core → None ≡ find (is_reaped_at core.options m) core.idle → idle ≡ without_first (is_reaped_at core.options m) core.idle
+    → IsSound (record core { idle = idle }) × (record core { idle = idle } ≡ core)
+reaping-none core idle m s is left =
+    let e = left ∙ rest_none (is_reaped_at core.options m) core.idle (sym is) in
+    (rw e s, rw e refl)
+
+-- ---- the minimum
+
+pub sound-kept_new : {C : Type 0} (core : Core C) (i : Idle C) (idle : List (Idle C)) (m : ℕ) → IsSound core → 1 ≤ core.places → i.lent.id ≡ core.next_conn → idle ≡ core.idle ++ i ∷ []
+    → IsSound (record core { idle = idle; places = core.places - 1; next_conn = core.next_conn + 1; last = m })
+sound-kept_new core i idle m s placed new put =
+    let l : length idle ≡ length core.idle + 1 = ap length put ∙ length-append core.idle (i ∷ []) in
+    let count : (c : ℕ) → count_by (rests c) idle ≡ count_by (rests c) core.idle + one (rests c) i = λ c. ap (count_by (rests c)) put ∙ count-push (rests c) core.idle i in
+    record {
+      some = s.some;
+      few = s.few;
+      rising = s.rising;
+      within = let w = s.within in omega (arith, w, l, placed);
+      few_tickets = s.few_tickets;
+      numbers = omega arith;
+      few_conns = let w = s.few_conns in omega (arith, w, placed);
+      once = λ c. let w = s.once c in let p = count c in
+          elim (eqb_tells c i.lent.id) [
+            | inl is ↦ let z = s.opened c (omega (arith, is.1, new)) in let o = one-le (rests c) i in omega (arith, z, p, o)
+            | inr is ↦ let o : one (rests c) i ≡ 0 = ap (λ (b : Bool). cond b 1 0) is.0 in omega (arith, w, p, o)
+          ];
+      opened = λ c n. let z = s.opened c (omega (arith, n)) in let p = count c in
+          elim (eqb_tells c i.lent.id) [
+            | inl is ↦ absurd (omega (arith, is.1, new, n))
+            | inr is ↦ let o : one (rests c) i ≡ 0 = ap (λ (b : Bool). cond b 1 0) is.0 in omega (arith, z, p, o)
+          ];
+    }
+
+-- ---- closed
+
+pub sound-shut : {C : Type 0} (core : Core C) (idle : List (Idle C)) → IsSound core → idle ≡ [] → IsSound (record core { shut = true; idle = idle })
+sound-shut core idle s none =
+    let l : length idle ≡ 0 = ap length none in
+    let count : (c : ℕ) → count_by (rests c) idle ≡ 0 = λ c. ap (count_by (rests c)) none in
+    record {
+      some = s.some;
+      few = s.few;
+      rising = s.rising;
+      within = let w = s.within in omega (arith, w, l);
+      few_tickets = s.few_tickets;
+      numbers = s.numbers;
+      few_conns = s.few_conns;
+      once = λ c. let w = s.once c in let k = count c in omega (arith, w, k);
+      opened = λ c n. let w = s.opened c n in let k = count c in omega (arith, w, k);
+    }

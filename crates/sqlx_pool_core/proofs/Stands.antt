@@ -1,0 +1,147 @@
+-- A core's value goes on standing for the marks, one more mark at a time.
+use Rattle.std.proofs.Common.{◌≡◌, ℕ, ◌≤◌, true, false, ◌||◌, List, [], ◌∷◌, ◌++◌, map, filter, All, refl, sym, ap, ◌∙◌, append-nil, map-id, arith}
+use Rattle.std.proofs.lemmas.List.Elements.{All-push, All-weaker}
+use Rattle.sqlx_pool_core.specs.declared.mark.Mark.{Mark}
+use Rattle.sqlx_pool_core.specs.declared.mark.Mark.TheVariants.{Asked, Left, Taken, Reaped, Opened, Lent, Kept, Closed, Detached, Leaked, Ended, Shut}
+use Rattle.sqlx_pool_core.specs.declared.options.PoolOptions.{PoolOptions}
+use Rattle.sqlx_pool_core.specs.declared.ticket.Ticket.{Ticket}
+use Rattle.sqlx_pool_core.specs.declared.ticket.Held.{Held}
+use Rattle.sqlx_pool_core.specs.declared.ticket.Phase.{Phase}
+use Rattle.sqlx_pool_core.specs.declared.ticket.Phase.TheVariants as phase
+use Rattle.sqlx_pool_core.specs.declared.steps.Idle.{Idle}
+use Rattle.sqlx_pool_core.specs.Standing.{next_after}
+use Rattle.sqlx_pool_core.specs.Marks.{lends, ends_loan, keeps, ends_rest, ends_conn, is_shut, asked_number, opened_number}
+use Rattle.sqlx_pool_core.specs.View.{stands_after, tickets_after, leaked_after}
+use Rattle.sqlx_pool_core.specs.Core.{Core, asking, loan, resting}
+use Rattle.sqlx_pool_core.specs.StandsFor.{StandsFor, IsNamedBelow, IsBorn, IsTestedBorn}
+use Rattle.sqlx_pool_core.proofs.ListFacts.{filter_all}
+use Rattle.sqlx_pool_core.proofs.Pushed.{loans_of-push, idle_of-push, tickets_of-push, leaked_of-push, shut-push, next_ticket-push, next_conn-push, IsBorn-push}
+
+-- ---- what the core keeps of births
+
+abbrev pub IsHeldBorn : List Mark → Held → Type 0
+IsHeldBorn marks h = IsBorn marks h.conn h.created.0
+
+abbrev pub IsIdleBorn : {C : Type 0} → List Mark → Idle C → Type 0
+IsIdleBorn marks i = IsBorn marks i.lent.id i.lent.created.0
+
+abbrev pub IsTicketBorn : List Mark → Ticket → Type 0
+IsTicketBorn marks t = IsTestedBorn marks t.phase
+
+-- ---- one mark
+
+-- The core after this mark, from the core before it, which stands for the marks before it.
+pub record After {C : Type 0} (marks : List Mark) (old : Core C) (n : Mark) (new : Core C) : Type 0 where
+  pub tickets : map asking new.tickets ≡ tickets_after (map asking old.tickets) n
+  pub loans : map loan new.held ≡ stands_after lends ends_loan (map loan old.held) n
+  pub idle : map resting new.idle ≡ stands_after keeps ends_rest (map resting old.idle) n
+  pub leaked : new.leaked ≡ leaked_after old.leaked n
+  pub shut : new.shut ≡ (old.shut || is_shut n)
+  pub ticket_number : new.next_ticket ≡ next_after (asked_number n) old.next_ticket
+  pub conn_number : new.next_conn ≡ next_after (opened_number n) old.next_conn
+  pub more_tickets : old.next_ticket ≤ new.next_ticket
+  pub more_conns : old.next_conn ≤ new.next_conn
+  pub named : IsNamedBelow new.next_ticket new.next_conn n
+  pub held_born : All (IsHeldBorn (marks ++ n ∷ [])) new.held
+  pub idle_born : All (IsIdleBorn (marks ++ n ∷ [])) new.idle
+  pub tested_born : All (IsTicketBorn (marks ++ n ∷ [])) new.tickets
+
+pub IsNamedBelow-weaker : (t c u d : ℕ) → t ≤ u → c ≤ d → (m : Mark) → IsNamedBelow t c m → IsNamedBelow u d m
+IsNamedBelow-weaker t c u d tu cd (Asked x k l) h = omega arith
+IsNamedBelow-weaker t c u d tu cd (Left x) h = omega arith
+IsNamedBelow-weaker t c u d tu cd (Taken x) h = omega arith
+IsNamedBelow-weaker t c u d tu cd (Reaped x) h = omega arith
+IsNamedBelow-weaker t c u d tu cd (Opened x m) h = omega arith
+IsNamedBelow-weaker t c u d tu cd (Lent k x) h = omega arith
+IsNamedBelow-weaker t c u d tu cd (Kept x m) h = omega arith
+IsNamedBelow-weaker t c u d tu cd (Closed x) h = omega arith
+IsNamedBelow-weaker t c u d tu cd (Detached x) h = omega arith
+IsNamedBelow-weaker t c u d tu cd (Leaked x) h = omega arith
+IsNamedBelow-weaker t c u d tu cd (Ended x) h = omega arith
+IsNamedBelow-weaker t c u d tu cd Shut h = tt
+
+pub stands-push : {C : Type 0} (old new : Core C) (marks : List Mark) (n : Mark) → StandsFor old marks → After marks old n new → StandsFor new (marks ++ n ∷ [])
+stands-push old new marks n s a = record {
+  tickets = a.tickets ∙ ap (λ l. tickets_after l n) s.tickets ∙ sym (tickets_of-push marks n);
+  loans = a.loans ∙ ap (λ l. stands_after lends ends_loan l n) s.loans ∙ sym (loans_of-push marks n);
+  idle = a.idle ∙ ap (λ l. stands_after keeps ends_rest l n) s.idle ∙ sym (idle_of-push marks n);
+  leaked = a.leaked ∙ ap (λ l. leaked_after l n) s.leaked ∙ sym (leaked_of-push marks n);
+  shut = a.shut ∙ ap (λ b. b || is_shut n) s.shut ∙ sym (shut-push marks n);
+  ticket_number = a.ticket_number ∙ ap (next_after (asked_number n)) s.ticket_number ∙ sym (next_ticket-push marks n);
+  conn_number = a.conn_number ∙ ap (next_after (opened_number n)) s.conn_number ∙ sym (next_conn-push marks n);
+  named = All-push (IsNamedBelow new.next_ticket new.next_conn) marks n
+      (All-weaker (IsNamedBelow old.next_ticket old.next_conn) (IsNamedBelow new.next_ticket new.next_conn)
+      (IsNamedBelow-weaker old.next_ticket old.next_conn new.next_ticket new.next_conn a.more_tickets a.more_conns) marks s.named)
+      a.named;
+  held_born = a.held_born;
+  idle_born = a.idle_born;
+  tested_born = a.tested_born;
+}
+
+-- ---- what a mark leaves as it is
+
+-- nothing is ended
+pub kept : {X : Type 0} (xs : List X) → xs ≡ filter (λ x. true) xs
+kept xs = sym (filter_all (λ x. true) xs (λ x. refl))
+
+-- nothing is ended and nothing begun
+pub same : {X : Type 0} (xs : List X) → xs ≡ filter (λ x. true) xs ++ []
+same xs = kept xs ∙ sym (append-nil (filter (λ x. true) xs))
+
+pub kept_tickets : {X : Type 0} (xs : List X) → xs ≡ map (λ x. x) (filter (λ x. true) xs)
+kept_tickets xs = kept xs ∙ sym (map-id (filter (λ x. true) xs))
+
+pub same_tickets : {X : Type 0} (xs : List X) → xs ≡ map (λ x. x) (filter (λ x. true) xs) ++ []
+same_tickets xs = kept_tickets xs ∙ sym (append-nil (map (λ x. x) (filter (λ x. true) xs)))
+
+tested_push : (marks : List Mark) (n : Mark) → ((c : ℕ) → ends_conn c n ≡ false) → (p : Phase) → IsTestedBorn marks p → IsTestedBorn (marks ++ n ∷ []) p
+tested_push marks n spares (phase.Testing c created) h = IsBorn-push marks n c created.0 (spares c) h
+tested_push marks n spares phase.Waiting h = tt
+tested_push marks n spares phase.Connecting h = tt
+tested_push marks n spares (phase.Backoff until) h = tt
+
+module _ (marks : List Mark) (n : Mark) (spares : (c : ℕ) → ends_conn c n ≡ false) where
+  pub held_spared : (held : List Held) → All (IsHeldBorn marks) held → All (IsHeldBorn (marks ++ n ∷ [])) held
+  held_spared held h = All-weaker (IsHeldBorn marks) (IsHeldBorn (marks ++ n ∷ [])) (λ x b. IsBorn-push marks n x.conn x.created.0 (spares x.conn) b) held h
+
+  pub idle_spared : {C : Type 0} (idle : List (Idle C)) → All (IsIdleBorn marks) idle → All (IsIdleBorn (marks ++ n ∷ [])) idle
+  idle_spared idle h = All-weaker (IsIdleBorn marks) (IsIdleBorn (marks ++ n ∷ [])) (λ x b. IsBorn-push marks n x.lent.id x.lent.created.0 (spares x.lent.id) b) idle h
+
+  pub tested_spared : (tickets : List Ticket) → All (IsTicketBorn marks) tickets → All (IsTicketBorn (marks ++ n ∷ [])) tickets
+  tested_spared tickets h = All-weaker (IsTicketBorn marks) (IsTicketBorn (marks ++ n ∷ [])) (λ x b. tested_push marks n spares x.phase b) tickets h
+
+-- ---- what makes no mark
+
+-- other options, another moment, other places
+pub stands-beside : {C : Type 0} (core : Core C) (marks : List Mark) (options : PoolOptions) (places last : ℕ)
+    → StandsFor core marks → StandsFor (record core { options = options; places = places; last = last }) marks
+stands-beside core marks options places last s = record {
+  tickets = s.tickets;
+  loans = s.loans;
+  idle = s.idle;
+  leaked = s.leaked;
+  shut = s.shut;
+  ticket_number = s.ticket_number;
+  conn_number = s.conn_number;
+  named = s.named;
+  held_born = s.held_born;
+  idle_born = s.idle_born;
+  tested_born = s.tested_born;
+}
+
+-- tickets that say the same
+pub stands-alike : {C : Type 0} (core : Core C) (marks : List Mark) (tickets : List Ticket) → map asking tickets ≡ map asking core.tickets
+    → All (IsTicketBorn marks) tickets → StandsFor core marks → StandsFor (record core { tickets = tickets }) marks
+stands-alike core marks tickets alike born s = record {
+  tickets = alike ∙ s.tickets;
+  loans = s.loans;
+  idle = s.idle;
+  leaked = s.leaked;
+  shut = s.shut;
+  ticket_number = s.ticket_number;
+  conn_number = s.conn_number;
+  named = s.named;
+  held_born = s.held_born;
+  idle_born = s.idle_born;
+  tested_born = born;
+}

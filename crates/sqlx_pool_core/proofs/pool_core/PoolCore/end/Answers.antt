@@ -1,0 +1,12 @@
+use Rattle.std.proofs.Common.{rules, ◌≡◌}
+use Rattle.sqlx_pool_core.proofs.Answered.{end-answered}
+use Rattle.sqlx_pool_core.proofs.Moving.{end-moves}
+use Rattle.sqlx_pool_core.proofs.pool_core.PoolCore.end.Goals as goal
+
+pub returns-clause-makes : goal.returns-clause-makes
+returns-clause-makes g c = λ marks s.
+    end-answered c.args.self.now c.release.new.self marks c.release.ensures.sound s c.args.client c.args.id c.release.result c.release.ensures.answer c.release.ensures.becomes
+
+pub returns-clause-moves : goal.returns-clause-moves
+returns-clause-moves g c =
+    end-moves c.args.self.now c.release.new.self c.release.ensures.sound c.args.client c.args.id c.release.result c.release.ensures.answer c.release.ensures.becomes

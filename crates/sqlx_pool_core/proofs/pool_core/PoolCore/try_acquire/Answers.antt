@@ -1,0 +1,12 @@
+use Rattle.std.proofs.Common.{rules, ◌≡◌}
+use Rattle.sqlx_pool_core.proofs.Answered.{try-answered}
+use Rattle.sqlx_pool_core.proofs.Moving.{try-moves}
+use Rattle.sqlx_pool_core.proofs.pool_core.PoolCore.try_acquire.Goals as goal
+
+pub returns-clause-makes : goal.returns-clause-makes
+returns-clause-makes g c = λ marks s.
+    try-answered c.args.self.now c.lend_first.new.self marks c.moment-moment.ensures.sound s c.args.client c.moment-moment.result.0 c.lend_first.result c.lend_first.ensures.answer c.lend_first.ensures.becomes
+
+pub returns-clause-moves : goal.returns-clause-moves
+returns-clause-moves g c =
+    try-moves c.args.self.now c.lend_first.new.self c.moment-moment.ensures.sound c.args.client c.moment-moment.result.0 c.lend_first.result c.lend_first.ensures.answer c.lend_first.ensures.becomes

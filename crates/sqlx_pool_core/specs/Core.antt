@@ -1,0 +1,93 @@
+-- The value that contracts see of a pool's core.
+use Rattle.std.specs.Prelude.{ℕ, ◌+◌, Bool, true, false, not, ◌&&◌, ◌==◌, List, Option, find, count_by, length}
+use Rattle.sqlx_pool_core.specs.declared.options.PoolOptions.{PoolOptions}
+use Rattle.sqlx_pool_core.specs.declared.steps.Idle.{Idle}
+use Rattle.sqlx_pool_core.specs.declared.ticket.Ticket.{Ticket}
+use Rattle.sqlx_pool_core.specs.declared.ticket.Held.{Held}
+use Rattle.sqlx_pool_core.specs.declared.ticket.Phase.{Phase}
+use Rattle.sqlx_pool_core.specs.declared.ticket.Phase.TheVariants.{Waiting}
+use Rattle.sqlx_pool_core.specs.Marks.{Asking, Loan, Resting}
+use Rattle.sqlx_pool_core.specs.Counts.{free_of}
+
+-- Tickets in the order of asking, owned connections, idle ones in their order, and the numbers that come next.
+pub record Core (C : Type 0) : Type 0 where
+  pub options : PoolOptions
+  pub tickets : List Ticket
+  pub held : List Held
+  pub idle : List (Idle C)
+  pub leaked : ℕ
+  pub shut : Bool
+  pub places : ℕ
+  pub next_ticket : ℕ
+  pub next_conn : ℕ
+  pub last : ℕ
+
+-- ---- what a ticket, a loan and an idle connection say of themselves
+
+abbrev pub is_out : Phase → Bool
+is_out Waiting = false
+is_out phase = true
+
+abbrev pub asking : Ticket → Asking
+asking t = record { ticket = t.number; client = t.client; deadline = t.deadline; left = is_out t.phase }
+
+abbrev pub loan : Held → Loan
+loan h = record { client = h.client; conn = h.conn }
+
+abbrev pub resting : {C : Type 0} → Idle C → Resting
+resting i = record { conn = i.lent.id; since = i.since.0 }
+
+-- ---- counts
+
+abbrev pub has_gone : Ticket → Bool
+has_gone t = is_out t.phase
+
+-- how many tickets have left the line
+abbrev pub gone : List Ticket → ℕ
+gone tickets = count_by has_gone tickets
+
+abbrev pub waits : Ticket → Bool
+waits t = not (is_out t.phase)
+
+-- how many tickets wait
+abbrev pub waiting : List Ticket → ℕ
+waiting tickets = count_by waits tickets
+
+-- the free permits
+abbrev pub free : {C : Type 0} → Core C → ℕ
+free core = free_of core.options.max_connections (length core.held) core.leaked (gone core.tickets) core.places
+
+-- the connections that there are or may be
+abbrev pub size : {C : Type 0} → Core C → ℕ
+size core = length core.idle + length core.held + core.leaked + gone core.tickets + core.places
+
+-- ---- finding
+
+abbrev pub is_of : ℕ → ℕ → Ticket → Bool
+is_of k t x = (t == x.number) && (k == x.client)
+
+-- this client's ticket of this number
+abbrev pub ticket_of : ℕ → ℕ → List Ticket → Option Ticket
+ticket_of k t tickets = find (is_of k t) tickets
+
+abbrev pub is_held_by : ℕ → ℕ → Held → Bool
+is_held_by k c h = (c == h.conn) && (k == h.client)
+
+-- this client's loan of this connection
+abbrev pub loan_of : ℕ → ℕ → List Held → Option Held
+loan_of k c held = find (is_held_by k c) held
+
+-- the value of these fields
+abbrev pub core_of : {C : Type 0} → PoolOptions → List Ticket → List Held → List (Idle C) → ℕ → Bool → ℕ → ℕ → ℕ → ℕ → Core C
+core_of options tickets held idle leaked shut places next_ticket next_conn last = record {
+  options = options;
+  tickets = tickets;
+  held = held;
+  idle = idle;
+  leaked = leaked;
+  shut = shut;
+  places = places;
+  next_ticket = next_ticket;
+  next_conn = next_conn;
+  last = last;
+}

@@ -1,0 +1,61 @@
+-- The steps that end a loan: what each answers, the marks that it makes, and what it makes of the core.
+use Rattle.std.specs.Prelude.{ℕ, ◌+◌, Bool, true, false, not, ◌&&◌, ◌||◌, List, [], ◌∷◌, Option, Some, None, if◌then◌else◌}
+use Rattle.sqlx_pool_core.specs.declared.mark.Mark.{Mark}
+use Rattle.sqlx_pool_core.specs.declared.mark.Mark.TheVariants.{Kept, Closed, Detached, Leaked}
+use Rattle.sqlx_pool_core.specs.declared.options.PoolOptions.{PoolOptions}
+use Rattle.sqlx_pool_core.specs.declared.ticket.Held.{Held}
+use Rattle.sqlx_pool_core.specs.declared.steps.Lent.{Lent as LentValue}
+use Rattle.sqlx_pool_core.specs.declared.steps.Given.{Given}
+use Rattle.sqlx_pool_core.specs.declared.steps.Given.TheVariants as given
+use Rattle.sqlx_pool_core.specs.Core.{Core}
+use Rattle.sqlx_pool_core.specs.EventTable.{is_too_old}
+use Rattle.sqlx_pool_core.specs.PollSteps.{lent_since}
+use Rattle.sqlx_pool_core.specs.Edits.{unlent, kept, at_moment}
+
+-- a connection is closed rather than kept: the pool is closed, or it is too old
+abbrev pub closes : PoolOptions → Bool → ℕ → ℕ → Bool
+closes options shut created m = shut || is_too_old options created m
+
+-- the answer to a connection that comes back, by the loan that the pool keeps of it
+abbrev pub give_answer : {C : Type 0} → PoolOptions → Bool → ℕ → Bool → Option Held → LentValue C → Given C
+give_answer options shut m accepted None lent = given.NotHeld lent.raw
+give_answer options shut m accepted (Some h) lent = if accepted && not (closes options shut h.created.0 m) then given.Kept else given.Closed lent.raw
+
+abbrev pub give_marks : {C : Type 0} → ℕ → ℕ → Given C → List Mark
+give_marks c m given.Kept = Kept c m ∷ []
+give_marks c m (given.Closed raw) = Closed c ∷ []
+give_marks c m (given.NotHeld raw) = []
+
+-- the connection rests with the moment of opening that the pool keeps
+abbrev pub rested : {C : Type 0} → Option Held → LentValue C → ℕ → Core C → Core C
+rested (Some h) lent m core = kept (lent_since h.created lent) m core
+rested None lent m core = core
+
+abbrev pub gave : {C : Type 0} → Option Held → LentValue C → ℕ → Given C → Core C → Core C
+gave h lent m given.Kept core = at_moment m (rested h lent m (unlent lent.id core))
+gave h lent m (given.Closed raw) core = at_moment m (unlent lent.id core)
+gave h lent m (given.NotHeld raw) core = core
+
+-- ---- end, detach, leak
+
+abbrev pub end_marks : ℕ → Bool → List Mark
+end_marks c true = Closed c ∷ []
+end_marks c false = []
+
+abbrev pub detach_marks : ℕ → Bool → List Mark
+detach_marks c true = Detached c ∷ []
+detach_marks c false = []
+
+abbrev pub leak_marks : ℕ → Bool → List Mark
+leak_marks c true = Leaked c ∷ []
+leak_marks c false = []
+
+-- the connection left the pool
+abbrev pub released : {C : Type 0} → ℕ → Bool → Core C → Core C
+released c true core = unlent c core
+released c false core = core
+
+-- the connection left the pool, which keeps its place and its permit
+abbrev pub leaked : {C : Type 0} → ℕ → Bool → Core C → Core C
+leaked c true core = record (unlent c core) { leaked = core.leaked + 1 }
+leaked c false core = core

@@ -1,0 +1,50 @@
+-- When a core's value is what a list of marks comes to.
+use Rattle.std.specs.Prelude.{◌≡◌, ℕ, ◌<◌, List, Some, map, All, ⊤}
+use Rattle.std.specs.List.{list_any}
+use Rattle.sqlx_pool_core.specs.declared.mark.Mark.{Mark}
+use Rattle.sqlx_pool_core.specs.declared.mark.Mark.TheVariants.{Asked, Left, Taken, Reaped, Opened, Lent, Kept, Closed, Detached, Leaked, Ended, Shut}
+use Rattle.sqlx_pool_core.specs.declared.steps.Idle.{Idle}
+use Rattle.sqlx_pool_core.specs.declared.ticket.Ticket.{Ticket}
+use Rattle.sqlx_pool_core.specs.declared.ticket.Held.{Held}
+use Rattle.sqlx_pool_core.specs.declared.ticket.Phase.{Phase}
+use Rattle.sqlx_pool_core.specs.declared.ticket.Phase.TheVariants as phase
+use Rattle.sqlx_pool_core.specs.Marks.{tickets_of, loans_of, idle_of, opened_at, leaked_of, is_shut, next_ticket, next_conn}
+use Rattle.sqlx_pool_core.specs.Core.{Core, asking, loan, resting}
+
+-- the mark names no ticket and no connection from these numbers on
+abbrev pub IsNamedBelow : ℕ → ℕ → Mark → Type 0
+IsNamedBelow tickets conns (Asked t k d) = t < tickets
+IsNamedBelow tickets conns (Left t) = t < tickets
+IsNamedBelow tickets conns (Taken c) = c < conns
+IsNamedBelow tickets conns (Reaped c) = c < conns
+IsNamedBelow tickets conns (Opened c m) = c < conns
+IsNamedBelow tickets conns (Lent k c) = c < conns
+IsNamedBelow tickets conns (Kept c m) = c < conns
+IsNamedBelow tickets conns (Closed c) = c < conns
+IsNamedBelow tickets conns (Detached c) = c < conns
+IsNamedBelow tickets conns (Leaked c) = c < conns
+IsNamedBelow tickets conns (Ended t) = t < tickets
+IsNamedBelow tickets conns Shut = ⊤
+
+-- the connection was opened at this moment, and isn't gone
+abbrev pub IsBorn : List Mark → ℕ → ℕ → Type 0
+IsBorn marks c m = opened_at c marks ≡ Some m
+
+-- a connection under test was opened at the moment that the ticket keeps, and isn't gone
+abbrev pub IsTestedBorn : List Mark → Phase → Type 0
+IsTestedBorn marks (phase.Testing c created) = IsBorn marks c created.0
+IsTestedBorn marks other = ⊤
+
+-- The core has the tickets, loans, idle connections, leaks and numbers of these marks, and is closed as they say; it keeps when each of its connections was opened.
+pub record StandsFor {C : Type 0} (core : Core C) (marks : List Mark) : Type 0 where
+  pub tickets : map asking core.tickets ≡ tickets_of marks
+  pub loans : map loan core.held ≡ loans_of marks
+  pub idle : map resting core.idle ≡ idle_of marks
+  pub leaked : core.leaked ≡ leaked_of marks
+  pub shut : core.shut ≡ list_any is_shut marks
+  pub ticket_number : core.next_ticket ≡ next_ticket marks
+  pub conn_number : core.next_conn ≡ next_conn marks
+  pub named : All (IsNamedBelow core.next_ticket core.next_conn) marks
+  pub held_born : All (λ (h : Held). IsBorn marks h.conn h.created.0) core.held
+  pub idle_born : All (λ (i : Idle C). IsBorn marks i.lent.id i.lent.created.0) core.idle
+  pub tested_born : All (λ (t : Ticket). IsTestedBorn marks t.phase) core.tickets

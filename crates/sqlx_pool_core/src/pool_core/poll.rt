@@ -1,0 +1,185 @@
+//! A poll in its three steps. Tests and connects run between them, outside the core.
+
+ghost use Rattle.std.specs.Prelude.{◌≡◌, ℕ, ◌+◌, ◌<◌, ◌≤◌, max, List, [], ◌∷◌, Option, Some, None, IfSome, length, if◌then◌else◌, not, nat_le};
+ghost use Rattle.sqlx_pool_core.specs.Core.{ticket_of, free};
+ghost use Rattle.sqlx_pool_core.specs.OwnTurn.{own_turn, own_turn_at, before};
+ghost use Rattle.sqlx_pool_core.specs.PollSteps.{start_answer, start_marks, started, phase_for};
+ghost use Rattle.sqlx_pool_core.specs.Edits.{at_moment, ended, to_try};
+ghost use Rattle.sqlx_pool_core.specs.declared.steps.Start.TheVariants as start;
+ghost use Rattle.sqlx_pool_core.specs.PollTable.{numbered, first_idle, turn};
+ghost use Rattle.sqlx_pool_core.specs.declared.mark.Mark.{Mark};
+ghost use Rattle.sqlx_pool_core.specs.Makes.{Makes};
+ghost use Rattle.sqlx_pool_core.specs.Moves.{Moves};
+ghost use Rattle.sqlx_pool_core.specs.Sound.{IsSound};
+ghost use Rattle.sqlx_pool_core.specs.StandsFor.{StandsFor};
+ghost use Rattle.sqlx_pool_core.specs.declared.turn.Turn.{Turn};
+
+use super::{NUMBERS, PoolCore};
+use crate::lists;
+use crate::steps::{Idle, Start};
+use crate::ticket::{Phase, Ticket};
+use crate::turn::Turn;
+use sqlx_text::Moment;
+
+impl<C> PoolCore<C> {
+    // A try, where the numbers of connections aren't used up.
+    fn numbered(&self, due: Turn) -> Turn
+        ensures { result ≡ numbered self.now.next_conn due }
+    {
+        if self.next_conn > NUMBERS {
+            Turn::Exhausted
+        } else {
+            due
+        }
+    }
+
+    // The turn of a ticket that waits, in time and in an open pool.
+    fn turn_in_line(&self, number: u64) -> Turn
+        ensures { result ≡ (if nat_le (free self.now) (before number self.now.tickets) then Turn.Waiting else numbered self.now.next_conn (first_idle self.now.idle)) }
+    {
+        if self.free() as usize <= lists::before_of(&self.tickets, number) {
+            Turn::Waiting
+        } else if self.idle.is_empty() {
+            self.numbered(Turn::Connect)
+        } else {
+            self.numbered(Turn::Test)
+        }
+    }
+
+    // What the poll of a ticket comes to at a moment.
+    fn turn(&self, ticket: &Ticket, moment: Moment) -> Turn
+        ensures { result ≡ own_turn_at self.now moment.0 (Some ticket.now) }
+    {
+        if matches!(ticket.phase, Phase::Testing { .. } | Phase::Connecting) {
+            return Turn::NotHeld;
+        }
+        if self.shut {
+            return Turn::Closed;
+        }
+        if ticket.deadline <= u128::from(moment.0) {
+            return Turn::TimedOut;
+        }
+        match ticket.phase {
+            Phase::Backoff { until } if u128::from(moment.0) < until => Turn::Backoff(until),
+            Phase::Backoff { .. } => self.numbered(Turn::Connect),
+            _ => self.turn_in_line(ticket.number),
+        }
+    }
+
+    // This client's ticket of this number.
+    pub(super) fn find(&self, client: u32, number: u64) -> Option<Ticket>
+        ensures found { result ≡ ticket_of client number self.now.tickets }
+        ensures own { IfSome result (λ x. ticket_of x.client x.number self.now.tickets ≡ Some x) }
+        ensures number { IfSome result (λ x. x.number ≡ number) }
+        ensures client { IfSome result (λ x. x.client ≡ client) }
+        ensures sound { IsSound self.now }
+    {
+        lists::ticket_for(&self.tickets, client, number)
+    }
+
+    // Ends a ticket at a moment.
+    pub(super) fn end_at(&mut self, number: u64, moment: Moment)
+        ensures { self.new ≡ at_moment moment.0 (ended number self.old) }
+    {
+        lists::end_ticket(&mut self.tickets, number);
+        self.last = moment;
+    }
+
+    /// Begins a poll. `now` below the last moment counts as the last one.
+    pub fn start(&mut self, client: u32, ticket: u64, now: Moment) -> Start<C>
+        // The answer is the poll table's, by the tickets, permits and idle connections of the marks and the ticket's own phase.
+        ensures answer { (marks : List Mark) → StandsFor self.old marks → result ≡ start_answer (turn self.old.options.max_connections self.old.places marks client ticket (max self.old.last now.0) (phase_for client ticket self.old.tickets)) self.old.idle }
+        ensures makes { (marks : List Mark) → StandsFor self.old marks → Makes self.old.options.max_connections marks (start_marks ticket (phase_for client ticket self.old.tickets) result) self.new }
+        ensures moves { Moves self.old self.new (start_marks ticket (phase_for client ticket self.old.tickets) result) 0 0 }
+        ensures own { result ≡ start_answer (own_turn self.old client ticket (max self.old.last now.0)) self.old.idle }
+        ensures becomes { self.new ≡ started ticket (max self.old.last now.0) result self.old }
+    {
+        let moment = self.moment(now);
+        self.start_at(client, ticket, moment)
+    }
+
+    // Begins a poll at a moment.
+    fn start_at(&mut self, client: u32, ticket: u64, moment: Moment) -> Start<C>
+        ensures answer { result ≡ start_answer (own_turn self.old client ticket moment.0) self.old.idle }
+        ensures becomes { self.new ≡ started ticket moment.0 result self.old }
+    {
+        let Some(found) = self.find(client, ticket) else {
+            return Start::NotHeld;
+        };
+        match self.turn(&found, moment) {
+            Turn::NotHeld => Start::NotHeld,
+            Turn::Waiting => Start::Waiting,
+            Turn::Backoff(until) => Start::Backoff(until),
+            Turn::Closed => {
+                self.end_at(ticket, moment);
+                Start::Closed
+            }
+            Turn::TimedOut => {
+                self.end_at(ticket, moment);
+                Start::TimedOut
+            }
+            Turn::Exhausted => {
+                self.end_at(ticket, moment);
+                Start::Exhausted
+            }
+            Turn::Test => Start::Test(self.begin_test(found, moment)),
+            Turn::Connect => {
+                self.begin_connect(found, moment);
+                Start::Connect
+            }
+        }
+    }
+
+    // The ticket leaves the line with the first idle connection, which is to be tested.
+    fn begin_test(&mut self, found: Ticket, moment: Moment) -> Idle<C>
+        requires turn { own_turn_at self.old moment.0 (Some found) ≡ Turn.Test }
+        requires found { ticket_of found.client found.number self.old.tickets ≡ Some found }
+        ensures first { self.old.idle ≡ result ∷ self.new.idle }
+        ensures becomes { self.new ≡ started found.number moment.0 (start.Test result) self.old }
+    {
+        let Some(idle) = self.idle.pop_front() else {
+            unreachable!();
+        };
+        let phase = Phase::Testing {
+            conn: idle.lent.id,
+            created: idle.lent.created,
+        };
+        let ticket = Ticket {
+            phase,
+            first_try: moment,
+            last_wait: None,
+            ..found
+        };
+        lists::put_ticket(&mut self.tickets, ticket);
+        self.last = moment;
+        idle
+    }
+
+    // The ticket connects: one that waited leaves the line.
+    fn begin_connect(&mut self, found: Ticket, moment: Moment)
+        requires turn { own_turn_at self.old moment.0 (Some found) ≡ Turn.Connect }
+        requires found { ticket_of found.client found.number self.old.tickets ≡ Some found }
+        ensures becomes { self.new ≡ started found.number moment.0 start.Connect self.old }
+    {
+        lists::put_ticket(&mut self.tickets, trying(found, moment));
+        self.last = moment;
+    }
+}
+
+// A ticket that connects: one that waited leaves the line at this moment.
+fn trying(found: Ticket, moment: Moment) -> Ticket
+    ensures { result ≡ to_try moment.0 found }
+{
+    match found.phase {
+        Phase::Waiting => Ticket {
+            phase: Phase::Connecting,
+            first_try: moment,
+            last_wait: None,
+            ..found
+        },
+        _ => Ticket {
+            phase: Phase::Connecting,
+            ..found
+        },
+    }
+}

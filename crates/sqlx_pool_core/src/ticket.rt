@@ -1,0 +1,38 @@
+//! A ticket and a loan, as the pool keeps them.
+
+use sqlx_text::Moment;
+
+/// Where a ticket stands.
+#[derive(Clone, Copy, PartialEq, Eq)]
+pub enum Phase {
+    /// In the line.
+    Waiting,
+    /// Its idle connection is under test.
+    Testing { conn: u64, created: Moment },
+    /// A connect is under way for it.
+    Connecting,
+    /// Its next connect is due at this moment, in nanoseconds.
+    Backoff { until: u128 },
+}
+
+/// A ticket that hasn't ended.
+#[derive(Clone, Copy, PartialEq, Eq)]
+pub struct Ticket {
+    pub number: u64,
+    pub client: u32,
+    /// In nanoseconds.
+    pub deadline: u128,
+    pub phase: Phase,
+    /// When it left the line.
+    pub first_try: Moment,
+    /// How long the last refused connect makes it wait, in nanoseconds.
+    pub last_wait: Option<u128>,
+}
+
+/// A connection that a client owns.
+#[derive(Clone, Copy, PartialEq, Eq)]
+pub struct Held {
+    pub conn: u64,
+    pub client: u32,
+    pub created: Moment,
+}
