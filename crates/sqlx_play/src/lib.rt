@@ -1,2 +1,20 @@
-//! Not written yet.
+//! Plays scripts: what the program does, over any source of bytes and any sink for them.
 #![tactic(auto)]
+
+mod error;
+mod failed;
+mod io;
+pub mod laws;
+mod memory;
+mod player;
+mod pour;
+mod stage;
+mod standard;
+
+pub use error::{PlayError, status};
+pub use failed::Failed;
+pub use io::{Sink, Source};
+pub use memory::{MemSink, MemSource, SureSink, SureSource};
+pub use player::{Played, play, run};
+pub use stage::Stage;
+pub use standard::{StdSink, StdSource};

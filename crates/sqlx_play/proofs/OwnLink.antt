@@ -1,0 +1,133 @@
+-- The link of one connection that a client owns, among the links of a stage.
+use Rattle.std.proofs.Common.{◌≡◌, ℕ, zero, suc, ◌+◌, ◌<◌, ◌≤◌, ◌==◌, ◌&&◌, ◌||◌, not, nat_lt, Bool, true, false, cond, ◌⊎◌, inl, inr, List, ◌∷◌, ◌++◌, map, count_by, All, refl, sym, ap, ap₂, subst, ◌∙◌, arith, eq-eqb, ltb-true, ltb-false, lt-ltb}
+use Rattle.std.specs.List.{list_any}
+use Rattle.std.proofs.lemmas.Bool.{cond-true, cond-false, ne_eqb, eqb-true, and_parts, and_from, or_right, cases_Bool, not_from_false}
+use Rattle.std.proofs.lemmas.Bool.Decides.{eqb_tells}
+use Rattle.std.proofs.lemmas.List.Elements.{All-weaker}
+use Rattle.sqlx_pool_core.specs.declared.steps.Lent.{Lent}
+use Rattle.sqlx_pool_core.specs.declared.steps.Idle.{Idle}
+use Rattle.sqlx_pool_core.specs.declared.ticket.Held.{Held}
+use Rattle.sqlx_pool_core.specs.declared.ticket.Ticket.{Ticket}
+use Rattle.sqlx_pool_core.specs.Core.{Core}
+use Rattle.sqlx_pool_core.specs.Sound.{IsSound, holds, rests, tests, places_of}
+use Rattle.sqlx_pool_core.proofs.ListFacts.{count_by-map, number_comm}
+use Rattle.mem_driver.specs.declared.place.Place.{Place}
+use Rattle.mem_driver.specs.Driver.{Store, Link, others_in_level}
+use Rattle.sqlx_brackets.specs.Changes.{Change, History, connection_of}
+use Rattle.sqlx_brackets.specs.Brackets.{depth}
+use Rattle.sqlx_brackets.specs.Standing.{is_zero}
+use Rattle.sqlx_brackets.specs.Links.{linked_after}
+use Rattle.sqlx_brackets.specs.Events.{others_open}
+use Rattle.sqlx_brackets.proofs.Linking.{savepoints_read_alike}
+use Rattle.sqlx_brackets.proofs.Answering.{no_other}
+use Rattle.sqlx_play.specs.LinksStand.{LinksStand, IsLinkOf, links_of, has_number, rests_with_number, is_in_level, has_number_in_level, is_place_in_level}
+use Rattle.sqlx_play.proofs.Middles.{any-mid, count-mid, All-mid, All-sides, All-both, none_counted, any-found, any-more, IsMember, members, bools_same}
+
+above_zero : (n : ℕ) → is_zero n ≡ false → 1 ≤ n
+above_zero zero e = absurd (cc)
+above_zero (suc n) e = omega arith
+
+module _ (core : Core Link) (sound : IsSound core) (store : Store) (ys : List (Lent Link)) (l : Lent Link) (zs : List (Lent Link)) (past : History) (s : LinksStand core store (ys ++ l ∷ zs) past) where
+  -- ---- the other links are of other connections and have other numbers
+
+  ids_counted : count_by (λ (x : Lent Link). l.id == x.id) (ys ++ l ∷ zs) ≡ count_by (holds l.id) core.held
+  ids_counted = sym (count_by-map (λ (x : Lent Link). x.id) (λ n. l.id == n) (ys ++ l ∷ zs)) ∙ ap (count_by (λ n. l.id == n)) s.owned ∙ count_by-map (λ (h : Held). h.conn) (λ n. l.id == n) core.held
+
+  here_counted : count_by (holds l.id) core.held ≡ 1 + count_by (λ (x : Lent Link). l.id == x.id) (ys ++ zs)
+  here_counted = sym ids_counted ∙ count-mid (λ (x : Lent Link). l.id == x.id) ys l zs ∙ ap (λ b. cond b 1 0 + count_by (λ (x : Lent Link). l.id == x.id) (ys ++ zs)) (eq-eqb l.id l.id refl)
+
+  pub ids_apart : All (λ (x : Lent Link). (l.id == x.id) ≡ false) (ys ++ zs)
+  ids_apart = none_counted (λ (x : Lent Link). l.id == x.id) (ys ++ zs) (let h = here_counted in let o = sound.once l.id in omega (arith, h, o))
+
+  pub idle_apart : All (λ (i : Idle Link). (l.id == i.lent.id) ≡ false) core.idle
+  idle_apart = none_counted (rests l.id) core.idle (let h = here_counted in let o = sound.once l.id in omega (arith, h, o))
+
+  pub id_below : l.id < core.next_conn
+  id_below = by (cases_Bool (nat_lt l.id core.next_conn))
+    where
+      by : (nat_lt l.id core.next_conn ≡ true) ⊎ (nat_lt l.id core.next_conn ≡ false) → l.id < core.next_conn
+      by (inl yes') = ltb-true l.id core.next_conn yes'
+      by (inr no') = let h = here_counted in let o = sound.opened l.id (ltb-false l.id core.next_conn no') in absurd (omega (arith, h, o))
+
+  pub numbers_apart : All (λ (x : Lent Link). (x.raw.number == l.raw.number) ≡ false) (ys ++ zs)
+  numbers_apart = none_counted (has_number l.raw.number) (ys ++ zs)
+      (let o = s.once l.raw.number in
+      let m = count-mid (has_number l.raw.number) ys l zs ∙ ap (λ b. cond b 1 0 + count_by (has_number l.raw.number) (ys ++ zs)) (eq-eqb l.raw.number l.raw.number refl) in
+      omega (arith, o, m))
+
+  -- ---- other connections have an open bracket where other links have an open level
+
+  depth_is : (x : Lent Link) → IsLinkOf (linked_after past) x.id x.raw → x.raw.depth ≡ depth x.id past
+  depth_is x h = ap (λ k. k.depth) h ∙ (savepoints_read_alike past s.accepted).depths x.id
+
+  abbrev is_other : Place → Bool
+  is_other place = not (place.number == l.raw.number) && place.in_level
+
+  abbrev is_open_elsewhere : Change → Bool
+  is_open_elsewhere change = not (connection_of change == l.id) && not (is_zero (depth (connection_of change) past))
+
+  opened_by : (n : ℕ) → 1 ≤ depth n past → (n == l.id) ≡ false → others_open l.id past ≡ true
+  opened_by n one apart = by (cases_Bool (others_open l.id past))
+    where
+      by : (others_open l.id past ≡ true) ⊎ (others_open l.id past ≡ false) → others_open l.id past ≡ true
+      by (inl yes') = yes'
+      by (inr none) = let z = no_other l.id past none n apart in absurd (omega (arith, z))
+
+  no_number : (n : ℕ) → (n == l.raw.number) ≡ false → has_number_in_level n l ≡ false
+  no_number n apart = ap (λ b. b && is_in_level l.raw) (number_comm l.raw.number n ∙ apart)
+
+  to_brackets : others_in_level l.raw.number store.places ≡ true → others_open l.id past ≡ true
+  to_brackets h =
+      let found = any-found is_other (IsMember store.places) store.places h (members store.places) in
+      let place = found.0 in
+      let parts = and_parts (not (place.number == l.raw.number)) place.in_level found.1 in
+      let apart : (place.number == l.raw.number) ≡ false = not_true (place.number == l.raw.number) parts.0 in
+      let known : list_any (is_place_in_level place.number) store.places ≡ true = found.2 (is_place_in_level place.number) (and_from (place.number == place.number) place.in_level (eq-eqb place.number place.number refl) parts.1) in
+      let lent : list_any (has_number_in_level place.number) (ys ++ zs) ≡ true =
+      sym (ap (λ b. b || list_any (has_number_in_level place.number) (ys ++ zs)) (no_number place.number apart)) ∙ sym (any-mid (has_number_in_level place.number) ys l zs) ∙ sym (s.levels place.number) ∙ known in
+      let other = any-found (has_number_in_level place.number) (λ (x : Lent Link). ((l.id == x.id) ≡ false) × IsLinkOf (linked_after past) x.id x.raw) (ys ++ zs) lent
+      (All-both (λ (x : Lent Link). (l.id == x.id) ≡ false) (λ (x : Lent Link). IsLinkOf (linked_after past) x.id x.raw) (ys ++ zs) ids_apart (All-sides (λ (x : Lent Link). IsLinkOf (linked_after past) x.id x.raw) ys l zs s.lent_links)) in
+      let x : Lent Link = other.0 in
+      let open' : 0 < x.raw.depth = ltb-true 0 x.raw.depth (and_parts (x.raw.number == place.number) (is_in_level x.raw) other.1).1 in
+      let same = depth_is x other.2.1 in
+      opened_by x.id (omega (arith, open', same)) (number_comm x.id l.id ∙ other.2.0)
+    where
+      not_true : (b : Bool) → not b ≡ true → b ≡ false
+      not_true true e = absurd (cc)
+      not_true false e = refl
+
+  from_brackets : others_open l.id past ≡ true → others_in_level l.raw.number store.places ≡ true
+  from_brackets h =
+      let found = any-found is_open_elsewhere (λ (change : Change). change ≡ change) past h (λ k d lt. refl) in
+      let n : ℕ = connection_of found.0 in
+      let parts = and_parts (not (n == l.id)) (not (is_zero (depth n past))) found.1 in
+      let apart : (n == l.id) ≡ false = not_true (n == l.id) parts.0 in
+      let one : 1 ≤ depth n past = above_zero (depth n past) (not_true (is_zero (depth n past)) parts.1) in
+      let owned : list_any (λ (x : Lent Link). n == x.id) (ys ++ l ∷ zs) ≡ true = is_owned n one (cases_Bool (list_any (λ (x : Lent Link). n == x.id) (ys ++ l ∷ zs))) in
+      let beside : list_any (λ (x : Lent Link). n == x.id) (ys ++ zs) ≡ true = sym (ap (λ b. b || list_any (λ (x : Lent Link). n == x.id) (ys ++ zs)) apart) ∙ sym (any-mid (λ (x : Lent Link). n == x.id) ys l zs) ∙ owned in
+      let other = any-found (λ (x : Lent Link). n == x.id) (λ (x : Lent Link). IsMember (ys ++ zs) x × (((x.raw.number == l.raw.number) ≡ false) × IsLinkOf (linked_after past) x.id x.raw)) (ys ++ zs) beside
+      (All-both (IsMember (ys ++ zs)) (λ (x : Lent Link). ((x.raw.number == l.raw.number) ≡ false) × IsLinkOf (linked_after past) x.id x.raw) (ys ++ zs) (members (ys ++ zs))
+      (All-both (λ (x : Lent Link). (x.raw.number == l.raw.number) ≡ false) (λ (x : Lent Link). IsLinkOf (linked_after past) x.id x.raw) (ys ++ zs) numbers_apart (All-sides (λ (x : Lent Link). IsLinkOf (linked_after past) x.id x.raw) ys l zs s.lent_links))) in
+      let x : Lent Link = other.0 in
+      let same : x.raw.depth ≡ depth n past = depth_is x other.2.1.1 ∙ ap (λ m. depth m past) (sym (eqb-true n x.id other.1)) in
+      let in_level : has_number_in_level x.raw.number x ≡ true = and_from (x.raw.number == x.raw.number) (is_in_level x.raw) (eq-eqb x.raw.number x.raw.number refl) (lt-ltb 0 x.raw.depth (omega (arith, one, same))) in
+      let lent : list_any (has_number_in_level x.raw.number) (ys ++ l ∷ zs) ≡ true = any-mid (has_number_in_level x.raw.number) ys l zs ∙ or_right (has_number_in_level x.raw.number l) (list_any (has_number_in_level x.raw.number) (ys ++ zs)) (other.2.0 (has_number_in_level x.raw.number) in_level) in
+      any-more (is_place_in_level x.raw.number) is_other (λ place e. elsewhere x.raw.number other.2.1.0 place e) store.places (s.levels x.raw.number ∙ lent)
+    where
+      not_true : (b : Bool) → not b ≡ true → b ≡ false
+      not_true true e = absurd (cc)
+      not_true false e = refl
+
+      is_owned : (n : ℕ) → 1 ≤ depth n past → (list_any (λ (x : Lent Link). n == x.id) (ys ++ l ∷ zs) ≡ true) ⊎ (list_any (λ (x : Lent Link). n == x.id) (ys ++ l ∷ zs) ≡ false) → list_any (λ (x : Lent Link). n == x.id) (ys ++ l ∷ zs) ≡ true
+      is_owned n one (inl yes') = yes'
+      is_owned n one (inr none) = let z = s.unlent n none in let a = (savepoints_read_alike past s.accepted).depths n in absurd (omega (arith, z, a, one))
+
+      elsewhere : (m : ℕ) → (m == l.raw.number) ≡ false → (place : Place) → is_place_in_level m place ≡ true → is_other place ≡ true
+      elsewhere m apart place e =
+          let parts = and_parts (place.number == m) place.in_level e in
+          let is : place.number ≡ m = eqb-true place.number m parts.0 in
+          and_from (not (place.number == l.raw.number)) place.in_level (ap (λ k. not (k == l.raw.number)) is ∙ ap not apart) parts.1
+
+  -- busy by the store and busy by the brackets
+  pub busy-alike : others_in_level l.raw.number store.places ≡ others_open l.id past
+  busy-alike = bools_same (others_in_level l.raw.number store.places) (others_open l.id past) to_brackets from_brackets

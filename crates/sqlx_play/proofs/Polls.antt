@@ -1,0 +1,289 @@
+-- What a poll makes of a stage.
+use Rattle.std.proofs.Common.{◌≡◌, ℕ, ◌+◌, ◌-◌, ◌^◌, ◌≤◌, ◌<◌, ◌==◌, Bool, true, false, not, cond, List, [], ◌∷◌, ◌++◌, map, drop, max, Option, Some, None, option_map, nat_lt, All, refl, sym, ap, subst, ◌∙◌, append-nil, append_assoc, inl, inr, ◌⊎◌, arith}
+use Rattle.std.proofs.lemmas.Bool.{eqb-true, ne_eqb}
+use Rattle.sqlx_text.specs.declared.Moment.{Moment}
+use Rattle.sqlx_pool_core.specs.declared.mark.Mark.{Mark}
+use Rattle.sqlx_pool_core.specs.declared.mark.Mark.TheVariants as mark
+use Rattle.sqlx_pool_core.specs.declared.ticket.Ticket.{Ticket}
+use Rattle.sqlx_pool_core.specs.declared.ticket.Phase.TheVariants as phase
+use Rattle.sqlx_pool_core.specs.declared.steps.Lent.{Lent}
+use Rattle.sqlx_pool_core.specs.declared.steps.Idle.{Idle}
+use Rattle.sqlx_pool_core.specs.declared.steps.Start.{Start}
+use Rattle.sqlx_pool_core.specs.declared.steps.Start.TheVariants as start
+use Rattle.sqlx_pool_core.specs.Core.{Core, ticket_of}
+use Rattle.sqlx_pool_core.specs.Edits.{at_moment, ended, lent_to, took, with_ticket, without_ticket, to_test, to_try, to_connect, to_back_off}
+use Rattle.sqlx_pool_core.specs.Sound.{IsSound}
+use Rattle.sqlx_pool_core.specs.PollSteps.{start_answer, start_marks, started, phase_for, wait_of}
+use Rattle.sqlx_pool_core.specs.PollSteps as steps
+use Rattle.sqlx_pool_core.specs.OwnTurn.{own_turn}
+use Rattle.sqlx_pool_core.specs.Makes.{Makes}
+use Rattle.sqlx_pool_core.specs.StandsFor.{StandsFor}
+use Rattle.sqlx_pool_core.proofs.FairLaws.{makes-then}
+use Rattle.sqlx_pool_core.proofs.Known.{KeepsNumber, ticket-number, ticket-is_only, ticket-below, gone-changed, idle-first}
+use Rattle.sqlx_pool_core.proofs.ListFacts.{same_number, number_comm}
+use Rattle.mem_driver.specs.Driver.{Link, Store, without}
+use Rattle.sqlx_script.specs.declared.answers.PollAnswers.{PollAnswers}
+use Rattle.sqlx_script.specs.declared.step.Event.{Event}
+use Rattle.sqlx_script.specs.declared.step.Step.TheVariants.{Poll}
+use Rattle.sqlx_script.specs.declared.reply.Reply.{Reply}
+use Rattle.sqlx_script.specs.declared.reply.Reply.TheVariants as reply
+use Rattle.sqlx_brackets.specs.Changes.{History, leaves}
+use Rattle.sqlx_play.specs.declared.stage.Stage.{Stage}
+use Rattle.sqlx_pool_core.specs.declared.options.PoolOptions.{PoolOptions}
+use Rattle.sqlx_play.specs.Answer.{connect_reply}
+use Rattle.sqlx_play.specs.ScriptMarks.{added, marks_of, waits, taken_by, leaving, polled}
+use Rattle.sqlx_play.specs.ScriptLevels.{gone_by, history_after, history_of}
+use Rattle.sqlx_play.specs.LinksStand.{LinksStand}
+use Rattle.sqlx_play.specs.Tries.{tries_of, tried, backed_off}
+use Rattle.sqlx_play.specs.StageStands.{IsTried, IsTriedAt, StageStands}
+use Rattle.sqlx_play.specs.Polling.{connect_marks, after_connect}
+use Rattle.sqlx_play.proofs.Pairs.{tries_of-push, tried-same}
+use Rattle.sqlx_play.proofs.LinksSame.{links-same, links-as}
+use Rattle.sqlx_play.proofs.LinksMoves.{links-lent, links-closed}
+use Rattle.sqlx_play.proofs.StageAfter.{StageMoves, stage-after}
+use Rattle.sqlx_play.proofs.PollTurns.{AtTest, AtConnect, IsDue, keeps-try, found-try, found-refused}
+use Rattle.sqlx_play.proofs.PollReplies.{tried-of}
+use Rattle.sqlx_play.proofs.PollTries.{Trying, trying-refused, trying-connect, tried-without, tried-changed, with-with}
+use Rattle.sqlx_play.proofs.PollMarks.{gone-append, taken-test, taken-connect, waits-test, leaving-connect, polled_by, lent-marks, Outcome, connected, backs_off, broken, refused, reply_by, connect-marks, refused-marks, connect-gone, polled-by, outcome_of, outcome-is, outcome-until}
+
+abbrev pub pair_of : Moment → ℕ → ℕ → PollAnswers → Reply → Event × Reply
+pair_of moment k t answers r = (record { moment = moment; step = Poll k t answers }, r)
+
+-- ---- the connection that passed its test
+
+pub tested-stands : (stage new : Stage) (pairs : List (Event × Reply)) (moment : Moment) (k t last : ℕ) (answers : PollAnswers) (i : Idle Link) (mid : Core Link) → StageStands stage pairs → IsSound stage.core → AtTest stage.core k t i
+    → mid ≡ started t last (start.Test i) stage.core → new.core ≡ ended t (lent_to k i.lent.id i.lent.created mid)
+    → new.store ≡ stage.store → new.lent.items ≡ stage.lent.items ++ i.lent ∷ [] → new.pool ≡ stage.pool
+    → Makes stage.core.options.max_connections (marks_of stage.pool pairs) (mark.Left t ∷ mark.Taken i.lent.id ∷ []) mid
+    → Makes mid.options.max_connections (marks_of stage.pool pairs ++ mark.Left t ∷ mark.Taken i.lent.id ∷ []) (mark.Lent k i.lent.id ∷ mark.Ended t ∷ []) new.core
+    → StageStands new (pairs ++ pair_of moment k t answers (reply.Ready i.lent.id) ∷ [])
+tested-stands stage new pairs moment k t last answers i mid s sound a begun becomes store owned pool makes then =
+    stage-after stage new pairs pair s (record {
+      pool = pool;
+      makes = subst (λ (l : List Mark). Makes stage.core.options.max_connections marks l new.core) made
+          (makes-then stage.core.options.max_connections marks (mark.Left t ∷ mark.Taken i.lent.id ∷ []) (mark.Lent k i.lent.id ∷ mark.Ended t ∷ []) mid new.core makes
+          (subst (λ (n : ℕ). Makes n (marks ++ mark.Left t ∷ mark.Taken i.lent.id ∷ []) (mark.Lent k i.lent.id ∷ mark.Ended t ∷ []) new.core) (ap (λ (c : Core Link). c.options.max_connections) begun) then));
+      options = ap (λ (c : Core Link). c.options) whole;
+      places = ap (λ (c : Core Link). c.places) whole ∙ s.places;
+      tried = subst (All (IsTried (pairs ++ pair ∷ []))) (sym (ap (λ (c : Core Link). c.tickets) whole ∙ gone-changed t (to_test last i) stage.core.tickets (λ x. refl)))
+          (tried-without pairs (pairs ++ pair ∷ []) t stage.core.tickets (λ u. tries_of-push u pairs pair) s.tried);
+      untried = λ u h. tries_of-push u pairs pair ∙ s.untried u (subst (λ (n : ℕ). n ≤ u) (ap (λ (c : Core Link). c.next_ticket) whole) h);
+      links = subst (LinksStand new.core new.store new.lent.items) (ap (λ (l : List Mark). gone_by l (history_of stage.pool pairs)) made)
+          (links-as new.core new.core stage.store new.store (stage.lent.items ++ i.lent ∷ []) new.lent.items (history_of stage.pool pairs) refl store owned
+          (links-same (lent_to k i.lent.id i.lent.created (took stage.core)) new.core stage.store (stage.lent.items ++ i.lent ∷ []) (history_of stage.pool pairs)
+          (links-lent stage.core stage.store stage.lent.items (history_of stage.pool pairs) s.links i a.rest a.idle k i.lent.created)
+          (ap (λ (c : Core Link). c.held) whole) (ap (λ (c : Core Link). c.idle) whole) (ap (λ (c : Core Link). c.next_conn) whole)));
+    })
+  where
+    marks : List Mark
+    marks = marks_of stage.pool pairs
+
+    pair : Event × Reply
+    pair = pair_of moment k t answers (reply.Ready i.lent.id)
+
+    whole : new.core ≡ ended t (lent_to k i.lent.id i.lent.created (started t last (start.Test i) stage.core))
+    whole = becomes ∙ ap (λ (c : Core Link). ended t (lent_to k i.lent.id i.lent.created c)) begun
+
+    made : mark.Left t ∷ mark.Taken i.lent.id ∷ mark.Lent k i.lent.id ∷ mark.Ended t ∷ [] ≡ polled marks moment.0 k t (reply.Ready i.lent.id)
+    made = lent-marks moment.0 k t i.lent.id (same_number i.lent.id)
+        ∙ (λ j. polled_by moment.0 k t (sym (waits-test stage.core marks k t s.stands i a) j) (sym (taken-test stage.core marks k t s.stands i a) j) (reply.Ready i.lent.id))
+
+-- ---- a connect
+
+-- A stage between two steps of a poll, whose ticket connects: x is the ticket before the poll, and y is it now.
+pub record Connecting (stage mid : Stage) (pairs : List (Event × Reply)) (k t m : ℕ) (made : List Mark) : Type 0 where
+  pub x : Ticket
+  pub y : Ticket
+  pub change : Ticket → Ticket
+  pub found : ticket_of k t stage.core.tickets ≡ Some x
+  pub found_now : ticket_of k t mid.core.tickets ≡ Some y
+  pub keeps : KeepsNumber change
+  pub is : y ≡ change x
+  pub tickets : mid.core.tickets ≡ with_ticket t change stage.core.tickets
+  pub trying : Trying m (tries_of t pairs) x y
+  pub options : mid.core.options ≡ stage.core.options
+  pub places : mid.core.places ≡ stage.core.places
+  pub next_ticket : mid.core.next_ticket ≡ stage.core.next_ticket
+  pub next_conn : mid.core.next_conn ≡ stage.core.next_conn
+  pub pool : mid.pool ≡ stage.pool
+  pub makes : Makes stage.core.options.max_connections (marks_of stage.pool pairs) made mid.core
+  pub links : LinksStand mid.core mid.store mid.lent.items (gone_by made (history_of stage.pool pairs))
+  pub marks : (o : Outcome) → made ++ connect_marks k t m (reply_by stage.core.next_conn o) ≡ polled (marks_of stage.pool pairs) m k t (reply_by stage.core.next_conn o)
+
+-- what a connect leaves as it was
+record Keeps (core new : Core Link) : Type 0 where
+  pub options : new.options ≡ core.options
+  pub places : new.places ≡ core.places
+  pub next_ticket : new.next_ticket ≡ core.next_ticket
+
+keeps-connect : (k t n : ℕ) (moment : Moment) (core : Core Link) (o : Outcome) → Keeps core (after_connect k t moment (reply_by n o) core)
+keeps-connect k t n moment core connected = record { options = refl; places = refl; next_ticket = refl }
+keeps-connect k t n moment core (backs_off until) = record { options = refl; places = refl; next_ticket = refl }
+keeps-connect k t n moment core broken = record { options = refl; places = refl; next_ticket = refl }
+keeps-connect k t n moment core refused = record { options = refl; places = refl; next_ticket = refl }
+
+module _ (stage mid new : Stage) (pairs : List (Event × Reply)) (moment : Moment) (k t : ℕ) (answers : PollAnswers) (made : List Mark) (s : StageStands stage pairs) (sound : IsSound stage.core)
+    (c : Connecting stage mid pairs k t moment.0 made) where
+  gone : without_ticket t mid.core.tickets ≡ without_ticket t stage.core.tickets
+  gone = ap (without_ticket t) c.tickets ∙ gone-changed t c.change stage.core.tickets c.keeps
+
+  -- the tries where the ticket ended
+  ended_tries : (r : Reply) → ((u : ℕ) → tries_of u (pairs ++ pair_of moment k t answers r ∷ []) ≡ tries_of u pairs) → All (IsTried (pairs ++ pair_of moment k t answers r ∷ [])) (without_ticket t mid.core.tickets)
+  ended_tries r same = subst (All (IsTried (pairs ++ pair_of moment k t answers r ∷ []))) (sym gone) (tried-without pairs (pairs ++ pair_of moment k t answers r ∷ []) t stage.core.tickets same s.tried)
+
+  -- the tries of other tickets, where it waits
+  other_tries : (until u : ℕ) → (u == t) ≡ false → tries_of u (pairs ++ pair_of moment k t answers (reply.Backoff until) ∷ []) ≡ tries_of u pairs
+  other_tries until u other = tries_of-push u pairs (pair_of moment k t answers (reply.Backoff until)) ∙ ap (λ (b : Bool). cond b (backed_off moment.0 until (tries_of u pairs)) (tries_of u pairs)) other
+
+  own_tries : tries_of t (pairs ++ pair_of moment k t answers (reply.Backoff (moment.0 + wait_of c.y)) ∷ []) ≡ Some (record { first = c.y.first_try.0; wait = wait_of c.y; until = moment.0 + wait_of c.y })
+  own_tries =
+      tries_of-push t pairs (pair_of moment k t answers (reply.Backoff (moment.0 + wait_of c.y)))
+      ∙ ap (λ (b : Bool). cond b (backed_off moment.0 (moment.0 + wait_of c.y) (tries_of t pairs)) (tries_of t pairs)) (same_number t) ∙ c.trying.tried
+
+  number : c.y.number ≡ t
+  number = c.trying.number ∙ sym (ticket-number k t stage.core.tickets c.x c.found)
+
+  waiting_tries : All (IsTried (pairs ++ pair_of moment k t answers (reply.Backoff (moment.0 + wait_of c.y)) ∷ [])) (with_ticket t (λ (z : Ticket). to_back_off (wait_of z) (moment.0 + wait_of c.y) z) mid.core.tickets)
+  waiting_tries =
+      let after : List (Event × Reply) = pairs ++ pair_of moment k t answers (reply.Backoff (moment.0 + wait_of c.y)) ∷ [] in
+      let waits : Ticket → Ticket = λ (z : Ticket). to_back_off (wait_of z) (moment.0 + wait_of c.y) z in
+      let mine : IsTried after (waits c.y) = (wait_of c.y, refl, ap (λ (n : ℕ). tries_of n after) number ∙ own_tries) in
+      subst (All (IsTried after)) (sym (ap (with_ticket t waits) c.tickets ∙ with-with t c.change waits stage.core.tickets c.keeps))
+      (tried-changed pairs after t (λ (z : Ticket). waits (c.change z)) c.x stage.core.tickets (ticket-is_only stage.core sound k t c.x c.found)
+      (λ u other. other_tries (moment.0 + wait_of c.y) u (number_comm u t ∙ other)) (subst (λ (z : Ticket). IsTried after (waits z)) c.is mine) s.tried)
+
+  tickets_by : (o : Outcome) → ((u : ℕ) → o ≡ backs_off u → u ≡ moment.0 + wait_of c.y) → All (IsTried (pairs ++ pair_of moment k t answers (reply_by stage.core.next_conn o) ∷ [])) (after_connect k t moment (reply_by stage.core.next_conn o) mid.core).tickets
+  tickets_by connected until = ended_tries (reply.Ready stage.core.next_conn) (λ u. tries_of-push u pairs (pair_of moment k t answers (reply.Ready stage.core.next_conn)))
+  tickets_by broken until = ended_tries reply.Io (λ u. tries_of-push u pairs (pair_of moment k t answers reply.Io))
+  tickets_by refused until = ended_tries reply.DatabaseRefused (λ u. tries_of-push u pairs (pair_of moment k t answers reply.DatabaseRefused))
+  tickets_by (backs_off u) until =
+      subst (λ (n : ℕ). All (IsTried (pairs ++ pair_of moment k t answers (reply.Backoff n) ∷ [])) (with_ticket t (λ (z : Ticket). to_back_off (wait_of z) n z) mid.core.tickets)) (sym (until u refl)) waiting_tries
+
+  untried_by : (o : Outcome) (u : ℕ) → stage.core.next_ticket ≤ u → tries_of u (pairs ++ pair_of moment k t answers (reply_by stage.core.next_conn o) ∷ []) ≡ tries_of u pairs
+  untried_by connected u h = tries_of-push u pairs (pair_of moment k t answers (reply.Ready stage.core.next_conn))
+  untried_by broken u h = tries_of-push u pairs (pair_of moment k t answers reply.Io)
+  untried_by refused u h = tries_of-push u pairs (pair_of moment k t answers reply.DatabaseRefused)
+  untried_by (backs_off until) u h = let below = ticket-below stage.core sound k t c.x c.found in other_tries until u (ne_eqb u t (λ e. absurd (omega (arith, below, h, e))))
+
+  stands_by : (o : Outcome) → ((u : ℕ) → o ≡ backs_off u → u ≡ moment.0 + wait_of c.y)
+      → Makes mid.core.options.max_connections (marks_of stage.pool pairs ++ made) (connect_marks k t moment.0 (reply_by stage.core.next_conn o)) new.core
+      → new.core ≡ after_connect k t moment (reply_by stage.core.next_conn o) mid.core → LinksStand new.core new.store new.lent.items (gone_by made (history_of stage.pool pairs)) → new.pool ≡ mid.pool
+      → StageStands new (pairs ++ pair_of moment k t answers (reply_by stage.core.next_conn o) ∷ [])
+  stands_by o until makes becomes links pool =
+      let kept = keeps-connect k t stage.core.next_conn moment mid.core o in
+      let past : gone_by made (history_of stage.pool pairs) ≡ gone_by (polled (marks_of stage.pool pairs) moment.0 k t (reply_by stage.core.next_conn o)) (history_of stage.pool pairs)
+      = sym (connect-gone moment.0 k t stage.core.next_conn o (gone_by made (history_of stage.pool pairs)))
+      ∙ sym (gone-append made (connect_marks k t moment.0 (reply_by stage.core.next_conn o)) (history_of stage.pool pairs))
+      ∙ ap (λ (l : List Mark). gone_by l (history_of stage.pool pairs)) (c.marks o) in
+      stage-after stage new pairs (pair_of moment k t answers (reply_by stage.core.next_conn o)) s (record {
+        pool = pool ∙ c.pool;
+        makes = subst (λ (l : List Mark). Makes stage.core.options.max_connections (marks_of stage.pool pairs) l new.core) (c.marks o)
+            (makes-then stage.core.options.max_connections (marks_of stage.pool pairs) made (connect_marks k t moment.0 (reply_by stage.core.next_conn o)) mid.core new.core c.makes
+            (subst (λ (n : ℕ). Makes n (marks_of stage.pool pairs ++ made) (connect_marks k t moment.0 (reply_by stage.core.next_conn o)) new.core) (ap (λ (p : PoolOptions). p.max_connections) c.options) makes));
+        options = ap (λ (n : Core Link). n.options) becomes ∙ kept.options ∙ c.options;
+        places = ap (λ (n : Core Link). n.places) becomes ∙ kept.places ∙ c.places ∙ s.places;
+        tried = subst (λ (n : Core Link). All (IsTried (pairs ++ pair_of moment k t answers (reply_by stage.core.next_conn o) ∷ [])) n.tickets) (sym becomes) (tickets_by o until);
+        untried = λ u h.
+            let late : stage.core.next_ticket ≤ u = subst (λ (n : ℕ). n ≤ u) (ap (λ (n : Core Link). n.next_ticket) becomes ∙ kept.next_ticket ∙ c.next_ticket) h in
+            untried_by o u late ∙ s.untried u late;
+        links = subst (LinksStand new.core new.store new.lent.items) past links;
+      })
+
+  -- the stage after a connect with this reply
+  pub connect-stands : (r : Reply) → r ≡ connect_reply mid.pool answers mid.core.next_conn (moment.0 + wait_of c.y) answers.connect
+      → Makes mid.core.options.max_connections (marks_of stage.pool pairs ++ made) (connect_marks k t moment.0 r) new.core
+      → new.core ≡ after_connect k t moment r mid.core → LinksStand new.core new.store new.lent.items (gone_by made (history_of stage.pool pairs)) → new.pool ≡ mid.pool
+      → StageStands new (pairs ++ pair_of moment k t answers r ∷ [])
+  connect-stands r is makes becomes links pool =
+      let o = outcome_of stage.pool answers (moment.0 + wait_of c.y) answers.connect in
+      let reply_is : r ≡ reply_by stage.core.next_conn o = is ∙ (λ i. connect_reply (c.pool i) answers (c.next_conn i) (moment.0 + wait_of c.y) answers.connect) ∙ outcome-is stage.pool answers stage.core.next_conn (moment.0 + wait_of c.y) answers.connect in
+      subst (λ (r : Reply). StageStands new (pairs ++ pair_of moment k t answers r ∷ [])) (sym reply_is)
+      (stands_by o (λ u e. outcome-until stage.pool answers (moment.0 + wait_of c.y) u answers.connect e)
+      (subst (λ (r : Reply). Makes mid.core.options.max_connections (marks_of stage.pool pairs ++ made) (connect_marks k t moment.0 r) new.core) reply_is makes)
+      (subst (λ (r : Reply). new.core ≡ after_connect k t moment r mid.core) reply_is becomes) links pool)
+
+-- ---- the two ways to a connect
+
+-- no connection is idle, or the next try is due
+pub at-connect-connects : (stage : Stage) (core : Core Link) (pairs : List (Event × Reply)) (k t m : ℕ) → StageStands stage pairs → IsSound stage.core → (a : AtConnect stage.core k t m)
+    → core ≡ started t m start.Connect stage.core
+    → Makes stage.core.options.max_connections (marks_of stage.pool pairs) (start_marks {C = Link} t (phase_for k t stage.core.tickets) start.Connect) core
+    → Connecting stage (record stage { core = core }) pairs k t m (leaving t (waits k t (marks_of stage.pool pairs)))
+at-connect-connects stage core pairs k t m s sound a becomes makes =
+    let marks : List Mark = marks_of stage.pool pairs in
+    let tried = tried-of k t pairs stage.core.tickets a.x s.tried a.found in
+    record {
+      x = a.x;
+      y = to_try m a.x;
+      change = to_try m;
+      found = a.found;
+      found_now = ap (λ (c : Core Link). ticket_of k t c.tickets) becomes ∙ found-try k t m stage.core.tickets a.x a.found;
+      keeps = λ x. (keeps-try m x).0;
+      is = refl;
+      tickets = ap (λ (c : Core Link). c.tickets) becomes;
+      trying = trying-connect m t pairs a.x (stage.core.idle ≡ []) (ticket-number k t stage.core.tickets a.x a.found) a.ways tried;
+      options = ap (λ (c : Core Link). c.options) becomes;
+      places = ap (λ (c : Core Link). c.places) becomes;
+      next_ticket = ap (λ (c : Core Link). c.next_ticket) becomes;
+      next_conn = ap (λ (c : Core Link). c.next_conn) becomes;
+      pool = refl;
+      makes = subst (λ (l : List Mark). Makes stage.core.options.max_connections marks l core) (leaving-connect stage.core marks k t s.stands m a) makes;
+      links = subst (LinksStand core stage.store stage.lent.items) (by (waits k t marks))
+          (links-same stage.core core stage.store stage.lent.items (history_of stage.pool pairs) s.links (ap (λ (c : Core Link). c.held) becomes) (ap (λ (c : Core Link). c.idle) becomes) (ap (λ (c : Core Link). c.next_conn) becomes));
+      marks = λ o. connect-marks m k t stage.core.next_conn (waits k t marks) o
+          ∙ ap (λ (taken : Option ℕ). polled_by m k t (waits k t marks) taken (reply_by stage.core.next_conn o)) (sym (taken-connect stage.core marks k t s.stands m a))
+          ∙ sym (polled-by marks m k t stage.core.next_conn o);
+    }
+  where
+    by : (b : Bool) → history_of stage.pool pairs ≡ gone_by (leaving t b) (history_of stage.pool pairs)
+    by true = refl
+    by false = refl
+
+-- the idle connection was refused
+pub refused-connects : (stage mid : Stage) (core : Core Link) (pairs : List (Event × Reply)) (k t m : ℕ) (i : Idle Link) → StageStands stage pairs → IsSound stage.core → (a : AtTest stage.core k t i)
+    → core ≡ started t m (start.Test i) stage.core → mid.core ≡ record core { tickets = with_ticket t to_connect core.tickets }
+    → mid.store ≡ record stage.store { places = without i.lent.raw.number stage.store.places } → mid.lent.items ≡ stage.lent.items → mid.pool ≡ stage.pool
+    → Makes stage.core.options.max_connections (marks_of stage.pool pairs) (mark.Left t ∷ mark.Taken i.lent.id ∷ []) core
+    → Makes core.options.max_connections (marks_of stage.pool pairs ++ mark.Left t ∷ mark.Taken i.lent.id ∷ []) (mark.Closed i.lent.id ∷ []) mid.core
+    → Connecting stage mid pairs k t m (mark.Left t ∷ mark.Taken i.lent.id ∷ mark.Closed i.lent.id ∷ [])
+refused-connects stage mid core pairs k t m i s sound a begun becomes store owned pool makes then =
+    record {
+      x = a.x;
+      y = to_connect (to_test m i a.x);
+      change = λ (x : Ticket). to_connect (to_test m i x);
+      found = a.found;
+      found_now = ap (λ (c : Core Link). ticket_of k t c.tickets) whole ∙ found-refused k t m i stage.core.tickets a.x a.found;
+      keeps = λ x. refl;
+      is = refl;
+      tickets = ap (λ (c : Core Link). c.tickets) whole ∙ with-with t (to_test m i) to_connect stage.core.tickets (λ x. refl);
+      trying = trying-refused m t i pairs a.x (ticket-number k t stage.core.tickets a.x a.found) a.waits (tried-of k t pairs stage.core.tickets a.x s.tried a.found);
+      options = ap (λ (c : Core Link). c.options) whole;
+      places = ap (λ (c : Core Link). c.places) whole;
+      next_ticket = ap (λ (c : Core Link). c.next_ticket) whole;
+      next_conn = ap (λ (c : Core Link). c.next_conn) whole;
+      pool = pool;
+      makes = makes-then stage.core.options.max_connections marks (mark.Left t ∷ mark.Taken i.lent.id ∷ []) (mark.Closed i.lent.id ∷ []) core mid.core makes
+          (subst (λ (n : ℕ). Makes n (marks ++ mark.Left t ∷ mark.Taken i.lent.id ∷ []) (mark.Closed i.lent.id ∷ []) mid.core) (ap (λ (c : Core Link). c.options.max_connections) begun) then);
+      links = links-as mid.core mid.core _ mid.store stage.lent.items mid.lent.items (leaves i.lent.id ∷ history_of stage.pool pairs) refl store owned
+          (links-same (took stage.core) mid.core _ stage.lent.items (leaves i.lent.id ∷ history_of stage.pool pairs)
+          (links-closed stage.core stage.store stage.lent.items (history_of stage.pool pairs) s.links i a.rest a.idle sound)
+          (ap (λ (c : Core Link). c.held) whole) (ap (λ (c : Core Link). c.idle) whole) (ap (λ (c : Core Link). c.next_conn) whole));
+      marks = λ o. refused-marks m k t i.lent.id stage.core.next_conn o other too
+          ∙ (λ j. polled_by m k t (sym (waits-test stage.core marks k t s.stands i a) j) (sym (taken-test stage.core marks k t s.stands i a) j) (reply_by stage.core.next_conn o))
+          ∙ sym (polled-by marks m k t stage.core.next_conn o);
+    }
+  where
+    marks : List Mark
+    marks = marks_of stage.pool pairs
+
+    whole : mid.core ≡ record (started t m (start.Test i) stage.core) { tickets = with_ticket t to_connect (with_ticket t (to_test m i) stage.core.tickets) }
+    whole = becomes ∙ ap (λ (c : Core Link). record c { tickets = with_ticket t to_connect c.tickets }) begun
+
+    below : i.lent.id < stage.core.next_conn
+    below = (idle-first stage.core sound i a.rest a.idle).below
+
+    other : (i.lent.id == stage.core.next_conn) ≡ false
+    other = ne_eqb i.lent.id stage.core.next_conn (λ e. absurd (omega (arith, below, e)))
+
+    too : (stage.core.next_conn == i.lent.id) ≡ false
+    too = ne_eqb stage.core.next_conn i.lent.id (λ e. absurd (omega (arith, below, e)))

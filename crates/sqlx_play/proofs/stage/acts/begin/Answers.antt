@@ -1,0 +1,36 @@
+use Rattle.std.proofs.Common.{◌≡◌, ℕ, suc, ◌+◌, Some, refl, sym, ap, ◌∙◌, arith}
+use Rattle.mem_driver.specs.declared.statement.Statement.TheVariants.{Level as LevelOf}
+use Rattle.mem_driver.specs.declared.act.Act.TheVariants.{Level as Doing}
+use Rattle.sqlx_savepoints.specs.Texts.{begin_at, text_of}
+use Rattle.sqlx_savepoints.specs.declared.level_text.LevelText.{LevelText}
+use Rattle.sqlx_script.specs.declared.reply.Reply.TheVariants.{Level}
+use Rattle.sqlx_play.specs.declared.stage.acts.Act.TheVariants.{Begin}
+use Rattle.sqlx_play.proofs.LinkOutcomes.{met-ran, met-refused, begin-held, begin-low}
+use Rattle.sqlx_play.proofs.stage.acts.begin.Goals as goal
+
+pub overflow_add-result : goal.overflow_add-result
+overflow_add-result c =
+    let s = c.args.session.now in
+    let e : c.depth-depth.result ≡ s.link.depth = c.depth-depth.ensures in
+    let text : c.as_str.result.now ≡ text_of (begin_at s.link.depth) = c.as_str.ensures ∙ c.in-Ok.ensures ∙ ap (λ d. text_of (begin_at d)) e in
+    let o = rw c.in-Ok-Ran.field-0-is at (c.in-Ok-Ran.ensures.ok (Some (LevelOf (begin_at s.link.depth))) (Doing (begin_at s.link.depth)) (begin-held s.link.depth (omega arith), text) refl) in
+    omega (arith, begin-low s o.0)
+
+pub returns-in-Ok-Ran-clause-ok : goal.returns-in-Ok-Ran-clause-ok
+returns-in-Ok-Ran-clause-ok c =
+    let s = c.args.session.now in
+    let e : c.depth-depth.result ≡ s.link.depth = c.depth-depth.ensures in
+    let text : c.as_str.result.now ≡ text_of (begin_at s.link.depth) = c.as_str.ensures ∙ c.in-Ok.ensures ∙ ap (λ d. text_of (begin_at d)) e in
+    let o = rw c.in-Ok-Ran.field-0-is at (c.in-Ok-Ran.ensures.ok (Some (LevelOf (begin_at s.link.depth))) (Doing (begin_at s.link.depth)) (begin-held s.link.depth (omega arith), text) refl) in
+    let m = met-ran Begin s c.run_text.new.session c.in-Ok-Ran.field-0-0 o in
+    let more : c.depth-depth.result + 1 ≡ suc s.link.depth = omega (arith, e) in
+    (ap (λ n. Level n c.begin_at.result) more ∙ ap (λ (t : LevelText). Level (suc s.link.depth) t) (c.begin_at.ensures ∙ ap begin_at e) ∙ m.0, m.1)
+
+pub returns-in-Ok-Refused-clause-ok : goal.returns-in-Ok-Refused-clause-ok
+returns-in-Ok-Refused-clause-ok c =
+    let s = c.args.session.now in
+    let e : c.depth-depth.result ≡ s.link.depth = c.depth-depth.ensures in
+    let text : c.as_str.result.now ≡ text_of (begin_at s.link.depth) = c.as_str.ensures ∙ c.in-Ok.ensures ∙ ap (λ d. text_of (begin_at d)) e in
+    let o = rw c.in-Ok-Refused.field-0-is at (c.in-Ok-Refused.ensures.ok (Some (LevelOf (begin_at s.link.depth))) (Doing (begin_at s.link.depth)) (begin-held s.link.depth (omega arith), text) refl) in
+    let m = met-refused Begin s c.run_text.new.session c.in-Ok-Refused.reply o in
+    (m.0, o.1 ∙ m.1)

@@ -1,0 +1,27 @@
+use Rattle.std.proofs.Common.{sym, subst, []}
+use Rattle.std.proofs.lemmas.List.Elements.{All-nil, All-same}
+use Rattle.sqlx_pool_core.specs.StandsFor.{StandsFor}
+use Rattle.sqlx_pool_core.specs.FairLog.{IsFair}
+use Rattle.mem_driver.specs.Driver.{Store}
+use Rattle.sqlx_play.specs.StageStands.{IsSetUp, IsTried}
+use Rattle.sqlx_play.specs.LinksStand.{LinksStand}
+use Rattle.sqlx_play.proofs.Stages.{marks_of-nil, tickets-nil, held-nil, idle-nil}
+use Rattle.sqlx_play.proofs.Pairs.{history_of-nil, tries_of-nil}
+use Rattle.sqlx_play.proofs.LinksSame.{links-none}
+use Rattle.sqlx_play.proofs.stage.new_stage.Goals as goal
+
+pub returns-in-Ok-clause-stands : goal.returns-in-Ok-clause-stands
+returns-in-Ok-clause-stands c =
+    let core = c.in-Ok.core in
+    let stands = c.in-Ok.ensures.stands in
+    record {
+      stands = subst (StandsFor core) (sym (marks_of-nil c.args.pool)) stands;
+      fair = subst (IsFair c.args.pool.max []) (sym (marks_of-nil c.args.pool)) tt;
+      set_up = subst (IsSetUp c.args.pool) (sym c.in-Ok.ensures.options) c.options_of.ensures;
+      places = c.in-Ok.ensures.places;
+      tried = All-same (IsTried []) core.tickets [] (tickets-nil core stands) (All-nil (IsTried []));
+      untried = λ t h. tries_of-nil t;
+      links = subst (LinksStand core c.new-in-Ok.result c.new-in-Ok-2.result.items) (sym (history_of-nil c.args.pool))
+          (subst (λ (store : Store). LinksStand core store c.new-in-Ok-2.result.items []) (sym c.new-in-Ok.ensures)
+          (links-none core c.new-in-Ok-2.result.items (held-nil core stands) (idle-nil core stands) c.new-in-Ok-2.ensures.items));
+    }

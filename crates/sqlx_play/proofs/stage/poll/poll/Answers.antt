@@ -1,0 +1,183 @@
+use Rattle.std.proofs.Common.{◌≡◌, ℕ, ◌^◌, ◌≤◌, Bool, cond, List, [], ◌∷◌, ◌++◌, Some, Ok, Err, IfOk, OnOk, Result, max, refl, sym, ap, subst, ◌∙◌}
+use Rattle.std.proofs.Math.Nat.{max-eq_right}
+use Rattle.sqlx_pool_core.specs.declared.mark.Mark.{Mark}
+use Rattle.sqlx_pool_core.specs.declared.ticket.Ticket.{Ticket}
+use Rattle.sqlx_pool_core.specs.Core.{Core, ticket_of}
+use Rattle.sqlx_pool_core.specs.Edits.{with_ticket, to_connect}
+use Rattle.sqlx_pool_core.specs.PollSteps.{phase_for, tested_at, start_answer, started}
+use Rattle.mem_driver.specs.Driver.{Link}
+use Rattle.sqlx_pool_core.specs.declared.mark.Mark.TheVariants as mark
+use Rattle.sqlx_pool_core.specs.declared.steps.Idle.{Idle}
+use Rattle.sqlx_pool_core.specs.declared.steps.Start.TheVariants as start
+use Rattle.sqlx_pool_core.specs.OwnTurn.{own_turn}
+use Rattle.sqlx_pool_core.specs.Sound.{IsSound}
+use Rattle.sqlx_script.specs.declared.step.Event.{Event}
+use Rattle.sqlx_play.specs.declared.stage.Stage.{Stage}
+use Rattle.sqlx_play.specs.StageStands.{StageStands}
+use Rattle.sqlx_script.specs.declared.reply.Reply.{Reply}
+use Rattle.sqlx_script.specs.declared.reply.Reply.TheVariants.{NotHeld, PoolClosed, PoolTimedOut, Waiting, Backoff, Ready}
+use Rattle.sqlx_play.specs.Answer.{answer}
+use Rattle.sqlx_play.specs.ScriptMarks.{marks_of, leaving, waits}
+use Rattle.sqlx_play.proofs.Pairs.{tries_of-push}
+use Rattle.sqlx_play.proofs.Passing.{stays-standing, ends-standing}
+use Rattle.sqlx_play.proofs.PollTurns.{at-test, at-connect, at-backoff, is-tested, is-refused, is-trying}
+use Rattle.sqlx_play.proofs.PollReplies.{connecting, poll-reply}
+use Rattle.sqlx_play.proofs.Polls.{pair_of, at-connect-connects, refused-connects}
+use Rattle.sqlx_play.proofs.PollPlays.{few-conns, own-now, early-stands, Calls, connect-event, lend-event}
+use Rattle.sqlx_play.proofs.stage.poll.poll.Goals as goal
+
+pub connect-requires-clause-connecting : goal.connect-requires-clause-connecting
+connect-requires-clause-connecting c =
+    let core = c.args.stage.now.core in
+    let m = max core.last c.args.moment.0 in
+    let a = at-connect core c.args.client c.args.ticket m c.in-Connect.ensures.own in
+    ap (λ (n : Core Link). phase_for c.args.client c.args.ticket n.tickets) c.in-Connect.ensures.becomes ∙ is-trying c.args.client c.args.ticket m core.tickets a.x a.found
+
+pub lend-requires-clause-tested : goal.lend-requires-clause-tested
+lend-requires-clause-tested c =
+    let core = c.args.stage.now.core in
+    let m = max core.last c.args.moment.0 in
+    let i = c.in-Test.idle in
+    let a = at-test core c.args.client c.args.ticket m i c.in-Test.ensures.own in
+    ap (λ (n : Core Link). tested_at i.lent.id (phase_for c.args.client c.args.ticket n.tickets)) c.in-Test.ensures.becomes ∙ is-tested c.args.client c.args.ticket m i core.tickets a.x a.found
+
+pub refuse-requires-clause-tested : goal.refuse-requires-clause-tested
+refuse-requires-clause-tested c =
+    let core = c.args.stage.now.core in
+    let m = max core.last c.args.moment.0 in
+    let i = c.in-Test.idle in
+    let a = at-test core c.args.client c.args.ticket m i c.in-Test.ensures.own in
+    ap (λ (n : Core Link). tested_at i.lent.id (phase_for c.args.client c.args.ticket n.tickets)) c.in-Test.ensures.becomes ∙ is-tested c.args.client c.args.ticket m i core.tickets a.x a.found
+
+pub connect-requires-in-Test-clause-connecting : goal.connect-requires-in-Test-clause-connecting
+connect-requires-in-Test-clause-connecting c =
+    let core = c.args.stage.now.core in
+    let m = max core.last c.args.moment.0 in
+    let i = c.in-Test.idle in
+    let a = at-test core c.args.client c.args.ticket m i c.in-Test.ensures.own in
+    ap (λ (n : Core Link). phase_for c.args.client c.args.ticket n.tickets) c.refuse.ensures.becomes
+    ∙ ap (λ (n : Core Link). phase_for c.args.client c.args.ticket (with_ticket c.args.ticket to_connect n.tickets)) c.in-Test.ensures.becomes
+    ∙ is-refused c.args.client c.args.ticket m i core.tickets a.x a.found
+
+pub returns-in-NotHeld-clause-ok : goal.returns-in-NotHeld-clause-ok
+unfolding answer
+returns-in-NotHeld-clause-ok c pairs s =
+    let stage = c.args.stage.now in
+    let pair = pair_of c.args.moment c.args.client c.args.ticket c.args.answers NotHeld in (
+      poll-reply stage pairs s c.args.client c.args.ticket c.args.moment.0 c.args.answers (few-conns stage c.requires.numbers) _ (own-now stage.core c.args.client c.args.ticket c.args.moment.0 _ c.requires.in_order c.in-NotHeld.ensures.own),
+      stays-standing stage pairs pair s (λ u. tries_of-push u pairs pair) refl _ c.in-NotHeld.ensures.becomes refl,
+    )
+
+pub returns-in-Waiting-clause-ok : goal.returns-in-Waiting-clause-ok
+unfolding answer
+returns-in-Waiting-clause-ok c pairs s =
+    let stage = c.args.stage.now in
+    let pair = pair_of c.args.moment c.args.client c.args.ticket c.args.answers Waiting in (
+      poll-reply stage pairs s c.args.client c.args.ticket c.args.moment.0 c.args.answers (few-conns stage c.requires.numbers) _ (own-now stage.core c.args.client c.args.ticket c.args.moment.0 _ c.requires.in_order c.in-Waiting.ensures.own),
+      stays-standing stage pairs pair s (λ u. tries_of-push u pairs pair) refl _ c.in-Waiting.ensures.becomes refl,
+    )
+
+pub returns-in-Closed-clause-ok : goal.returns-in-Closed-clause-ok
+unfolding answer
+returns-in-Closed-clause-ok c pairs s =
+    let stage = c.args.stage.now in
+    let pair = pair_of c.args.moment c.args.client c.args.ticket c.args.answers PoolClosed in (
+      poll-reply stage pairs s c.args.client c.args.ticket c.args.moment.0 c.args.answers (few-conns stage c.requires.numbers) _ (own-now stage.core c.args.client c.args.ticket c.args.moment.0 _ c.requires.in_order c.in-Closed.ensures.own),
+      ends-standing stage pairs pair s (λ u. tries_of-push u pairs pair) refl _ c.args.ticket _ c.in-Closed.ensures.becomes refl (c.in-Closed.ensures.makes _ s.stands),
+    )
+
+pub returns-in-TimedOut-clause-ok : goal.returns-in-TimedOut-clause-ok
+unfolding answer
+returns-in-TimedOut-clause-ok c pairs s =
+    let stage = c.args.stage.now in
+    let pair = pair_of c.args.moment c.args.client c.args.ticket c.args.answers PoolTimedOut in (
+      poll-reply stage pairs s c.args.client c.args.ticket c.args.moment.0 c.args.answers (few-conns stage c.requires.numbers) _ (own-now stage.core c.args.client c.args.ticket c.args.moment.0 _ c.requires.in_order c.in-TimedOut.ensures.own),
+      ends-standing stage pairs pair s (λ u. tries_of-push u pairs pair) refl _ c.args.ticket _ c.in-TimedOut.ensures.becomes refl (c.in-TimedOut.ensures.makes _ s.stands),
+    )
+
+pub returns-in-Backoff-clause-ok : goal.returns-in-Backoff-clause-ok
+unfolding answer
+returns-in-Backoff-clause-ok c pairs s =
+    let stage = c.args.stage.now in
+    let own = own-now stage.core c.args.client c.args.ticket c.args.moment.0 _ c.requires.in_order c.in-Backoff.ensures.own in (
+      poll-reply stage pairs s c.args.client c.args.ticket c.args.moment.0 c.args.answers (few-conns stage c.requires.numbers) _ own,
+      early-stands stage _ pairs c.args.moment c.args.client c.args.ticket _ c.args.answers s (at-backoff stage.core c.args.client c.args.ticket c.args.moment.0 _ own) c.in-Backoff.ensures.becomes,
+    )
+
+pub returns-in-Connect-clause-ok : goal.returns-in-Connect-clause-ok
+returns-in-Connect-clause-ok c =
+    connect-event stage (record stage { core = c.start.new.self }) c.connect.new.stage c.args.moment k t c.args.answers few sound called c.connect.result
+    c.connect.ensures.answer c.connect.ensures.makes c.connect.ensures.becomes c.connect.ensures.links c.connect.ensures.pool
+  where
+    stage : Stage
+    stage = c.args.stage.now
+
+    k : ℕ
+    k = c.args.client
+
+    t : ℕ
+    t = c.args.ticket
+
+    few : stage.core.next_conn ≤ 2 ^ 63
+    few = few-conns stage c.requires.numbers
+
+    sound : IsSound stage.core
+    sound = c.moment-moment.ensures.sound
+
+    own : start.Connect ≡ start_answer (own_turn stage.core k t c.args.moment.0) stage.core.idle
+    own = own-now stage.core k t c.args.moment.0 start.Connect c.requires.in_order c.in-Connect.ensures.own
+
+    called : (pairs : List (Event × Reply)) (s : StageStands stage pairs) → Calls stage (record stage { core = c.start.new.self }) pairs s k t c.args.moment.0 c.args.answers few
+    called pairs s = record {
+      made = leaving t (waits k t (marks_of stage.pool pairs));
+      connecting_is = at-connect-connects stage c.start.new.self pairs k t c.args.moment.0 s sound (at-connect stage.core k t c.args.moment.0 own)
+          (c.in-Connect.ensures.becomes ∙ ap (λ (m : ℕ). started t m start.Connect stage.core) (max-eq_right c.requires.in_order)) (c.in-Connect.ensures.makes (marks_of stage.pool pairs) s.stands);
+      calls = poll-reply stage pairs s k t c.args.moment.0 c.args.answers few start.Connect own;
+    }
+
+pub returns-then-passes-clause-ok : goal.returns-then-passes-clause-ok
+returns-then-passes-clause-ok c =
+    let stage = c.args.stage.now in
+    let own = own-now stage.core c.args.client c.args.ticket c.args.moment.0 (start.Test c.in-Test.idle) c.requires.in_order c.in-Test.ensures.own in
+    lend-event stage c.lend.new.stage c.start.new.self c.args.moment c.args.client c.args.ticket (max stage.core.last c.args.moment.0) c.args.answers c.in-Test.idle (few-conns stage c.requires.numbers) c.moment-moment.ensures.sound
+    (at-test stage.core c.args.client c.args.ticket c.args.moment.0 c.in-Test.idle own) own (sym c.if-passes.true ∙ c.passes.ensures)
+    c.in-Test.ensures.becomes c.lend.ensures.becomes c.lend.ensures.store c.lend.ensures.pool c.in-Test.ensures.makes c.lend.ensures.makes c.lend.result c.lend.ensures.answer c.lend.ensures.lent
+
+pub returns-else-passes-clause-ok : goal.returns-else-passes-clause-ok
+returns-else-passes-clause-ok c =
+    connect-event stage c.refuse.new.stage c.connect-in-Test.new.stage c.args.moment k t c.args.answers few sound called c.connect-in-Test.result
+    c.connect-in-Test.ensures.answer c.connect-in-Test.ensures.makes c.connect-in-Test.ensures.becomes c.connect-in-Test.ensures.links c.connect-in-Test.ensures.pool
+  where
+    stage : Stage
+    stage = c.args.stage.now
+
+    k : ℕ
+    k = c.args.client
+
+    t : ℕ
+    t = c.args.ticket
+
+    i : Idle Link
+    i = c.in-Test.idle
+
+    few : stage.core.next_conn ≤ 2 ^ 63
+    few = few-conns stage c.requires.numbers
+
+    sound : IsSound stage.core
+    sound = c.moment-moment.ensures.sound
+
+    own : start.Test i ≡ start_answer (own_turn stage.core k t c.args.moment.0) stage.core.idle
+    own = own-now stage.core k t c.args.moment.0 (start.Test i) c.requires.in_order c.in-Test.ensures.own
+
+    called : (pairs : List (Event × Reply)) (s : StageStands stage pairs) → Calls stage c.refuse.new.stage pairs s k t c.args.moment.0 c.args.answers few
+    called pairs s =
+        let marks = marks_of stage.pool pairs in
+        let first = c.in-Test.ensures.makes marks s.stands in
+        record {
+          made = mark.Left t ∷ mark.Taken i.lent.id ∷ mark.Closed i.lent.id ∷ [];
+          connecting_is = refused-connects stage c.refuse.new.stage c.start.new.self pairs k t c.args.moment.0 i s sound (at-test stage.core k t c.args.moment.0 i own)
+              (c.in-Test.ensures.becomes ∙ ap (λ (m : ℕ). started t m (start.Test i) stage.core) (max-eq_right c.requires.in_order))
+              c.refuse.ensures.becomes c.refuse.ensures.store c.refuse.ensures.lent c.refuse.ensures.pool first (c.refuse.ensures.makes _ first.stands);
+          calls = ap (λ (b : Bool). cond b (Ready i.lent.id) (connecting stage pairs s k t c.args.moment.0 c.args.answers few (ticket_of k t stage.core.tickets))) (sym c.if-passes.false ∙ c.passes.ensures)
+              ∙ poll-reply stage pairs s k t c.args.moment.0 c.args.answers few (start.Test i) own;
+        }

@@ -1,0 +1,6 @@
+use Rattle.sqlx_play.proofs.StatementStands.{statement-plays_if}
+use Rattle.sqlx_play.proofs.stage.statements.play.Goals as goal
+
+pub returns-clause-ok : goal.returns-clause-ok
+returns-clause-ok c =
+    statement-plays_if c.args.stage.now c.run.new.stage c.args.event.now c.in-Some.statement c.run.result c.run.ensures.sound c.in-Some.ensures.some c.in-Some.ensures.met c.run.ensures.core c.run.ensures.pool c.run.ensures.ok

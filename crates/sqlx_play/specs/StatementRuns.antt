@@ -1,0 +1,72 @@
+-- What a statement of a script does on a stage, by the database's statement.
+use Rattle.std.specs.Prelude.{◌≡◌, ℕ, ◌==◌, ◌⊎◌, Bool, true, false, is_some, List, [], ◌∷◌, ◌++◌, length}
+use Rattle.std.specs.List.{list_any}
+use Rattle.sqlx_pool_core.specs.declared.steps.Lent.{Lent}
+use Rattle.sqlx_pool_core.specs.Core.{loan_of}
+use Rattle.mem_driver.specs.Driver.{Store, Link, Session}
+use Rattle.sqlx_script.specs.declared.step.Step.{Step}
+use Rattle.sqlx_script.specs.declared.step.Step.TheVariants.{Begin, Custom, Put, Del, Get, Commit, Rollback, GiveUp}
+use Rattle.sqlx_script.specs.declared.reply.Reply.{Reply}
+use Rattle.sqlx_script.specs.declared.reply.Reply.TheVariants.{NotHeld}
+use Rattle.sqlx_play.specs.declared.stage.Stage.{Stage}
+use Rattle.sqlx_play.specs.declared.stage.statements.Statement.{Statement}
+use Rattle.sqlx_play.specs.ScriptLevels as levels
+use Rattle.sqlx_play.specs.ScriptLevels.{met_of}
+use Rattle.sqlx_play.specs.LinkActs.{act_on, answer_for, reply_on, left_by}
+
+-- the statement as brackets see it
+abbrev pub said : Statement → levels.Statement
+said s = record { client = s.client; conn = s.connection; act = act_on s.connection s.act; met = met_of s.answer }
+
+-- whether the step is a statement
+abbrev pub acts : Step → Bool
+acts (Begin client connection answer) = true
+acts (Custom client connection begins answer) = true
+acts (Put client connection key value answer) = true
+acts (Del client connection key answer) = true
+acts (Get client connection key answer) = true
+acts (Commit client connection answer) = true
+acts (Rollback client connection answer) = true
+acts (GiveUp client connection) = true
+acts other = false
+
+abbrev pub is_lent_id : ℕ → Lent Link → Bool
+is_lent_id id l = id == l.id
+
+-- the connection was taken out of the list, where it stood behind so many others
+pub record IsTakenOut (id at : ℕ) (l : Lent Link) (old new : List (Lent Link)) : Type 0 where
+  pub before : List (Lent Link)
+  pub after : List (Lent Link)
+  pub old_is : old ≡ before ++ l ∷ after
+  pub new_is : new ≡ before ++ after
+  pub at_is : at ≡ length before
+  pub is : l.id ≡ id
+
+-- the link at work, and the session that its act leaves
+abbrev pub at_work : Store → Link → Statement → Session
+at_work store link s = record { store = store; link = link; answer = answer_for s.answer }
+
+abbrev pub left_at : Store → Link → Statement → Session
+left_at store link s = left_by s.act (at_work store link s)
+
+-- The client's connection did the act, on its link.
+pub record RunsOnLink (old new : Stage) (s : Statement) (reply : Reply) : Type 0 where
+  pub before : List (Lent Link)
+  pub own : Lent Link
+  pub after : List (Lent Link)
+  pub lent : old.lent.items ≡ before ++ own ∷ after
+  pub is : own.id ≡ s.connection
+  pub owned : is_some (loan_of s.client s.connection old.core.held) ≡ true
+  pub told : reply ≡ reply_on s.act (at_work old.store own.raw s)
+  pub store : new.store ≡ (left_at old.store own.raw s).store
+  pub links : new.lent.items ≡ before ++ record own { raw = (left_at old.store own.raw s).link } ∷ after
+
+-- The client has no such connection, and nothing changed.
+pub record RunsNot (old new : Stage) (s : Statement) (reply : Reply) : Type 0 where
+  pub told : reply ≡ NotHeld
+  pub store : new.store ≡ old.store
+  pub links : new.lent.items ≡ old.lent.items
+  pub cause : (is_some (loan_of s.client s.connection old.core.held) ≡ false) ⊎ (list_any (is_lent_id s.connection) old.lent.items ≡ false)
+
+abbrev pub Runs : Stage → Stage → Statement → Reply → Type 0
+Runs old new s reply = RunsOnLink old new s reply ⊎ RunsNot old new s reply

@@ -1,0 +1,70 @@
+//! What a play may answer in place of Ok, and the exit status of each answer.
+ghost use Rattle.std.specs.Prelude.{◌≡◌};
+ghost use Rattle.sqlx_play.specs.Status.{status_of};
+
+use std::alloc::AllocError;
+use std::error::Error;
+use std::fmt;
+
+/// Why a script wasn't played to its end.
+#[derive(Clone, Copy, Debug, PartialEq, Eq)]
+pub enum PlayError {
+    /// The words of the command line are none that the program knows.
+    Usage,
+    /// The source has more bytes than a script may have.
+    ScriptTooLong,
+    /// The first bad line, by its number from 1 on.
+    ScriptLine(u64),
+    /// The source failed.
+    ReadFault,
+    /// The sink failed.
+    WriteFault,
+    /// Want of memory.
+    OutOfMemory,
+}
+
+impl fmt::Display for PlayError {
+    ghost use Rattle.std.specs.Prelude.{Some};
+    ghost use Rattle.sqlx_play.specs.Status.{error_text};
+
+    ghost output = { λ error. Some (error_text error) };
+
+    fn fmt<W: fmt::Write>(&self, f: &mut fmt::Formatter<W>) -> fmt::Result {
+        match self {
+            PlayError::Usage => f.write_str("usage: sqlx_play [make N X | crowd W N M]"),
+            PlayError::ScriptTooLong => f.write_str("script too long"),
+            PlayError::ScriptLine(number) => write!(f, "script line {number}"),
+            PlayError::ReadFault => f.write_str("read fault"),
+            PlayError::WriteFault => f.write_str("write fault"),
+            PlayError::OutOfMemory => f.write_str("out of memory"),
+        }
+    }
+}
+
+impl Error for PlayError {}
+
+impl From<AllocError> for PlayError {
+    ghost use Rattle.std.specs.Prelude.{◌≡◌};
+    ghost use Rattle.sqlx_play.specs.declared.error.PlayError.TheVariants.{OutOfMemory as out_of_memory};
+
+    ghost from_gives = { λ _ e. e ≡ out_of_memory };
+
+    fn from(_refused: AllocError) -> PlayError {
+        PlayError::OutOfMemory
+    }
+}
+
+/// The exit status of an answer.
+pub fn status(answer: &Result<(), PlayError>) -> u8
+    ensures { result ≡ status_of answer.now }
+{
+    match answer {
+        Ok(()) => 0,
+        Err(PlayError::Usage) => 2,
+        Err(PlayError::ScriptTooLong) => 3,
+        Err(PlayError::ScriptLine(_)) => 4,
+        Err(PlayError::ReadFault) => 5,
+        Err(PlayError::WriteFault) => 6,
+        Err(PlayError::OutOfMemory) => 7,
+    }
+}

@@ -1,0 +1,204 @@
+//! Plays a script.
+ghost use Rattle.std.specs.Prelude.{◌≡◌, true, ◌≢◌, ◌+◌, ◌*◌, ◌^◌, ◌<◌, ◌≤◌, ◌↔◌, ℕ, List, [], ◌∷◌, ◌++◌, length, IfOk, IfErr, IfSome, OnOk, IsErrOf, IsOkUnless};
+ghost use Rattle.std.specs.Io.KnownBytes.{Appends};
+ghost use Rattle.sqlx_script.specs.declared.step.Event.{Event};
+ghost use Rattle.sqlx_script.specs.declared.reply.Reply.{Reply};
+ghost use Rattle.sqlx_script.specs.Texts.{reply_text, line_of};
+ghost use Rattle.sqlx_script.specs.Built.{is_built};
+ghost use Rattle.sqlx_script.specs.Grammar.{Script, script_of, limit};
+ghost use Rattle.sqlx_play.specs.Answer.{answer};
+ghost use Rattle.sqlx_play.specs.StageStands.{StageStands, last_of, numbers_of};
+ghost use Rattle.sqlx_play.specs.Output.{output_due};
+ghost use Rattle.sqlx_play.specs.Headline.{TookAll, WrotePart, TextCause, PlaysLines, StopsAt, lines_text, Plays, Answers, StopsText, PlayCause, IsSound, shown};
+
+use crate::error::PlayError;
+use crate::io::{Sink, Source};
+use crate::pour::{read_all, write_all};
+use crate::stage::{Stage, answer, new_stage, report};
+use mem_driver::{MemLink, MemStore};
+use sqlx_pool_core::PoolCore;
+use sqlx_script::{Event, cut_line, read_event, read_pool_line};
+use std::alloc::Global;
+use std::fmt::Display;
+
+/// What a script left: the pool's core and the database that it was played on.
+#[derive(Drop)]
+pub struct Played {
+    pub core: PoolCore<MemLink>,
+    pub store: MemStore,
+}
+
+// Writes a value's text and a newline, by one call if the sink takes it whole.
+#[tactic(auto, using(crate::proofs::Parts::none_yet))]
+fn write_line<K: Sink, T: Display>(alloc: Global, sink: &mut K, value: &T) -> Result<(), PlayError>
+    ensures ok { OnOk result (IfSome (T.output value.now) (λ text. Appends (K.written sink.old) (K.written sink.new) (line_of text))) }
+    ensures rises { K.faults sink.old ≤ K.faults sink.new }
+    ensures cause { IfErr result (TextCause (λ _. ⊥) (IfSome (T.output value.now) (λ text. WrotePart (K.written sink.old) (K.written sink.new) (line_of text)))
+        (K.faults sink.old) (K.faults sink.new)) }
+{
+    let line = format!(in alloc; "{value}\n")?;
+    write_all(sink, line.as_bytes())
+}
+
+// Plays an event and writes its reply.
+#[tactic(auto, using(crate::proofs::Parts::none_yet))]
+fn play_event<K: Sink>(
+    alloc: Global,
+    stage: &mut Stage,
+    event: &Event,
+    sink: &mut K,
+) -> Result<(), PlayError>
+    requires built { is_built event.now.step ≡ true }
+    requires numbers { numbers_of stage.old ≤ 2 ^ 62 }
+    requires in_order { last_of stage.old ≤ event.now.moment.0 }
+    ensures ok { OnOk result ((pairs : List (Event × Reply)) → StageStands stage.old pairs →
+        Appends (K.written sink.old) (K.written sink.new) (line_of (reply_text (answer stage.old.pool pairs event.now)))
+        × StageStands stage.new (pairs ++ (event.now, answer stage.old.pool pairs event.now) ∷ [])) }
+    ensures pool { stage.new.pool ≡ stage.old.pool }
+    ensures last { last_of stage.new ≤ event.now.moment.0 }
+    ensures used { numbers_of stage.new ≤ numbers_of stage.old + 2 ^ 20 }
+    ensures rises { K.faults sink.old ≤ K.faults sink.new }
+    ensures cause { IfErr result (TextCause (λ _. ⊥) ((pairs : List (Event × Reply)) → StageStands stage.old pairs →
+        WrotePart (K.written sink.old) (K.written sink.new) (line_of (reply_text (answer stage.old.pool pairs event.now))))
+        (K.faults sink.old) (K.faults sink.new)) }
+{
+    let reply = answer(stage, alloc, event)?;
+    write_line(alloc, sink, &reply)
+}
+
+// Plays the lines after the first.
+fn play_lines<K: Sink>(
+    alloc: Global,
+    stage: &mut Stage,
+    text: &[u8],
+    sink: &mut K,
+) -> Result<(), PlayError>
+    requires stands { StageStands stage.old [] }
+    requires last { last_of stage.old ≡ 0 }
+    requires numbers { numbers_of stage.old ≤ 2 }
+    requires short { length text.now ≤ limit }
+    ensures ok { OnOk result (PlaysLines text.now stage.old.pool (K.written sink.old) (K.written sink.new) stage.new) }
+    ensures pool { stage.new.pool ≡ stage.old.pool }
+    ensures rises { K.faults sink.old ≤ K.faults sink.new }
+    ensures cause { IfErr result (TextCause (StopsAt text.now stage.old.pool (K.written sink.old) (K.written sink.new))
+        (WrotePart (K.written sink.old) (K.written sink.new) (lines_text stage.old.pool text.now)) (K.faults sink.old) (K.faults sink.new)) }
+{
+    let mut rest = text;
+    let mut last: u64 = 0;
+    let mut number: u64 = 2;
+    while !rest.is_empty() {
+        let (line, after) = cut_line(rest);
+        let event = match read_event(line) {
+            Some(event) if event.moment.0 >= last => event,
+            _ => return Err(PlayError::ScriptLine(number)),
+        };
+        if let Err(error) = play_event(alloc, stage, &event, sink) {
+            return Err(error);
+        }
+        rest = after;
+        last = event.moment.0;
+        number += 1;
+    }
+    Ok(())
+}
+
+// Plays a script that was read whole.
+fn play_text<K: Sink>(alloc: Global, text: &[u8], sink: &mut K) -> Result<Played, PlayError>
+    requires { length text.now ≤ limit }
+    ensures ok { IfOk result (λ played. Plays text.now (K.written sink.old) (K.written sink.new) played.core played.store) }
+    ensures rises { K.faults sink.old ≤ K.faults sink.new }
+    ensures cause { IfErr result (TextCause (StopsText text.now (K.written sink.old) (K.written sink.new))
+        (WrotePart (K.written sink.old) (K.written sink.new) (output_due (script_of text.now))) (K.faults sink.old) (K.faults sink.new)) }
+{
+    if text.is_empty() {
+        return Err(PlayError::ScriptLine(1));
+    }
+    let (line, rest) = cut_line(text);
+    let Some(pool) = read_pool_line(line) else {
+        return Err(PlayError::ScriptLine(1));
+    };
+    let mut stage = match new_stage(alloc, pool) {
+        Ok(stage) => stage,
+        Err(error) => return Err(error),
+    };
+    if let Err(error) = play_lines(alloc, &mut stage, rest, sink) {
+        return Err(error);
+    }
+    if let Err(error) = write_line(alloc, sink, &report(&stage)) {
+        return Err(error);
+    }
+    let Stage { core, store, .. } = stage;
+    Ok(Played { core, store })
+}
+
+// Reads a script to its end and plays it.
+fn play_source<S: Source, K: Sink>(
+    alloc: Global,
+    source: &mut S,
+    sink: &mut K,
+) -> Result<Played, PlayError>
+    ensures ok { IfOk result (λ played. (bytes : List ℕ) × TookAll (S.left source.old) (S.left source.new) bytes
+        × Plays bytes (K.written sink.old) (K.written sink.new) played.core played.store) }
+    ensures reads_rise { S.faults source.old ≤ S.faults source.new }
+    ensures writes_rise { K.faults sink.old ≤ K.faults sink.new }
+    ensures cause { IfErr result (PlayCause (shown S.left S.faults source.old source.new K.written K.faults sink.old sink.new)) }
+{
+    let text = match read_all(alloc, source) {
+        Ok(text) => text,
+        Err(error) => return Err(error),
+    };
+    match play_text(alloc, &text, sink) {
+        Ok(played) => Ok(played),
+        Err(error) => Err(error),
+    }
+}
+
+/// Reads a script to its end, plays it, and writes each reply and the closing report.
+#[tactic(auto, using(crate::proofs::Complete::is_complete))]
+pub fn play<S: Source, K: Sink>(
+    alloc: Global,
+    source: &mut S,
+    sink: &mut K,
+) -> Result<Played, PlayError>
+    // All bytes were read, they are a script, and its output was written.
+    ensures ok { IfOk result (λ played. (bytes : List ℕ) × TookAll (S.left source.old) (S.left source.new) bytes
+        × Plays bytes (K.written sink.old) (K.written sink.new) played.core played.store) }
+    // Each other answer has its cause.
+    ensures cause { IfErr result (PlayCause (shown S.left S.faults source.old source.new K.written K.faults sink.old sink.new)) }
+    // A script that is read and written without a fault is played, unless memory runs out.
+    ensures complete { (bytes : List ℕ) (script : Script) → IsSound (shown S.left S.faults source.old source.new K.written K.faults sink.old sink.new) bytes script
+        → IsOkUnless result PlayError.OutOfMemory }
+    ensures reads_rise { S.faults source.old ≤ S.faults source.new }
+    ensures writes_rise { K.faults sink.old ≤ K.faults sink.new }
+{
+    play_source(alloc, source, sink)
+}
+
+/// What the program does with the words of its command line.
+pub fn run<S: Source, K: Sink>(
+    alloc: Global,
+    words: &[String],
+    source: &mut S,
+    sink: &mut K,
+) -> Result<(), PlayError>
+    // There were no words, all bytes were read, they are a script, and its output was written.
+    ensures ok { OnOk result ((words.now ≡ []) × (bytes : List ℕ) × TookAll (S.left source.old) (S.left source.new) bytes
+        × Answers bytes (K.written sink.old) (K.written sink.new)) }
+    // Any word is a wrong use: nothing is read or written.
+    ensures usage { IsErrOf result PlayError.Usage ↔ (words.now ≢ []) }
+    ensures unused { words.now ≢ [] → (S.left source.new ≡ S.left source.old) × (K.written sink.new ≡ K.written sink.old) }
+    // Without a word each other answer has its cause, and a script that is read and written without a fault is played, unless memory runs out.
+    ensures cause { words.now ≡ [] → IfErr result (PlayCause (shown S.left S.faults source.old source.new K.written K.faults sink.old sink.new)) }
+    ensures complete { words.now ≡ [] → (bytes : List ℕ) (script : Script) → IsSound (shown S.left S.faults source.old source.new K.written K.faults sink.old sink.new) bytes script
+        → IsOkUnless result PlayError.OutOfMemory }
+    ensures reads_rise { S.faults source.old ≤ S.faults source.new }
+    ensures writes_rise { K.faults sink.old ≤ K.faults sink.new }
+{
+    if !words.is_empty() {
+        return Err(PlayError::Usage);
+    }
+    match play(alloc, source, sink) {
+        Ok(_) => Ok(()),
+        Err(error) => Err(error),
+    }
+}

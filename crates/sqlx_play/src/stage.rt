@@ -1,0 +1,153 @@
+//! The pool and the database on which a script is played. The events stand in the modules below.
+ghost use Rattle.std.specs.Prelude.{◌≡◌, ◌+◌, ◌^◌, ◌≤◌, true, [], List, IfOk, IfErr};
+ghost use Rattle.sqlx_script.specs.declared.step.Event.{Event};
+ghost use Rattle.sqlx_script.specs.declared.reply.Reply.{Reply};
+ghost use Rattle.sqlx_script.specs.Built.{is_built};
+ghost use Rattle.sqlx_play.specs.Answer.{report_of};
+ghost use Rattle.sqlx_play.specs.PlaysEvent.{PlaysEvent};
+ghost use Rattle.sqlx_play.specs.StageStands.{IsSetUp, StageStands, last_of, numbers_of};
+
+mod acts;
+mod ask;
+mod cancel;
+mod close;
+mod closed;
+mod fill;
+mod give;
+mod hand_over;
+mod leave;
+mod lent;
+mod min;
+mod poll;
+mod reap;
+mod statements;
+mod try_acquire;
+
+use crate::error::PlayError;
+use mem_driver::{MemLink, MemStore};
+use sqlx_pool_core::{Lent, PoolCore, PoolOptions};
+use sqlx_script::{Event, PoolLine, Reply, Report, Step};
+use std::alloc::Global;
+
+/// A pool over a database in memory, as a script's first line sets it up and its events left it.
+#[derive(Drop)]
+pub struct Stage {
+    pub pool: PoolLine,
+    pub core: PoolCore<MemLink>,
+    pub store: MemStore,
+    // The connections that clients own, in the order of lending.
+    pub lent: Vec<Lent<MemLink>>,
+}
+
+// The options that a first line sets up.
+fn options_of(pool: &PoolLine) -> PoolOptions
+    ensures { IsSetUp pool.now result }
+{
+    PoolOptions::new()
+        .max_connections(pool.max)
+        .min_connections(pool.min)
+        .acquire_timeout(pool.timeout)
+        .max_lifetime(pool.lifetime)
+        .idle_timeout(pool.idle)
+        .test_before_acquire(pool.test_before_acquire)
+        .after_connect(pool.after_connect)
+        .before_acquire(pool.before_acquire)
+        .after_release(pool.after_release)
+}
+
+/// The stage before the first event.
+pub fn new_stage(alloc: Global, pool: PoolLine) -> Result<Stage, PlayError>
+    requires some { 1 ≤ pool.max }
+    ensures stands { IfOk result (λ stage. StageStands stage []) }
+    ensures pool { IfOk result (λ stage. stage.pool ≡ pool) }
+    ensures last { IfOk result (λ stage. last_of stage ≡ 0) }
+    ensures numbers { IfOk result (λ stage. numbers_of stage ≤ 2) }
+    ensures memory { IfErr result (λ e. e ≡ PlayError.OutOfMemory) }
+{
+    match PoolCore::new(alloc, options_of(&pool)) {
+        Ok(core) => Ok(Stage {
+            pool,
+            core,
+            store: MemStore::new(alloc),
+            lent: Vec::new(alloc),
+        }),
+        Err(_) => Err(PlayError::OutOfMemory),
+    }
+}
+
+/// One event on the stage.
+pub fn answer(stage: &mut Stage, alloc: Global, event: &Event) -> Result<Reply, PlayError>
+    requires built { is_built event.now.step ≡ true }
+    requires numbers { numbers_of stage.old ≤ 2 ^ 62 }
+    requires in_order { last_of stage.old ≤ event.now.moment.0 }
+    ensures ok { IfOk result (PlaysEvent stage.old stage.new event.now) }
+    ensures pool { stage.new.pool ≡ stage.old.pool }
+    ensures last { last_of stage.new ≤ event.now.moment.0 }
+    ensures used { numbers_of stage.new ≤ numbers_of stage.old + 2 ^ 20 }
+    ensures memory { IfErr result (λ e. e ≡ PlayError.OutOfMemory) }
+{
+    match event.step {
+        Step::Ask { client } => ask::ask(stage, alloc, event.moment, client),
+        Step::Poll {
+            client,
+            ticket,
+            answers,
+        } => poll::poll(stage, alloc, event.moment, client, ticket, answers),
+        Step::Cancel { client, ticket } => cancel::cancel(stage, event.moment, client, ticket),
+        Step::Try { client } => try_acquire::try_acquire(stage, event.moment, client),
+        Step::Give {
+            client,
+            connection,
+            answers,
+            opens,
+        } => give::give(
+            stage,
+            alloc,
+            event.moment,
+            client,
+            connection,
+            answers,
+            opens,
+        ),
+        Step::End {
+            client,
+            connection,
+            opens,
+        } => leave::end(stage, alloc, event.moment, client, connection, opens),
+        Step::Detach {
+            client,
+            connection,
+            opens,
+        } => leave::detach(stage, alloc, event.moment, client, connection, opens),
+        Step::Leak {
+            client,
+            connection,
+            opens,
+        } => leave::leak(stage, alloc, event.moment, client, connection, opens),
+        Step::CloseState => Ok(closed::closed(stage, event.moment)),
+        Step::Close => Ok(close::close(stage, event.moment)),
+        Step::Min { opens } => min::min(stage, alloc, event.moment, opens),
+        Step::Reap { opens } => reap::reap(stage, alloc, event.moment, opens),
+        Step::Begin { .. }
+        | Step::Custom { .. }
+        | Step::Put { .. }
+        | Step::Del { .. }
+        | Step::Get { .. }
+        | Step::Commit { .. }
+        | Step::Rollback { .. }
+        | Step::GiveUp { .. } => statements::play(stage, alloc, event),
+    }
+}
+
+/// What the stage holds.
+#[tactic(auto, unfolding(crate::specs::Answer::report_of))]
+pub fn report(stage: &Stage) -> Report
+    ensures { (pairs : List (Event × Reply)) → StageStands stage.now pairs → result ≡ report_of stage.now.pool pairs }
+{
+    Report {
+        held: stage.core.num_held() as u64,
+        idle: stage.core.num_idle() as u64,
+        leaked: u64::from(stage.core.num_leaked()),
+        waiting: stage.core.num_tickets() as u64,
+    }
+}

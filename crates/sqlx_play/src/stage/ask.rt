@@ -1,0 +1,35 @@
+//! The event `ask`.
+ghost use Rattle.std.specs.Prelude.{◌≡◌, ◌+◌, ◌^◌, ◌≤◌, IfOk, IfErr};
+ghost use Rattle.sqlx_script.specs.declared.step.Step.{Step};
+ghost use Rattle.sqlx_play.specs.PlaysEvent.{PlaysEvent};
+ghost use Rattle.sqlx_play.specs.StageStands.{last_of, numbers_of};
+
+use super::Stage;
+use crate::error::PlayError;
+use sqlx_script::Reply;
+use sqlx_text::{Error, Moment};
+use std::alloc::Global;
+
+/// A client asks for a connection.
+#[tactic(auto, unfolding(crate::specs::Answer::answer))]
+pub fn ask(
+    stage: &mut Stage,
+    alloc: Global,
+    moment: Moment,
+    client: u32,
+) -> Result<Reply, PlayError>
+    requires numbers { numbers_of stage.old ≤ 2 ^ 62 }
+    requires in_order { last_of stage.old ≤ moment.0 }
+    ensures ok { IfOk result (PlaysEvent stage.old stage.new (record { moment = moment; step = Step.Ask client })) }
+    ensures pool { stage.new.pool ≡ stage.old.pool }
+    ensures last { last_of stage.new ≤ moment.0 }
+    ensures used { numbers_of stage.new ≤ numbers_of stage.old + 2 ^ 20 }
+    ensures memory { IfErr result (λ e. e ≡ PlayError.OutOfMemory) }
+{
+    match stage.core.ask(alloc, moment, client) {
+        Ok(number) => Ok(Reply::Ticket(number)),
+        Err(Error::PoolClosed) => Ok(Reply::PoolClosed),
+        Err(Error::OutOfMemory) => Err(PlayError::OutOfMemory),
+        Err(_) => unreachable!(),
+    }
+}

@@ -1,0 +1,38 @@
+//! The event `close`: the pool serves nobody any more, and its idle connections are closed.
+ghost use Rattle.std.specs.Prelude.{◌≡◌, ◌≤◌};
+ghost use Rattle.sqlx_script.specs.declared.step.Step.{Step};
+ghost use Rattle.sqlx_play.specs.Closes.{closed_all};
+ghost use Rattle.sqlx_play.specs.PlaysEvent.{PlaysEvent};
+ghost use Rattle.sqlx_play.specs.StageStands.{last_of, numbers_of};
+
+use super::Stage;
+use mem_driver::{MemLink, MemStore};
+use sqlx_pool_core::Idle;
+use sqlx_script::Reply;
+use sqlx_text::Moment;
+use std::collections::VecDeque;
+
+// Closes these connections.
+fn close_all(store: &mut MemStore, idle: &mut VecDeque<Idle<MemLink>>)
+    ensures { store.new ≡ closed_all idle.old.items store.old }
+{
+    while let Some(first) = idle.pop_front() {
+        store.close(first.lent.raw);
+    }
+}
+
+/// The pool serves nobody from now on, and its idle connections are closed. A second close changes nothing.
+#[tactic(auto, unfolding(crate::specs::Answer::answer))]
+pub fn close(stage: &mut Stage, moment: Moment) -> Reply
+    ensures ok { PlaysEvent stage.old stage.new (record { moment = moment; step = Step.Close }) result }
+    ensures pool { stage.new.pool ≡ stage.old.pool }
+    ensures last { last_of stage.new ≡ last_of stage.old }
+    ensures used { numbers_of stage.new ≡ numbers_of stage.old }
+{
+    // The core is sound.
+    let _moment = stage.core.moment(moment);
+    let mut idle = stage.core.close();
+    let count = idle.len() as u64;
+    close_all(&mut stage.store, &mut idle);
+    Reply::Closing(count)
+}

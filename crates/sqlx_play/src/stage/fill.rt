@@ -1,0 +1,52 @@
+//! Keeping the minimum: connections that are opened before any client asks.
+ghost use Rattle.std.specs.Prelude.{◌≡◌, ◌+◌, ◌^◌, ◌≤◌, IfOk, IfErr};
+ghost use Rattle.sqlx_play.specs.Fills.{OpensOne, Fills};
+ghost use Rattle.sqlx_play.specs.StageStands.{last_of, numbers_of};
+
+use super::Stage;
+use crate::error::PlayError;
+use sqlx_text::Moment;
+use std::alloc::Global;
+
+// Opens a connection, where the pool has too few.
+fn open_one(stage: &mut Stage, alloc: Global, moment: Moment) -> Result<bool, PlayError>
+    requires numbers { stage.old.core.next_conn ≤ 2 ^ 63 }
+    requires in_order { last_of stage.old ≤ moment.0 }
+    ensures ok { IfOk result (OpensOne stage.old stage.new moment.0) }
+    ensures pool { stage.new.pool ≡ stage.old.pool }
+    ensures last { last_of stage.new ≤ moment.0 }
+    ensures used { numbers_of stage.new ≤ numbers_of stage.old + 1 }
+    ensures memory { IfErr result (λ e. e ≡ PlayError.OutOfMemory) }
+{
+    if !stage.core.minimum_place() {
+        return Ok(false);
+    }
+    match stage.store.connect(alloc) {
+        Ok(link) => {
+            stage.core.minimum_done(moment, Some(link));
+            Ok(true)
+        }
+        Err(_) => Err(PlayError::OutOfMemory),
+    }
+}
+
+/// Opens connections up to the pool's minimum, as far as connects succeed: `opens` of them do.
+pub fn fill(stage: &mut Stage, alloc: Global, moment: Moment, opens: u32) -> Result<u64, PlayError>
+    requires numbers { numbers_of stage.old + opens ≤ 2 ^ 63 }
+    requires in_order { last_of stage.old ≤ moment.0 }
+    ensures ok { IfOk result (Fills stage.old stage.new moment.0 opens) }
+    ensures pool { stage.new.pool ≡ stage.old.pool }
+    ensures last { last_of stage.new ≤ moment.0 }
+    ensures used { numbers_of stage.new ≤ numbers_of stage.old + opens }
+    ensures memory { IfErr result (λ e. e ≡ PlayError.OutOfMemory) }
+{
+    let mut opened: u64 = 0;
+    for _ in 0..opens {
+        match open_one(stage, alloc, moment) {
+            Ok(true) => opened += 1,
+            Ok(false) => return Ok(opened),
+            Err(error) => return Err(error),
+        }
+    }
+    Ok(opened)
+}

@@ -1,0 +1,104 @@
+//! The event `give`: a client gives its connection back.
+ghost use Rattle.std.specs.Prelude.{◌≡◌, ◌+◌, ◌^◌, ◌≤◌, IfOk, IfErr};
+ghost use Rattle.sqlx_script.specs.declared.step.Step.{Step};
+ghost use Rattle.sqlx_play.specs.PlaysEvent.{PlaysEvent};
+ghost use Rattle.sqlx_play.specs.Returns.{lets_rest, Returns};
+ghost use Rattle.sqlx_play.specs.StageStands.{last_of, numbers_of};
+
+use super::Stage;
+use super::fill::fill;
+use super::lent::{place_of, put_lent};
+use crate::error::PlayError;
+use sqlx_pool_core::{Given, Lent};
+use sqlx_script::{GiveAnswers, HookAnswer, PoolLine, Reply};
+use sqlx_text::Moment;
+use std::alloc::Global;
+
+/// What became of a connection that was given back.
+#[derive(Clone, Copy, Debug, PartialEq, Eq)]
+pub enum Returned {
+    Kept,
+    Closed,
+    NotHeld,
+}
+
+// Whether the hook, the connection's depth and the ping let it rest.
+fn lets_rest(pool: &PoolLine, answers: GiveAnswers, depth: usize) -> bool
+    ensures { result ≡ lets_rest pool.now answers depth }
+{
+    (!pool.after_release || matches!(answers.after_release, HookAnswer::Accepts))
+        && depth == 0
+        && answers.ping
+}
+
+// Takes a connection back.
+fn take_back(
+    stage: &mut Stage,
+    moment: Moment,
+    client: u32,
+    conn: u64,
+    answers: GiveAnswers,
+) -> Result<Returned, PlayError>
+    requires in_order { last_of stage.old ≤ moment.0 }
+    ensures ok { IfOk result (Returns stage.old stage.new answers moment.0 client conn) }
+    ensures pool { stage.new.pool ≡ stage.old.pool }
+    ensures last { last_of stage.new ≤ moment.0 }
+    ensures used { numbers_of stage.new ≡ numbers_of stage.old }
+    ensures memory { IfErr result (λ e. e ≡ PlayError.OutOfMemory) }
+{
+    let now = stage.core.moment(moment);
+    let Some(at) = place_of(&stage.lent, conn) else {
+        return Ok(Returned::NotHeld);
+    };
+    let lent = stage.lent.remove(at);
+    let created = lent.created;
+    let accepted = lets_rest(&stage.pool, answers, lent.raw.depth());
+    match stage.core.give(client, lent, now, accepted) {
+        Given::Kept => Ok(Returned::Kept),
+        Given::Closed(raw) => {
+            stage.store.close(raw);
+            Ok(Returned::Closed)
+        }
+        Given::NotHeld(raw) => {
+            let lent = Lent {
+                id: conn,
+                created,
+                raw,
+            };
+            match put_lent(&mut stage.lent, at, lent) {
+                Ok(()) => Ok(Returned::NotHeld),
+                Err(error) => Err(error),
+            }
+        }
+    }
+}
+
+/// A client gives its connection back. Where it was closed, the minimum is kept.
+pub fn give(
+    stage: &mut Stage,
+    alloc: Global,
+    moment: Moment,
+    client: u32,
+    connection: u32,
+    answers: GiveAnswers,
+    opens: u32,
+) -> Result<Reply, PlayError>
+    requires numbers { numbers_of stage.old ≤ 2 ^ 62 }
+    requires in_order { last_of stage.old ≤ moment.0 }
+    requires few { opens ≤ 2 ^ 16 }
+    ensures ok { IfOk result (PlaysEvent stage.old stage.new (record { moment = moment; step = Step.Give client connection answers opens })) }
+    ensures pool { stage.new.pool ≡ stage.old.pool }
+    ensures last { last_of stage.new ≤ moment.0 }
+    ensures used { numbers_of stage.new ≤ numbers_of stage.old + 2 ^ 20 }
+    ensures memory { IfErr result (λ e. e ≡ PlayError.OutOfMemory) }
+{
+    match take_back(stage, moment, client, u64::from(connection), answers) {
+        Ok(Returned::Kept) => Ok(Reply::Kept),
+        Ok(Returned::NotHeld) => Ok(Reply::NotHeld),
+        Ok(Returned::Closed) => match fill(stage, alloc, moment, opens) {
+            Ok(opened) => Ok(Reply::Closed(opened)),
+            Err(error) => Err(error),
+        },
+        Err(error) => Err(error),
+    }
+}

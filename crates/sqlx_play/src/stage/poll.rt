@@ -1,0 +1,248 @@
+//! The event `poll`.
+ghost use Rattle.std.specs.Prelude.{◌≡◌, ℕ, ◌+◌, ◌^◌, ◌≤◌, List, [], ◌∷◌, ◌++◌, Some, false, IfOk, OnOk, IfErr};
+ghost use Rattle.sqlx_script.specs.declared.step.Step.{Step};
+ghost use Rattle.sqlx_pool_core.specs.declared.mark.Mark.{Mark};
+ghost use Rattle.sqlx_pool_core.specs.declared.ticket.Ticket.{Ticket};
+ghost use Rattle.sqlx_pool_core.specs.declared.ticket.Phase.TheVariants.{Connecting};
+ghost use Rattle.sqlx_pool_core.specs.Core.{ticket_of};
+ghost use Rattle.sqlx_pool_core.specs.Edits.{at_moment, ended, lent_to, opened, to_connect, with_ticket};
+ghost use Rattle.sqlx_pool_core.specs.Makes.{Makes};
+ghost use Rattle.sqlx_pool_core.specs.PollSteps.{phase_for, tested_at, wait_of};
+ghost use Rattle.sqlx_pool_core.specs.StandsFor.{StandsFor};
+ghost use Rattle.mem_driver.specs.Driver.{connected, new_link, without};
+ghost use Rattle.sqlx_play.specs.Answer.{passes_test, is_set_up, connect_reply};
+ghost use Rattle.sqlx_play.specs.PlaysEvent.{PlaysEvent};
+ghost use Rattle.sqlx_play.specs.LinksStand.{LinksStand};
+ghost use Rattle.sqlx_play.specs.Polling.{connect_marks, backing_off, after_connect, rejected};
+ghost use Rattle.sqlx_brackets.specs.Changes.{History};
+ghost use Rattle.sqlx_script.specs.declared.reply.Reply.{Reply};
+ghost use Rattle.sqlx_play.specs.StageStands.{last_of, numbers_of};
+
+use super::Stage;
+use super::hand_over::hand_over;
+use crate::error::PlayError;
+use mem_driver::MemLink;
+use sqlx_pool_core::{AfterConnect, AfterTest, Lent, Start, Tried, Verdict};
+use sqlx_script::{AfterConnectAnswer, ConnectAnswer, HookAnswer, PollAnswers, PoolLine, Reply};
+use sqlx_text::Moment;
+use std::alloc::Global;
+
+// Whether the idle connection passes its test.
+fn passes(pool: &PoolLine, answers: PollAnswers) -> bool
+    ensures { result ≡ passes_test pool.now answers }
+{
+    let accepts = matches!(answers.before_acquire, HookAnswer::Accepts);
+    (!pool.test_before_acquire || answers.ping) && (!pool.before_acquire || accepts)
+}
+
+// Whether the new connection is set up.
+fn sets_up(pool: &PoolLine, answers: PollAnswers) -> bool
+    ensures { result ≡ is_set_up pool.now answers }
+{
+    !pool.after_connect || matches!(answers.after_connect, AfterConnectAnswer::SetUp)
+}
+
+// The idle connection passed its test: the client has it.
+fn lend(
+    stage: &mut Stage,
+    client: u32,
+    ticket: u64,
+    lent: Lent<MemLink>,
+) -> Result<Reply, PlayError>
+    requires tested { tested_at lent.id (phase_for client ticket stage.old.core.tickets) ≡ Some lent.created }
+    requires open { stage.old.core.shut ≡ false }
+    ensures answer { IfOk result (λ reply. reply ≡ Reply.Ready lent.id) }
+    ensures makes { (marks : List Mark) → StandsFor stage.old.core marks → Makes stage.old.core.options.max_connections marks (Mark.Lent client lent.id ∷ Mark.Ended ticket ∷ []) stage.new.core }
+    ensures becomes { stage.new.core ≡ ended ticket (lent_to client lent.id lent.created stage.old.core) }
+    ensures lent { OnOk result (stage.new.lent.items ≡ stage.old.lent.items ++ lent ∷ []) }
+    ensures store { stage.new.store ≡ stage.old.store }
+    ensures pool { stage.new.pool ≡ stage.old.pool }
+    ensures memory { IfErr result (λ e. e ≡ PlayError.OutOfMemory) }
+{
+    let verdict = Verdict::Accepted(lent);
+    let AfterTest::Ready(lent) = stage.core.finish_test(client, ticket, verdict) else {
+        unreachable!();
+    };
+    hand_over(&mut stage.lent, lent)
+}
+
+// The idle connection failed its test: it is closed, and the ticket connects.
+fn refuse(stage: &mut Stage, client: u32, ticket: u64, lent: Lent<MemLink>)
+    requires tested { tested_at lent.id (phase_for client ticket stage.old.core.tickets) ≡ Some lent.created }
+    requires open { stage.old.core.shut ≡ false }
+    ensures makes { (marks : List Mark) → StandsFor stage.old.core marks → Makes stage.old.core.options.max_connections marks (Mark.Closed lent.id ∷ []) stage.new.core }
+    ensures becomes { stage.new.core ≡ record stage.old.core { tickets = with_ticket ticket to_connect stage.old.core.tickets } }
+    ensures store { stage.new.store ≡ record stage.old.store { places = without lent.raw.number stage.old.store.places } }
+    ensures lent { stage.new.lent.items ≡ stage.old.lent.items }
+    ensures pool { stage.new.pool ≡ stage.old.pool }
+{
+    let verdict = Verdict::Refused(lent.id);
+    stage.store.close(lent.raw);
+    let AfterTest::Connect = stage.core.finish_test(client, ticket, verdict) else {
+        unreachable!();
+    };
+}
+
+// The new connection is set up: the client has it.
+fn open(
+    stage: &mut Stage,
+    alloc: Global,
+    moment: Moment,
+    client: u32,
+    ticket: u64,
+) -> Result<Reply, PlayError>
+    requires connecting { phase_for client ticket stage.old.core.tickets ≡ Some Connecting }
+    requires open { stage.old.core.shut ≡ false }
+    requires in_order { last_of stage.old ≤ moment.0 }
+    ensures answer { IfOk result (λ reply. reply ≡ Reply.Ready stage.old.core.next_conn) }
+    ensures makes { (marks : List Mark) → StandsFor stage.old.core marks → OnOk result (Makes stage.old.core.options.max_connections marks (connect_marks client ticket moment.0 (Reply.Ready stage.old.core.next_conn)) stage.new.core) }
+    ensures becomes { OnOk result (stage.new.core ≡ at_moment moment.0 (ended ticket (lent_to client stage.old.core.next_conn moment (opened stage.old.core)))) }
+    ensures lent { OnOk result (stage.new.lent.items ≡ stage.old.lent.items ++ (record { id = stage.old.core.next_conn; created = moment; raw = new_link (stage.old.store.given + 1) }) ∷ []) }
+    ensures store { OnOk result (stage.new.store ≡ connected (stage.old.store.given + 1) stage.old.store) }
+    ensures pool { stage.new.pool ≡ stage.old.pool }
+    ensures last { last_of stage.new ≤ moment.0 }
+    ensures used { numbers_of stage.new ≤ numbers_of stage.old + 1 }
+    ensures memory { IfErr result (λ e. e ≡ PlayError.OutOfMemory) }
+{
+    let Ok(link) = stage.store.connect(alloc) else {
+        return Err(PlayError::OutOfMemory);
+    };
+    let tried = Tried::Opened(link);
+    let AfterConnect::Ready(lent) = stage.core.finish_connect(client, ticket, moment, tried) else {
+        unreachable!();
+    };
+    hand_over(&mut stage.lent, lent)
+}
+
+// The try was refused for a cause that may pass: the ticket waits for its next one.
+fn back_off(stage: &mut Stage, moment: Moment, client: u32, ticket: u64) -> Reply
+    requires connecting { phase_for client ticket stage.old.core.tickets ≡ Some Connecting }
+    requires open { stage.old.core.shut ≡ false }
+    requires in_order { last_of stage.old ≤ moment.0 }
+    ensures answer { (x : Ticket) → ticket_of client ticket stage.old.core.tickets ≡ Some x → result ≡ Reply.Backoff (moment.0 + wait_of x) }
+    ensures makes { (marks : List Mark) → StandsFor stage.old.core marks → Makes stage.old.core.options.max_connections marks [] stage.new.core }
+    ensures becomes { (x : Ticket) → ticket_of client ticket stage.old.core.tickets ≡ Some x → stage.new.core ≡ backing_off ticket moment.0 (moment.0 + wait_of x) stage.old.core }
+    ensures lent { stage.new.lent.items ≡ stage.old.lent.items }
+    ensures store { stage.new.store ≡ stage.old.store }
+    ensures pool { stage.new.pool ≡ stage.old.pool }
+    ensures last { last_of stage.new ≤ moment.0 }
+    ensures used { numbers_of stage.new ≡ numbers_of stage.old }
+{
+    let tried = Tried::Transient;
+    match stage.core.finish_connect(client, ticket, moment, tried) {
+        AfterConnect::Backoff(until) => Reply::Backoff(until),
+        _ => unreachable!(),
+    }
+}
+
+// The try was refused for good: the ticket ends.
+fn fail(stage: &mut Stage, moment: Moment, client: u32, ticket: u64)
+    requires connecting { phase_for client ticket stage.old.core.tickets ≡ Some Connecting }
+    requires open { stage.old.core.shut ≡ false }
+    requires in_order { last_of stage.old ≤ moment.0 }
+    ensures makes { (marks : List Mark) → StandsFor stage.old.core marks → Makes stage.old.core.options.max_connections marks (Mark.Ended ticket ∷ []) stage.new.core }
+    ensures becomes { stage.new.core ≡ at_moment moment.0 (ended ticket stage.old.core) }
+    ensures lent { stage.new.lent.items ≡ stage.old.lent.items }
+    ensures store { stage.new.store ≡ stage.old.store }
+    ensures pool { stage.new.pool ≡ stage.old.pool }
+{
+    let tried = Tried::Fatal;
+    let AfterConnect::Ended = stage.core.finish_connect(client, ticket, moment, tried) else {
+        unreachable!();
+    };
+}
+
+// The new connection is not set up: it is closed again.
+fn reject(stage: &mut Stage, alloc: Global) -> Result<(), PlayError>
+    ensures store { OnOk result (stage.new.store ≡ rejected (stage.old.store.given + 1) stage.old.store) }
+    ensures core { stage.new.core ≡ stage.old.core }
+    ensures lent { stage.new.lent.items ≡ stage.old.lent.items }
+    ensures pool { stage.new.pool ≡ stage.old.pool }
+    ensures memory { IfErr result (λ e. e ≡ PlayError.OutOfMemory) }
+{
+    let Ok(link) = stage.store.connect(alloc) else {
+        return Err(PlayError::OutOfMemory);
+    };
+    stage.store.close(link);
+    Ok(())
+}
+
+// The ticket has left the line without an idle connection: it connects.
+fn connect(
+    stage: &mut Stage,
+    alloc: Global,
+    moment: Moment,
+    client: u32,
+    ticket: u64,
+    answers: PollAnswers,
+) -> Result<Reply, PlayError>
+    requires connecting { phase_for client ticket stage.old.core.tickets ≡ Some Connecting }
+    requires open { stage.old.core.shut ≡ false }
+    requires in_order { last_of stage.old ≤ moment.0 }
+    ensures answer { (x : Ticket) → ticket_of client ticket stage.old.core.tickets ≡ Some x → IfOk result (λ reply. reply ≡ connect_reply stage.old.pool answers stage.old.core.next_conn (moment.0 + wait_of x) answers.connect) }
+    ensures makes { (marks : List Mark) → StandsFor stage.old.core marks → IfOk result (λ reply. Makes stage.old.core.options.max_connections marks (connect_marks client ticket moment.0 reply) stage.new.core) }
+    ensures becomes { IfOk result (λ reply. stage.new.core ≡ after_connect client ticket moment reply stage.old.core) }
+    ensures links { (history : History) → LinksStand stage.old.core stage.old.store stage.old.lent.items history → OnOk result (LinksStand stage.new.core stage.new.store stage.new.lent.items history) }
+    ensures pool { stage.new.pool ≡ stage.old.pool }
+    ensures last { last_of stage.new ≤ moment.0 }
+    ensures used { numbers_of stage.new ≤ numbers_of stage.old + 1 }
+    ensures memory { IfErr result (λ e. e ≡ PlayError.OutOfMemory) }
+{
+    match answers.connect {
+        ConnectAnswer::Connected => {
+            if sets_up(&stage.pool, answers) {
+                return open(stage, alloc, moment, client, ticket);
+            }
+            reject(stage, alloc)?;
+            Ok(back_off(stage, moment, client, ticket))
+        }
+        ConnectAnswer::Transient => Ok(back_off(stage, moment, client, ticket)),
+        ConnectAnswer::ConnectIo => {
+            fail(stage, moment, client, ticket);
+            Ok(Reply::Io)
+        }
+        ConnectAnswer::ConnectDatabase => {
+            fail(stage, moment, client, ticket);
+            Ok(Reply::DatabaseRefused)
+        }
+    }
+}
+
+/// A client asks how its ticket stands.
+#[tactic(auto, unfolding(crate::specs::Answer::answer))]
+pub fn poll(
+    stage: &mut Stage,
+    alloc: Global,
+    moment: Moment,
+    client: u32,
+    ticket: u32,
+    answers: PollAnswers,
+) -> Result<Reply, PlayError>
+    requires numbers { numbers_of stage.old ≤ 2 ^ 62 }
+    requires in_order { last_of stage.old ≤ moment.0 }
+    ensures ok { IfOk result (PlaysEvent stage.old stage.new (record { moment = moment; step = Step.Poll client ticket answers })) }
+    ensures pool { stage.new.pool ≡ stage.old.pool }
+    ensures last { last_of stage.new ≤ moment.0 }
+    ensures used { numbers_of stage.new ≤ numbers_of stage.old + 2 ^ 20 }
+    ensures memory { IfErr result (λ e. e ≡ PlayError.OutOfMemory) }
+{
+    let number = ticket as u64;
+    // The core is sound.
+    let _moment = stage.core.moment(moment);
+    match stage.core.start(client, number, moment) {
+        Start::NotHeld => Ok(Reply::NotHeld),
+        Start::Closed => Ok(Reply::PoolClosed),
+        Start::TimedOut => Ok(Reply::PoolTimedOut),
+        Start::Exhausted => unreachable!(),
+        Start::Waiting => Ok(Reply::Waiting),
+        Start::Backoff(until) => Ok(Reply::Backoff(until)),
+        Start::Connect => connect(stage, alloc, moment, client, number, answers),
+        Start::Test(idle) => {
+            if passes(&stage.pool, answers) {
+                return lend(stage, client, number, idle.lent);
+            }
+            refuse(stage, client, number, idle.lent);
+            connect(stage, alloc, moment, client, number, answers)
+        }
+    }
+}

@@ -1,0 +1,68 @@
+//! The event `reap`: idle connections beyond a limit leave, and the pool is filled up to its minimum.
+ghost use Rattle.std.specs.Prelude.{◌≡◌, ◌+◌, ◌^◌, ◌≤◌, IfOk, IfErr};
+ghost use Rattle.sqlx_script.specs.declared.step.Step.{Step};
+ghost use Rattle.sqlx_play.specs.PlaysEvent.{PlaysEvent};
+ghost use Rattle.sqlx_play.specs.Reaps.{ReapsOne, ReapsAll};
+ghost use Rattle.sqlx_play.specs.StageStands.{last_of, numbers_of};
+
+use super::Stage;
+use super::fill::fill;
+use crate::error::PlayError;
+use sqlx_script::Reply;
+use sqlx_text::Moment;
+use std::alloc::Global;
+
+// Closes the first idle connection that is beyond a limit.
+fn reap_one(stage: &mut Stage, moment: Moment) -> bool
+    requires in_order { last_of stage.old ≤ moment.0 }
+    ensures reaps { ReapsOne stage.old stage.new moment.0 result }
+    ensures pool { stage.new.pool ≡ stage.old.pool }
+    ensures last { last_of stage.new ≤ moment.0 }
+    ensures used { numbers_of stage.new ≡ numbers_of stage.old }
+{
+    // The core is sound.
+    let _moment = stage.core.moment(moment);
+    match stage.core.reap(moment) {
+        Some(idle) => {
+            stage.store.close(idle.lent.raw);
+            true
+        }
+        None => false,
+    }
+}
+
+// Closes all of them, and tells how many there were.
+fn reap_all(stage: &mut Stage, moment: Moment) -> u64
+    requires in_order { last_of stage.old ≤ moment.0 }
+    ensures reaps { ReapsAll stage.old stage.new moment.0 result }
+    ensures pool { stage.new.pool ≡ stage.old.pool }
+    ensures last { last_of stage.new ≤ moment.0 }
+    ensures used { numbers_of stage.new ≡ numbers_of stage.old }
+{
+    let before = stage.core.num_idle();
+    while reap_one(stage, moment) {}
+    (before - stage.core.num_idle()) as u64
+}
+
+/// Idle connections beyond a limit leave, and the pool is filled up to its minimum.
+pub fn reap(
+    stage: &mut Stage,
+    alloc: Global,
+    moment: Moment,
+    opens: u32,
+) -> Result<Reply, PlayError>
+    requires numbers { numbers_of stage.old ≤ 2 ^ 62 }
+    requires in_order { last_of stage.old ≤ moment.0 }
+    requires few { opens ≤ 2 ^ 16 }
+    ensures ok { IfOk result (PlaysEvent stage.old stage.new (record { moment = moment; step = Step.Reap opens })) }
+    ensures pool { stage.new.pool ≡ stage.old.pool }
+    ensures last { last_of stage.new ≤ moment.0 }
+    ensures used { numbers_of stage.new ≤ numbers_of stage.old + 2 ^ 20 }
+    ensures memory { IfErr result (λ e. e ≡ PlayError.OutOfMemory) }
+{
+    let reaped = reap_all(stage, moment);
+    match fill(stage, alloc, moment, opens) {
+        Ok(opened) => Ok(Reply::Reaped { reaped, opened }),
+        Err(error) => Err(error),
+    }
+}

@@ -1,0 +1,171 @@
+//! The events that are statements on a connection of the client's.
+ghost use Rattle.std.specs.Prelude.{◌≡◌, ◌+◌, ◌^◌, ◌<◌, ◌≤◌, true, false, Some, List, IfOk, OnOk, IfErr, IfSome, IfNone, slice_index_or, length};
+ghost use Rattle.std.specs.List.{insert, list_any};
+ghost use Rattle.mem_driver.specs.Driver.{Link};
+ghost use Rattle.sqlx_pool_core.specs.Sound.{IsSound};
+ghost use Rattle.sqlx_pool_core.specs.declared.steps.Lent.{Lent as LentLink};
+ghost use Rattle.sqlx_play.specs.ScriptLevels as levels;
+ghost use Rattle.sqlx_play.specs.LinkActs.{IsMet};
+ghost use Rattle.sqlx_play.specs.StatementRuns.{said, acts, is_lent_id, IsTakenOut, Runs};
+ghost use Rattle.sqlx_play.specs.PlaysEvent.{PlaysEvent};
+ghost use Rattle.sqlx_play.specs.StageStands.{last_of, numbers_of};
+
+use super::Stage;
+use super::acts::{Act, run_on};
+use crate::error::PlayError;
+use mem_driver::MemLink;
+use sqlx_pool_core::Lent;
+use sqlx_script::{Event, Reply, StatementAnswer, Step};
+use std::alloc::Global;
+
+/// Who does what on which connection, and what the statement meets.
+#[derive(Clone, Copy, Debug, PartialEq, Eq)]
+pub struct Statement {
+    pub client: u32,
+    pub connection: u32,
+    pub act: Act,
+    pub answer: StatementAnswer,
+}
+
+/// The statement of a step, none where it is none.
+fn statement_of(step: &Step) -> Option<Statement>
+    ensures some { IfSome result (λ s. levels.statement_of step.now ≡ Some (said s)) }
+    ensures met { IfSome result (λ s. IsMet s.act s.answer) }
+    ensures none { IfNone result (acts step.now ≡ false) }
+{
+    let (client, connection, act, answer) = match *step {
+        Step::Begin {
+            client,
+            connection,
+            answer,
+        } => (client, connection, Act::Begin, answer),
+        Step::Custom {
+            client,
+            connection,
+            begins,
+            answer,
+        } => (client, connection, Act::Custom(begins), answer),
+        Step::Put {
+            client,
+            connection,
+            key,
+            value,
+            answer,
+        } => (client, connection, Act::Put(i64::from(key), value), answer),
+        Step::Del {
+            client,
+            connection,
+            key,
+            answer,
+        } => (client, connection, Act::Delete(i64::from(key)), answer),
+        Step::Get {
+            client,
+            connection,
+            key,
+            answer,
+        } => (client, connection, Act::Get(i64::from(key)), answer),
+        Step::Commit {
+            client,
+            connection,
+            answer,
+        } => (client, connection, Act::Commit, answer),
+        Step::Rollback {
+            client,
+            connection,
+            answer,
+        } => (client, connection, Act::Rollback, answer),
+        Step::GiveUp { client, connection } => {
+            (client, connection, Act::GiveUp, StatementAnswer::Runs)
+        }
+        _ => return None,
+    };
+    Some(Statement {
+        client,
+        connection,
+        act,
+        answer,
+    })
+}
+
+/// Where the connection of this number stands.
+fn place_of(lent: &[Lent<MemLink>], id: u64) -> Option<usize>
+    ensures some { IfSome result (λ at. (at < length lent.now) × ((d : LentLink Link) → (slice_index_or lent.now at d).id ≡ id)) }
+    ensures none { IfNone result (list_any (is_lent_id id) lent.now ≡ false) }
+{
+    for at in 0..lent.len() {
+        if id == lent[at].id {
+            return Some(at);
+        }
+    }
+    None
+}
+
+/// Takes the connection of this number out, with the place where it stood.
+fn take_out(lent: &mut Vec<Lent<MemLink>>, id: u64) -> Option<(usize, Lent<MemLink>)>
+    ensures some { IfSome result (λ r. IsTakenOut id r.0 r.1 lent.old.items lent.new.items) }
+    ensures none { IfNone result ((lent.new.items ≡ lent.old.items) × (list_any (is_lent_id id) lent.old.items ≡ false)) }
+{
+    let at = place_of(lent, id)?;
+    let found = lent.remove(at);
+    Some((at, found))
+}
+
+/// Puts a connection in at the place where it stood.
+fn put_in(lent: &mut Vec<Lent<MemLink>>, at: usize, own: Lent<MemLink>) -> Result<(), PlayError>
+    requires { at ≤ length lent.old.items }
+    ensures ok { OnOk result (lent.new.items ≡ insert lent.old.items at own) }
+    ensures memory { IfErr result (λ e. e ≡ PlayError.OutOfMemory) }
+{
+    match lent.insert(at, own) {
+        Ok(()) => Ok(()),
+        Err(_) => Err(PlayError::OutOfMemory),
+    }
+}
+
+/// Does the statement, and answers `NotHeld` where the client doesn't own the connection.
+fn run(stage: &mut Stage, alloc: Global, statement: Statement) -> Result<Reply, PlayError>
+    ensures ok { IfOk result (Runs stage.old stage.new statement) }
+    ensures core { stage.new.core ≡ stage.old.core }
+    ensures pool { stage.new.pool ≡ stage.old.pool }
+    ensures sound { IsSound stage.old.core }
+    ensures memory { IfErr result (λ e. e ≡ PlayError.OutOfMemory) }
+{
+    let id = u64::from(statement.connection);
+    if !stage.core.owns(statement.client, id) {
+        return Ok(Reply::NotHeld);
+    }
+    let Some((at, lent)) = take_out(&mut stage.lent, id) else {
+        return Ok(Reply::NotHeld);
+    };
+    let Lent { id, created, raw } = lent;
+    let (raw, reply) = match run_on(
+        &mut stage.store,
+        alloc,
+        raw,
+        statement.act,
+        statement.answer,
+    ) {
+        Ok(done) => done,
+        Err(error) => return Err(error),
+    };
+    match put_in(&mut stage.lent, at, Lent { id, created, raw }) {
+        Ok(()) => Ok(reply),
+        Err(error) => Err(error),
+    }
+}
+
+/// One statement.
+pub fn play(stage: &mut Stage, alloc: Global, event: &Event) -> Result<Reply, PlayError>
+    requires acts { acts event.now.step ≡ true }
+    requires in_order { last_of stage.old ≤ event.now.moment.0 }
+    ensures ok { IfOk result (PlaysEvent stage.old stage.new event.now) }
+    ensures pool { stage.new.pool ≡ stage.old.pool }
+    ensures last { last_of stage.new ≤ event.now.moment.0 }
+    ensures used { numbers_of stage.new ≤ numbers_of stage.old + 2 ^ 20 }
+    ensures memory { IfErr result (λ e. e ≡ PlayError.OutOfMemory) }
+{
+    let Some(statement) = statement_of(&event.step) else {
+        return Ok(Reply::NotHeld);
+    };
+    run(stage, alloc, statement)
+}

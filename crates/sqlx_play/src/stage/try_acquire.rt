@@ -1,0 +1,28 @@
+//! The event `try`.
+ghost use Rattle.std.specs.Prelude.{◌≡◌, ◌+◌, ◌^◌, ◌≤◌, IfOk, IfErr};
+ghost use Rattle.sqlx_script.specs.declared.step.Step.{Step};
+ghost use Rattle.sqlx_play.specs.PlaysEvent.{PlaysEvent};
+ghost use Rattle.sqlx_play.specs.StageStands.{last_of, numbers_of};
+
+use super::Stage;
+use super::hand_over::hand_over;
+use crate::error::PlayError;
+use sqlx_script::Reply;
+use sqlx_text::Moment;
+
+/// A client asks for an idle connection, and doesn't wait.
+#[tactic(auto, unfolding(crate::specs::Answer::answer))]
+pub fn try_acquire(stage: &mut Stage, moment: Moment, client: u32) -> Result<Reply, PlayError>
+    requires numbers { numbers_of stage.old ≤ 2 ^ 62 }
+    requires in_order { last_of stage.old ≤ moment.0 }
+    ensures ok { IfOk result (PlaysEvent stage.old stage.new (record { moment = moment; step = Step.Try client })) }
+    ensures pool { stage.new.pool ≡ stage.old.pool }
+    ensures last { last_of stage.new ≤ moment.0 }
+    ensures used { numbers_of stage.new ≤ numbers_of stage.old + 2 ^ 20 }
+    ensures memory { IfErr result (λ e. e ≡ PlayError.OutOfMemory) }
+{
+    match stage.core.try_acquire(moment, client) {
+        Some(lent) => hand_over(&mut stage.lent, lent),
+        None => Ok(Reply::NothingToLend),
+    }
+}
