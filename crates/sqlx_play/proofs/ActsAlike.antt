@@ -1,7 +1,6 @@
 -- An act on a link is the act of brackets on its connection: the same reply, and what it leaves is what the brackets' change leaves.
-use Rattle.std.proofs.Common.{◌≡◌, ℕ, zero, suc, pred, ◌==◌, ◌<◌, ◌≤◌, nat_lt, ℤ, Bool, true, false, not, cond, ◌&&◌, is_some, IsSome, Option, Some, None, List, ◌∷◌, refl, sym, ap, subst, ◌∙◌, arith, ltb-true}
-use Rattle.std.proofs.lemmas.Bool.{cond-true, cond-false, ne_eqb}
-use Rattle.sqlx_savepoints.specs.Rows.{sees}
+use Rattle.std.proofs.Common.{◌≡◌, ℕ, zero, suc, pred, ◌==◌, ◌≤◌, nat_lt, ℤ, Bool, true, false, not, cond, is_some, IsSome, Option, Some, None, List, ◌∷◌, refl, sym, ap, subst, ◌∙◌, arith, ltb-true}
+use Rattle.std.proofs.lemmas.Bool.{cond-true, ne_eqb}
 use Rattle.sqlx_savepoints.specs.Texts.{begin_at, commit_at, rollback_at}
 use Rattle.sqlx_savepoints.specs.NamedSavepoints.{Named, after, ran, inside, pushed, outside, begun}
 use Rattle.sqlx_savepoints.specs.declared.level_text.LevelText.{LevelText}
@@ -13,7 +12,7 @@ use Rattle.mem_driver.specs.declared.refusal.Refusal.{Refusal}
 use Rattle.mem_driver.specs.declared.refusal.Refusal.TheVariants.{Busy, Deep, Unread}
 use Rattle.mem_driver.specs.declared.runs.Runs.{Runs as Counts}
 use Rattle.mem_driver.specs.Driver.{Session, others_in_level}
-use Rattle.mem_driver.specs.Acts.{refusal_of, level_refusal, unallowed, level_counted, ended_counted, rolled_back, moved_to, after_start_rollback}
+use Rattle.mem_driver.specs.Acts.{refusal_of, level_refusal, unallowed, level_counted, ended_counted, moved_to, after_start_rollback}
 use Rattle.sqlx_script.specs.declared.answers.StatementAnswer.{StatementAnswer}
 use Rattle.sqlx_script.specs.declared.answers.StatementAnswer.TheVariants.{Runs, StatementIo, StatementRefused}
 use Rattle.sqlx_script.specs.declared.reply.Reply.{Reply}

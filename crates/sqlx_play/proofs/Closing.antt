@@ -1,10 +1,8 @@
 -- What a close makes of a stage.
-use Rattle.std.proofs.Common.{◌≡◌, ℕ, ◌+◌, ◌≤◌, ◌==◌, Bool, true, false, not, cond, List, [], ◌∷◌, ◌++◌, length, map, filter, find, count_by, Some, All, refl, sym, ap, subst, ◌∙◌, arith}
-use Rattle.std.specs.List.{list_any}
+use Rattle.std.proofs.Common.{◌≡◌, ℕ, ◌+◌, ◌≤◌, ◌==◌, Bool, true, false, not, cond, List, [], ◌∷◌, ◌++◌, length, map, find, count_by, Some, All, refl, sym, ap, subst, ◌∙◌, arith}
 use Rattle.sqlx_text.specs.declared.moment.Moment.{Moment}
 use Rattle.sqlx_pool_core.specs.declared.mark.Mark.{Mark}
 use Rattle.sqlx_pool_core.specs.declared.mark.Mark.TheVariants as mark
-use Rattle.sqlx_pool_core.specs.declared.ticket.Ticket.{Ticket}
 use Rattle.sqlx_pool_core.specs.declared.ticket.Held.{Held}
 use Rattle.sqlx_pool_core.specs.declared.steps.Idle.{Idle}
 use Rattle.sqlx_pool_core.specs.declared.steps.Lent.{Lent}
@@ -12,7 +10,7 @@ use Rattle.sqlx_pool_core.specs.Core.{Core, resting}
 use Rattle.sqlx_pool_core.specs.Edits.{without_idle}
 use Rattle.sqlx_pool_core.specs.KeepingSteps.{close_marks, close_answer, closed_from, closed_idle}
 use Rattle.sqlx_pool_core.specs.Makes.{Makes}
-use Rattle.sqlx_pool_core.specs.Marks.{Resting, idle_of, is_open, is_shut}
+use Rattle.sqlx_pool_core.specs.Marks.{idle_of, is_open}
 use Rattle.sqlx_pool_core.specs.Sound.{IsSound, rests, holds}
 use Rattle.sqlx_pool_core.proofs.ListFacts.{same_number, count_by-cons, filter_none, length_map}
 use Rattle.mem_driver.specs.Driver.{Store, Link}
@@ -30,7 +28,7 @@ use Rattle.sqlx_play.specs.StageStands.{StageStands, IsTried}
 use Rattle.sqlx_play.proofs.LinksGone.{closed_in, links-unrest}
 use Rattle.sqlx_play.proofs.LinksSame.{links-same}
 use Rattle.sqlx_play.proofs.Pairs.{tries_of-push, tried-same}
-use Rattle.sqlx_play.proofs.StageAfter.{StageMoves, stage-after}
+use Rattle.sqlx_play.proofs.StageAfter.{stage-after}
 
 -- ---- the links
 

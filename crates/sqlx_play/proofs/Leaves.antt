@@ -1,5 +1,5 @@
 -- What an act on one connection's link leaves of the rows, of that link and of the places in the store.
-use Rattle.std.proofs.Common.{◌≡◌, ℕ, zero, suc, ◌==◌, nat_lt, ℤ, false, cond, ◌⊎◌, inl, inr, Option, List, ◌∷◌, refl, sym, ap, ◌∙◌, eq-eqb}
+use Rattle.std.proofs.Common.{◌≡◌, ℕ, zero, suc, ◌==◌, nat_lt, ℤ, false, ◌⊎◌, inl, inr, Option, List, ◌∷◌, refl, sym, ap, ◌∙◌, eq-eqb}
 use Rattle.std.proofs.lemmas.Bool.{cond-true, cond-false}
 use Rattle.sqlx_savepoints.specs.NamedSavepoints.{Named, write_at, wrote}
 use Rattle.mem_driver.specs.declared.answer.Answer.{Answer}

@@ -2,7 +2,6 @@
 use Rattle.std.proofs.Common.{◌≡◌, ℕ, zero, suc, pred, ◌-◌, ◌<◌, ◌≤◌, ◌^◌, ◌==◌, ◌&&◌, nat_lt, Bool, true, false, cond, is_some, Option, Some, None, refl, sym, ap, subst, ◌∙◌, arith, ltb-true}
 use Rattle.std.proofs.lemmas.Bool.{cond-false, ne_eqb}
 use Rattle.sqlx_savepoints.specs.Texts.{begin_at, commit_at, rollback_at}
-use Rattle.mem_driver.specs.declared.act.Act.{Act as Doing}
 use Rattle.mem_driver.specs.declared.plain.Plain.{Plain}
 use Rattle.mem_driver.specs.declared.statement.Statement.TheVariants.{Level as LevelOf}
 use Rattle.mem_driver.specs.Statements.{IsHeld}

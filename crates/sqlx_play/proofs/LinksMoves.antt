@@ -1,6 +1,6 @@
 -- Links and store where a connection is opened, lent from the idle ones, or closed.
-use Rattle.std.proofs.Common.{◌≡◌, ℕ, ◌+◌, ◌≤◌, ◌==◌, ◌&&◌, ◌||◌, Bool, true, false, not, cond, List, [], ◌∷◌, ◌++◌, map, filter, drop, count_by, refl, sym, ap, ap₂, subst, ◌∙◌, All, arith, nat_lt}
-use Rattle.std.proofs.lemmas.Bool.{eqb-true, cases_Bool}
+use Rattle.std.proofs.Common.{◌≡◌, ℕ, ◌+◌, ◌≤◌, ◌==◌, ◌&&◌, ◌||◌, Bool, true, false, not, cond, List, [], ◌∷◌, ◌++◌, filter, drop, count_by, refl, sym, ap, subst, ◌∙◌, All, arith, nat_lt}
+use Rattle.std.proofs.lemmas.Bool.{eqb-true}
 use Rattle.std.proofs.lemmas.List.Elements.{All-push, All-head, All-tail, All-same, filter-append}
 use Rattle.std.specs.List.{list_any}
 use Rattle.sqlx_text.specs.declared.Moment.{Moment}
@@ -9,7 +9,7 @@ use Rattle.sqlx_pool_core.specs.declared.steps.Idle.{Idle}
 use Rattle.sqlx_pool_core.specs.declared.ticket.Held.{Held}
 use Rattle.sqlx_pool_core.specs.Core.{Core}
 use Rattle.sqlx_pool_core.specs.Edits.{lent_to, took, opened}
-use Rattle.sqlx_pool_core.specs.Sound.{IsSound, holds, rests}
+use Rattle.sqlx_pool_core.specs.Sound.{IsSound, rests}
 use Rattle.sqlx_pool_core.proofs.ListFacts.{number_comm, same_number, list_any-push, count_by-push, count_by-cons, count_by-map, count_by-filter_parts, map-push, filter_none, All-passing, none_any}
 use Rattle.sqlx_pool_core.proofs.Known.{IsIdle, idle-first}
 use Rattle.mem_driver.specs.declared.place.Place.{Place}

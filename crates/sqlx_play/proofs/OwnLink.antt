@@ -1,15 +1,12 @@
 -- The link of one connection that a client owns, among the links of a stage.
-use Rattle.std.proofs.Common.{◌≡◌, ℕ, zero, suc, ◌+◌, ◌<◌, ◌≤◌, ◌==◌, ◌&&◌, ◌||◌, not, nat_lt, Bool, true, false, cond, ◌⊎◌, inl, inr, List, ◌∷◌, ◌++◌, map, count_by, All, refl, sym, ap, ap₂, subst, ◌∙◌, arith, eq-eqb, ltb-true, ltb-false, lt-ltb}
+use Rattle.std.proofs.Common.{◌≡◌, ℕ, zero, suc, ◌+◌, ◌<◌, ◌≤◌, ◌==◌, ◌&&◌, ◌||◌, not, nat_lt, Bool, true, false, cond, ◌⊎◌, inl, inr, List, ◌∷◌, ◌++◌, count_by, All, refl, sym, ap, ◌∙◌, arith, eq-eqb, ltb-true, ltb-false, lt-ltb}
 use Rattle.std.specs.List.{list_any}
-use Rattle.std.proofs.lemmas.Bool.{cond-true, cond-false, ne_eqb, eqb-true, and_parts, and_from, or_right, cases_Bool, not_from_false}
-use Rattle.std.proofs.lemmas.Bool.Decides.{eqb_tells}
-use Rattle.std.proofs.lemmas.List.Elements.{All-weaker}
+use Rattle.std.proofs.lemmas.Bool.{eqb-true, and_parts, and_from, or_right, cases_Bool}
 use Rattle.sqlx_pool_core.specs.declared.steps.Lent.{Lent}
 use Rattle.sqlx_pool_core.specs.declared.steps.Idle.{Idle}
 use Rattle.sqlx_pool_core.specs.declared.ticket.Held.{Held}
-use Rattle.sqlx_pool_core.specs.declared.ticket.Ticket.{Ticket}
 use Rattle.sqlx_pool_core.specs.Core.{Core}
-use Rattle.sqlx_pool_core.specs.Sound.{IsSound, holds, rests, tests, places_of}
+use Rattle.sqlx_pool_core.specs.Sound.{IsSound, holds, rests}
 use Rattle.sqlx_pool_core.proofs.ListFacts.{count_by-map, number_comm}
 use Rattle.mem_driver.specs.declared.place.Place.{Place}
 use Rattle.mem_driver.specs.Driver.{Store, Link, others_in_level}
@@ -20,8 +17,8 @@ use Rattle.sqlx_brackets.specs.Links.{linked_after}
 use Rattle.sqlx_brackets.specs.Events.{others_open}
 use Rattle.sqlx_brackets.proofs.Linking.{savepoints_read_alike}
 use Rattle.sqlx_brackets.proofs.Answering.{no_other}
-use Rattle.sqlx_play.specs.LinksStand.{LinksStand, IsLinkOf, links_of, has_number, rests_with_number, is_in_level, has_number_in_level, is_place_in_level}
-use Rattle.sqlx_play.proofs.Middles.{any-mid, count-mid, All-mid, All-sides, All-both, none_counted, any-found, any-more, IsMember, members, bools_same}
+use Rattle.sqlx_play.specs.LinksStand.{LinksStand, IsLinkOf, has_number, is_in_level, has_number_in_level, is_place_in_level}
+use Rattle.sqlx_play.proofs.Middles.{any-mid, count-mid, All-sides, All-both, none_counted, any-found, any-more, IsMember, members, bools_same}
 
 above_zero : (n : ℕ) → is_zero n ≡ false → 1 ≤ n
 above_zero zero e = absurd (cc)

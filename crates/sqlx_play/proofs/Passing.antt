@@ -1,8 +1,6 @@
 -- What a cancel and a try make of a stage.
-use Rattle.std.proofs.Common.{◌≡◌, ℕ, ◌+◌, ◌≤◌, ◌-◌, ◌<◌, ◌==◌, Bool, true, false, not, cond, List, [], ◌∷◌, ◌++◌, map, drop, max, Option, Some, None, option_map, All, refl, sym, ap, subst, ◌∙◌, append-nil, arith}
+use Rattle.std.proofs.Common.{◌≡◌, ℕ, ◌≤◌, Bool, true, false, cond, List, [], ◌∷◌, ◌++◌, map, Option, Some, None, option_map, All, refl, sym, ap, subst, ◌∙◌, append-nil}
 use Rattle.std.specs.List.{list_any}
-use Rattle.std.proofs.Math.Nat.{max-eq_right}
-use Rattle.std.proofs.lemmas.List.Elements.{All-filter}
 use Rattle.sqlx_text.specs.declared.Moment.{Moment}
 use Rattle.sqlx_pool_core.specs.declared.mark.Mark.{Mark}
 use Rattle.sqlx_pool_core.specs.declared.mark.Mark.TheVariants as mark
@@ -13,9 +11,8 @@ use Rattle.sqlx_pool_core.specs.declared.steps.Lent.{Lent}
 use Rattle.sqlx_pool_core.specs.declared.steps.Idle.{Idle}
 use Rattle.sqlx_pool_core.specs.Marks.{tickets_of, idle_of, is_shut}
 use Rattle.sqlx_pool_core.specs.Counts.{asked_in}
-use Rattle.sqlx_pool_core.specs.View.{view_of, free as free_in, waiting as waiting_in}
 use Rattle.sqlx_pool_core.specs.Core.{Core, resting, asking, ticket_of, waiting, free}
-use Rattle.sqlx_pool_core.specs.Edits.{at_moment, ended, without_ticket, lent_to, took}
+use Rattle.sqlx_pool_core.specs.Edits.{at_moment, ended, lent_to, took}
 use Rattle.sqlx_pool_core.specs.EventTable.{may_pass}
 use Rattle.sqlx_pool_core.specs.PollSteps.{phase_for, may_cancel, try_lent}
 use Rattle.sqlx_pool_core.specs.Makes.{Makes}
@@ -36,7 +33,7 @@ use Rattle.sqlx_play.specs.StageStands.{IsTried, IsTriedAt, StageStands}
 use Rattle.sqlx_play.proofs.Pairs.{tries_of-push, tried-same}
 use Rattle.sqlx_play.proofs.LinksSame.{links-same, links-as}
 use Rattle.sqlx_play.proofs.LinksMoves.{links-lent}
-use Rattle.sqlx_play.proofs.StageAfter.{StageMoves, stage-after}
+use Rattle.sqlx_play.proofs.StageAfter.{stage-after}
 use Rattle.sqlx_play.proofs.PollReplies.{asked-is, tried-of, free-is, not_not}
 use Rattle.sqlx_play.proofs.PollTries.{tried-without}
 

@@ -1,5 +1,5 @@
 -- A poll is played: its reply is the answer, and the stage stands for the pair.
-use Rattle.std.proofs.Common.{◌≡◌, ℕ, ◌+◌, ◌-◌, ◌^◌, ◌≤◌, ◌==◌, Bool, true, false, cond, List, [], ◌∷◌, ◌++◌, max, Option, Some, None, Result, Ok, Err, IfOk, OnOk, nat_lt, refl, sym, ap, subst, ◌∙◌, arith}
+use Rattle.std.proofs.Common.{◌≡◌, ℕ, ◌+◌, ◌-◌, ◌^◌, ◌≤◌, ◌==◌, Bool, true, false, cond, List, [], ◌∷◌, ◌++◌, max, Some, None, Result, Ok, Err, IfOk, OnOk, refl, sym, ap, subst, ◌∙◌, arith}
 use Rattle.std.proofs.Math.Nat.{max-eq_right}
 use Rattle.std.proofs.lemmas.Bool.{eqb-true}
 use Rattle.sqlx_text.specs.declared.Moment.{Moment}
@@ -33,14 +33,14 @@ use Rattle.sqlx_play.specs.Answer.{answer, passes_test, connect_reply, poll_repl
 use Rattle.sqlx_play.specs.ScriptMarks.{marks_of, first_of, leaving, taking, polled}
 use Rattle.sqlx_play.specs.ScriptLevels.{gone_by, history_of}
 use Rattle.sqlx_play.specs.LinksStand.{LinksStand}
-use Rattle.sqlx_play.specs.Tries.{Tries, tries_of, backed_off}
+use Rattle.sqlx_play.specs.Tries.{tries_of, backed_off}
 use Rattle.sqlx_play.specs.StageStands.{IsTriedAt, StageStands, numbers_of}
 use Rattle.sqlx_play.specs.PlaysEvent.{PlaysEvent}
 use Rattle.sqlx_play.specs.Polling.{connect_marks, after_connect}
 use Rattle.sqlx_play.proofs.Pairs.{tries_of-push}
 use Rattle.sqlx_play.proofs.Passing.{stays-standing}
 use Rattle.sqlx_play.proofs.PollTurns.{AtTest, AtBackoff}
-use Rattle.sqlx_play.proofs.PollReplies.{connecting, poll-reply, start_reply, tried-of}
+use Rattle.sqlx_play.proofs.PollReplies.{connecting, poll-reply, tried-of}
 use Rattle.sqlx_play.proofs.PollMarks.{waits-backoff}
 use Rattle.sqlx_play.proofs.Polls.{pair_of, Connecting, connect-stands, tested-stands}
 

@@ -1,5 +1,5 @@
 -- The reply to a poll, by what the core's first step answers.
-use Rattle.std.proofs.Common.{◌≡◌, ℕ, ◌+◌, ◌-◌, ◌^◌, ◌≤◌, ◌==◌, Bool, true, false, not, cond, List, [], ◌∷◌, map, Option, Some, None, option_map, nat_le, nat_lt, All, refl, sym, ap, subst, ◌∙◌, arith}
+use Rattle.std.proofs.Common.{◌≡◌, ℕ, ◌-◌, ◌^◌, ◌≤◌, Bool, true, false, not, cond, List, [], ◌∷◌, map, Option, Some, None, option_map, nat_le, nat_lt, All, refl, sym, ap, ◌∙◌, arith}
 use Rattle.std.specs.List.{list_any}
 use Rattle.std.proofs.lemmas.Bool.{le-ltb}
 use Rattle.sqlx_pool_core.specs.declared.mark.Mark.{Mark}
@@ -11,7 +11,7 @@ use Rattle.sqlx_pool_core.specs.declared.steps.Start.{Start}
 use Rattle.sqlx_pool_core.specs.declared.steps.Start.TheVariants as start
 use Rattle.sqlx_pool_core.specs.declared.turn.Turn.{Turn}
 use Rattle.sqlx_pool_core.specs.declared.turn.Turn.TheVariants as turn
-use Rattle.sqlx_pool_core.specs.Marks.{Asking, Resting, tickets_of, idle_of, is_shut, next_conn}
+use Rattle.sqlx_pool_core.specs.Marks.{tickets_of, is_shut, next_conn}
 use Rattle.sqlx_pool_core.specs.Counts.{asked_in, is_asked_by, before_in}
 use Rattle.sqlx_pool_core.specs.View.{view_of, free as free_in}
 use Rattle.sqlx_pool_core.specs.Core.{Core, asking, resting, is_out, is_of, ticket_of, free}
@@ -30,7 +30,7 @@ use Rattle.sqlx_script.specs.declared.reply.Reply.TheVariants as reply
 use Rattle.sqlx_play.specs.declared.stage.Stage.{Stage}
 use Rattle.sqlx_play.specs.Answer.{passes_test, connect_reply, idle_reply, poll_reply}
 use Rattle.sqlx_play.specs.ScriptMarks.{marks_of, first_of}
-use Rattle.sqlx_play.specs.Tries.{Tries, tries_of, until_of, until_after}
+use Rattle.sqlx_play.specs.Tries.{tries_of, until_of, until_after}
 use Rattle.sqlx_play.specs.StageStands.{IsTried, IsTriedAt, StageStands}
 
 -- the reply where the core's first step answers this

@@ -1,16 +1,14 @@
 -- The tries of every ticket behind a poll.
-use Rattle.std.proofs.Common.{◌≡◌, ℕ, ◌+◌, ◌-◌, ◌≤◌, ◌<◌, ◌==◌, Bool, true, false, not, cond, List, [], ◌∷◌, ◌++◌, map, Option, Some, None, nat_lt, All, refl, sym, ap, subst, ◌∙◌, inl, inr, ◌⊎◌, arith}
-use Rattle.std.proofs.lemmas.Bool.{eqb-true}
-use Rattle.std.proofs.lemmas.List.Elements.{All-nil, All-cons, All-head, All-tail, All-filter}
+use Rattle.std.proofs.Common.{◌≡◌, ℕ, ◌+◌, ◌-◌, ◌==◌, Bool, true, false, not, cond, List, [], ◌∷◌, Option, Some, None, nat_lt, All, refl, sym, ap, subst, ◌∙◌, inl, inr, ◌⊎◌, arith}
+use Rattle.std.proofs.lemmas.List.Elements.{All-nil, All-cons, All-head, All-tail}
 use Rattle.sqlx_pool_core.specs.declared.ticket.Ticket.{Ticket}
 use Rattle.sqlx_pool_core.specs.declared.ticket.Phase.{Phase}
 use Rattle.sqlx_pool_core.specs.declared.ticket.Phase.TheVariants as phase
 use Rattle.sqlx_pool_core.specs.declared.steps.Idle.{Idle}
 use Rattle.sqlx_pool_core.specs.Backoff.{cap, next_wait}
-use Rattle.sqlx_pool_core.specs.Edits.{with_ticket, without_ticket, is_another_ticket, to_test, to_try, to_try_at, to_connect, to_back_off}
+use Rattle.sqlx_pool_core.specs.Edits.{with_ticket, without_ticket, to_test, to_try, to_try_at, to_connect}
 use Rattle.sqlx_pool_core.specs.PollSteps.{wait_of}
 use Rattle.sqlx_pool_core.proofs.Known.{IsOnly, KeepsNumber}
-use Rattle.sqlx_pool_core.proofs.ListFacts.{same_number, number_comm}
 use Rattle.sqlx_script.specs.declared.step.Event.{Event}
 use Rattle.sqlx_script.specs.declared.reply.Reply.{Reply}
 use Rattle.sqlx_play.specs.Tries.{Tries, tries_of, first_try, last_wait, backed_off, until_after}

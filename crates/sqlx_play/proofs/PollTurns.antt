@@ -1,10 +1,9 @@
 -- What is known of a ticket whose poll comes to a test or to a connect.
-use Rattle.std.proofs.Common.{◌≡◌, ℕ, ◌+◌, ◌^◌, ◌≤◌, ◌==◌, Bool, true, false, cond, List, [], ◌∷◌, map, Option, Some, None, option_map, nat_le, nat_lt, refl, sym, ap, ◌∙◌, inl, inr, ◌⊎◌}
+use Rattle.std.proofs.Common.{◌≡◌, ℕ, ◌^◌, Bool, true, false, cond, List, [], ◌∷◌, Option, Some, None, option_map, nat_le, nat_lt, refl, sym, ap, ◌∙◌, inl, inr, ◌⊎◌}
 use Rattle.sqlx_pool_core.specs.declared.ticket.Ticket.{Ticket}
 use Rattle.sqlx_pool_core.specs.declared.ticket.Phase.{Phase}
 use Rattle.sqlx_pool_core.specs.declared.ticket.Phase.TheVariants as phase
 use Rattle.sqlx_pool_core.specs.declared.steps.Idle.{Idle}
-use Rattle.sqlx_pool_core.specs.declared.steps.Start.{Start}
 use Rattle.sqlx_pool_core.specs.declared.steps.Start.TheVariants as start
 use Rattle.sqlx_pool_core.specs.declared.turn.Turn.{Turn}
 use Rattle.sqlx_pool_core.specs.declared.turn.Turn.TheVariants as turn
@@ -13,7 +12,7 @@ use Rattle.sqlx_pool_core.specs.PollTable.{is_at_rest, in_time, first_idle}
 use Rattle.sqlx_pool_core.specs.OwnTurn.{own_turn, own_turn_at, before}
 use Rattle.sqlx_pool_core.specs.PollSteps.{start_answer, phase_for, tested_at}
 use Rattle.sqlx_pool_core.specs.Edits.{with_ticket, to_test, to_try, to_try_at, to_connect}
-use Rattle.sqlx_pool_core.proofs.TurnCases.{Tests, ConnectsFirst, ConnectsAgain, turn-test, turn-connect}
+use Rattle.sqlx_pool_core.proofs.TurnCases.{ConnectsFirst, ConnectsAgain, turn-test, turn-connect}
 use Rattle.sqlx_pool_core.proofs.Known.{KeepsOwner, ticket-changed}
 use Rattle.sqlx_pool_core.proofs.ListFacts.{same_number}
 

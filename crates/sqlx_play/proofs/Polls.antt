@@ -1,47 +1,41 @@
 -- What a poll makes of a stage.
-use Rattle.std.proofs.Common.{◌≡◌, ℕ, ◌+◌, ◌-◌, ◌^◌, ◌≤◌, ◌<◌, ◌==◌, Bool, true, false, not, cond, List, [], ◌∷◌, ◌++◌, map, drop, max, Option, Some, None, option_map, nat_lt, All, refl, sym, ap, subst, ◌∙◌, append-nil, append_assoc, inl, inr, ◌⊎◌, arith}
-use Rattle.std.proofs.lemmas.Bool.{eqb-true, ne_eqb}
+use Rattle.std.proofs.Common.{◌≡◌, ℕ, ◌+◌, ◌≤◌, ◌<◌, ◌==◌, Bool, true, false, cond, List, [], ◌∷◌, ◌++◌, Option, Some, All, refl, sym, ap, subst, ◌∙◌, arith}
+use Rattle.std.proofs.lemmas.Bool.{ne_eqb}
 use Rattle.sqlx_text.specs.declared.Moment.{Moment}
 use Rattle.sqlx_pool_core.specs.declared.mark.Mark.{Mark}
 use Rattle.sqlx_pool_core.specs.declared.mark.Mark.TheVariants as mark
 use Rattle.sqlx_pool_core.specs.declared.ticket.Ticket.{Ticket}
-use Rattle.sqlx_pool_core.specs.declared.ticket.Phase.TheVariants as phase
-use Rattle.sqlx_pool_core.specs.declared.steps.Lent.{Lent}
 use Rattle.sqlx_pool_core.specs.declared.steps.Idle.{Idle}
-use Rattle.sqlx_pool_core.specs.declared.steps.Start.{Start}
 use Rattle.sqlx_pool_core.specs.declared.steps.Start.TheVariants as start
 use Rattle.sqlx_pool_core.specs.Core.{Core, ticket_of}
-use Rattle.sqlx_pool_core.specs.Edits.{at_moment, ended, lent_to, took, with_ticket, without_ticket, to_test, to_try, to_connect, to_back_off}
+use Rattle.sqlx_pool_core.specs.Edits.{ended, lent_to, took, with_ticket, without_ticket, to_test, to_try, to_connect, to_back_off}
 use Rattle.sqlx_pool_core.specs.Sound.{IsSound}
-use Rattle.sqlx_pool_core.specs.PollSteps.{start_answer, start_marks, started, phase_for, wait_of}
-use Rattle.sqlx_pool_core.specs.PollSteps as steps
-use Rattle.sqlx_pool_core.specs.OwnTurn.{own_turn}
+use Rattle.sqlx_pool_core.specs.PollSteps.{start_marks, started, phase_for, wait_of}
 use Rattle.sqlx_pool_core.specs.Makes.{Makes}
-use Rattle.sqlx_pool_core.specs.StandsFor.{StandsFor}
 use Rattle.sqlx_pool_core.proofs.FairLaws.{makes-then}
 use Rattle.sqlx_pool_core.proofs.Known.{KeepsNumber, ticket-number, ticket-is_only, ticket-below, gone-changed, idle-first}
 use Rattle.sqlx_pool_core.proofs.ListFacts.{same_number, number_comm}
-use Rattle.mem_driver.specs.Driver.{Link, Store, without}
+use Rattle.mem_driver.specs.Driver.{Link, without}
 use Rattle.sqlx_script.specs.declared.answers.PollAnswers.{PollAnswers}
 use Rattle.sqlx_script.specs.declared.step.Event.{Event}
 use Rattle.sqlx_script.specs.declared.step.Step.TheVariants.{Poll}
 use Rattle.sqlx_script.specs.declared.reply.Reply.{Reply}
 use Rattle.sqlx_script.specs.declared.reply.Reply.TheVariants as reply
-use Rattle.sqlx_brackets.specs.Changes.{History, leaves}
+use Rattle.sqlx_brackets.specs.Changes.{leaves}
 use Rattle.sqlx_play.specs.declared.stage.Stage.{Stage}
 use Rattle.sqlx_pool_core.specs.declared.options.PoolOptions.{PoolOptions}
 use Rattle.sqlx_play.specs.Answer.{connect_reply}
-use Rattle.sqlx_play.specs.ScriptMarks.{added, marks_of, waits, taken_by, leaving, polled}
-use Rattle.sqlx_play.specs.ScriptLevels.{gone_by, history_after, history_of}
+use Rattle.sqlx_play.specs.ScriptMarks.{marks_of, waits, leaving, polled}
+use Rattle.sqlx_play.specs.ScriptLevels.{gone_by, history_of}
 use Rattle.sqlx_play.specs.LinksStand.{LinksStand}
-use Rattle.sqlx_play.specs.Tries.{tries_of, tried, backed_off}
-use Rattle.sqlx_play.specs.StageStands.{IsTried, IsTriedAt, StageStands}
+use Rattle.sqlx_play.specs.Tries.{tries_of, backed_off}
+use Rattle.sqlx_play.specs.StageStands.{IsTried, StageStands}
 use Rattle.sqlx_play.specs.Polling.{connect_marks, after_connect}
-use Rattle.sqlx_play.proofs.Pairs.{tries_of-push, tried-same}
+use Rattle.sqlx_play.proofs.Pairs.{tries_of-push}
 use Rattle.sqlx_play.proofs.LinksSame.{links-same, links-as}
 use Rattle.sqlx_play.proofs.LinksMoves.{links-lent, links-closed}
-use Rattle.sqlx_play.proofs.StageAfter.{StageMoves, stage-after}
-use Rattle.sqlx_play.proofs.PollTurns.{AtTest, AtConnect, IsDue, keeps-try, found-try, found-refused}
+use Rattle.sqlx_play.proofs.StageAfter.{stage-after}
+use Rattle.sqlx_play.proofs.PollTurns.{AtTest, AtConnect, keeps-try, found-try, found-refused}
 use Rattle.sqlx_play.proofs.PollReplies.{tried-of}
 use Rattle.sqlx_play.proofs.PollTries.{Trying, trying-refused, trying-connect, tried-without, tried-changed, with-with}
 use Rattle.sqlx_play.proofs.PollMarks.{gone-append, taken-test, taken-connect, waits-test, leaving-connect, polled_by, lent-marks, Outcome, connected, backs_off, broken, refused, reply_by, connect-marks, refused-marks, connect-gone, polled-by, outcome_of, outcome-is, outcome-until}

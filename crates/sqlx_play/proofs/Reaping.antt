@@ -1,23 +1,21 @@
 -- Idle connections that leave one by one, by the stage and by the marks.
-use Rattle.std.proofs.Common.{◌≡◌, ℕ, ◌+◌, ◌-◌, ◌≤◌, ◌==◌, ◌||◌, Bool, true, false, not, cond, max, List, [], ◌∷◌, ◌++◌, length, map, filter, find, count_by, Option, Some, None, All, refl, sym, ap, ap₂, subst, ◌∙◌, inl, inr, append-nil, append_assoc, arith}
-use Rattle.std.proofs.Math.Nat.{max-eq_right}
-use Rattle.std.proofs.lemmas.Bool.{cases_Bool}
+use Rattle.std.proofs.Common.{◌≡◌, ℕ, ◌+◌, ◌-◌, ◌≤◌, ◌||◌, Bool, true, false, not, cond, List, [], ◌∷◌, ◌++◌, length, map, filter, find, count_by, Some, None, All, refl, sym, ap, subst, ◌∙◌, append-nil, append_assoc, arith}
 use Rattle.std.proofs.lemmas.List.Elements.{All-head, All-tail}
 use Rattle.sqlx_text.specs.declared.moment.Moment.{Moment}
 use Rattle.sqlx_pool_core.specs.declared.mark.Mark.{Mark}
 use Rattle.sqlx_pool_core.specs.declared.mark.Mark.TheVariants.{Reaped}
 use Rattle.sqlx_pool_core.specs.declared.options.PoolOptions.{PoolOptions}
 use Rattle.sqlx_pool_core.specs.declared.steps.Idle.{Idle}
-use Rattle.sqlx_pool_core.specs.Core.{Core, waiting, free, resting}
-use Rattle.sqlx_pool_core.specs.Edits.{at_moment, without_idle, is_another_idle}
-use Rattle.sqlx_pool_core.specs.EventTable.{may_pass, is_beyond}
-use Rattle.sqlx_pool_core.specs.KeepingSteps.{is_reaped_at, reap_answer, reap_marks, reaped}
+use Rattle.sqlx_pool_core.specs.Core.{Core, resting}
+use Rattle.sqlx_pool_core.specs.Edits.{at_moment, without_idle}
+use Rattle.sqlx_pool_core.specs.EventTable.{is_beyond}
+use Rattle.sqlx_pool_core.specs.KeepingSteps.{is_reaped_at, reap_answer}
 use Rattle.sqlx_pool_core.specs.Makes.{Makes}
-use Rattle.sqlx_pool_core.specs.Marks.{Resting, idle_of, next_conn, opened_at}
-use Rattle.sqlx_pool_core.specs.Sound.{IsSound, rests, holds}
+use Rattle.sqlx_pool_core.specs.Marks.{idle_of, next_conn}
+use Rattle.sqlx_pool_core.specs.Sound.{IsSound, rests}
 use Rattle.sqlx_pool_core.specs.StandsFor.{StandsFor, IsBorn}
 use Rattle.sqlx_pool_core.proofs.Known.{idle-found}
-use Rattle.sqlx_pool_core.proofs.ListFacts.{same_number, count_by-cons, filter_none, found_counts, found_passes, length-filter_not, map-append, length_map}
+use Rattle.sqlx_pool_core.proofs.ListFacts.{same_number, count_by-cons, filter_none, found_counts, length-filter_not, map-append, length_map}
 use Rattle.mem_driver.specs.Driver.{Store, Link}
 use Rattle.sqlx_brackets.specs.Changes.{leaves, History}
 use Rattle.sqlx_script.specs.declared.pool_line.PoolLine.{PoolLine}
@@ -26,7 +24,7 @@ use Rattle.sqlx_script.specs.declared.step.Step.TheVariants.{Reap}
 use Rattle.sqlx_script.specs.declared.reply.Reply.{Reply}
 use Rattle.sqlx_script.specs.declared.reply.Reply.TheVariants as reply
 use Rattle.sqlx_play.specs.declared.stage.Stage.{Stage}
-use Rattle.sqlx_play.specs.ScriptMarks.{marks_of, openings, reaped_of, reaping, is_beyond_limits, is_aged, passes}
+use Rattle.sqlx_play.specs.ScriptMarks.{marks_of, openings, reaped_of, reaping, is_beyond_limits, is_aged}
 use Rattle.sqlx_play.specs.ScriptLevels.{gone_by, history_of}
 use Rattle.sqlx_play.specs.LinksStand.{LinksStand}
 use Rattle.sqlx_play.specs.StageStands.{IsSetUp, StageStands}

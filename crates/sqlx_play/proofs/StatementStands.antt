@@ -1,9 +1,8 @@
 -- The stage behind a statement.
-use Rattle.std.proofs.Common.{◌≡◌, ℕ, ◌+◌, ◌≤◌, ◌==◌, Bool, true, false, not, cond, is_some, ◌⊎◌, inl, inr, List, [], ◌∷◌, ◌++◌, map, count_by, Option, Some, None, Result, Ok, Err, IfOk, All, refl, sym, ap, ap₂, subst, ◌∙◌, arith}
+use Rattle.std.proofs.Common.{◌≡◌, ℕ, ◌≤◌, ◌==◌, Bool, true, false, is_some, ◌⊎◌, inl, inr, List, [], ◌∷◌, ◌++◌, map, count_by, Option, Some, Result, Ok, Err, IfOk, refl, sym, ap, subst, ◌∙◌, arith}
 use Rattle.std.specs.List.{list_any}
 use Rattle.std.proofs.lemmas.List.Elements.{All-same}
 use Rattle.sqlx_pool_core.specs.declared.mark.Mark.{Mark}
-use Rattle.sqlx_pool_core.specs.declared.ticket.Ticket.{Ticket}
 use Rattle.sqlx_pool_core.specs.declared.ticket.Held.{Held}
 use Rattle.sqlx_pool_core.specs.declared.steps.Lent.{Lent}
 use Rattle.sqlx_pool_core.specs.Core.{Core, loan_of}
@@ -19,31 +18,27 @@ use Rattle.sqlx_script.specs.declared.step.Event.{Event}
 use Rattle.sqlx_script.specs.declared.step.Step.{Step}
 use Rattle.sqlx_script.specs.declared.step.Step.TheVariants as step
 use Rattle.sqlx_script.specs.declared.reply.Reply.{Reply}
-use Rattle.sqlx_script.specs.declared.reply.Reply.TheVariants as reply
 use Rattle.sqlx_brackets.specs.Changes.{History}
 use Rattle.sqlx_brackets.specs.Brackets.{depth}
-use Rattle.sqlx_brackets.specs.Stores.{AreAccepted}
-use Rattle.sqlx_brackets.specs.Links.{Linked, linked_after}
+use Rattle.sqlx_brackets.specs.Links.{linked_after}
 use Rattle.sqlx_brackets.specs.Events.{reply_of, change_by, not_held}
 use Rattle.sqlx_brackets.specs.Events as bracket
 use Rattle.sqlx_brackets.proofs.Answering.{asked_fine}
 use Rattle.sqlx_play.specs.declared.stage.Stage.{Stage}
 use Rattle.sqlx_play.specs.declared.stage.statements.Statement.{Statement}
-use Rattle.sqlx_play.specs.declared.stage.acts.Act.{Act}
-use Rattle.sqlx_play.specs.declared.stage.acts.Act.TheVariants as act
 use Rattle.sqlx_play.specs.Answer.{answer, reply_at}
 use Rattle.sqlx_play.specs.ScriptMarks.{made, marks_of}
 use Rattle.sqlx_play.specs.ScriptLevels as levels
 use Rattle.sqlx_play.specs.ScriptLevels.{statement_of, statement_reply, written_reply, read_reply, owns, met_of, changed_by, history_of, history_after}
 use Rattle.sqlx_play.specs.Tries.{Tries, tried, tries_of}
-use Rattle.sqlx_play.specs.LinksStand.{LinksStand, side_of, IsLinkOf}
+use Rattle.sqlx_play.specs.LinksStand.{LinksStand, IsLinkOf}
 use Rattle.sqlx_play.specs.StageStands.{StageStands, IsTried}
 use Rattle.sqlx_play.specs.PlaysEvent.{PlaysEvent}
 use Rattle.sqlx_play.specs.LinkActs.{act_on, answer_for, IsMet, reply_on, left_by}
 use Rattle.sqlx_play.specs.StatementRuns.{said, is_lent_id, at_work, left_at, RunsOnLink, RunsNot, Runs}
 use Rattle.sqlx_play.proofs.Pairs.{tries_of-push, tried-same}
-use Rattle.sqlx_play.proofs.StageAfter.{StageMoves, stage-after}
-use Rattle.sqlx_play.proofs.Leaves.{Leaves, session_at}
+use Rattle.sqlx_play.proofs.StageAfter.{stage-after}
+use Rattle.sqlx_play.proofs.Leaves.{session_at}
 use Rattle.sqlx_play.proofs.ActsAlike.{AlikeAt, acts-alike}
 use Rattle.sqlx_play.proofs.Middles.{All-mid, uncounted}
 use Rattle.sqlx_play.proofs.OwnLink.{busy-alike}

@@ -1,5 +1,5 @@
 -- Worked scripts: the replies and the closing report, by computing the definitions.
-use Rattle.std.specs.Prelude.{◌≡◌, ℕ, ℤ, pos, negsuc, Bool, true, false, List, [], ◌∷◌, map, Option, Some, None, refl}
+use Rattle.std.specs.Prelude.{◌≡◌, ℕ, pos, true, false, List, [], ◌∷◌, map, Some, None, refl}
 use Rattle.sqlx_savepoints.specs.declared.level_text.LevelText.TheVariants as text
 use Rattle.sqlx_script.specs.declared.answers.HookAnswer.TheVariants as hook
 use Rattle.sqlx_script.specs.declared.answers.AfterConnectAnswer.TheVariants as set_up

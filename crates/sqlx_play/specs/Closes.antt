@@ -1,5 +1,5 @@
 -- The store behind the closing of several links.
-use Rattle.std.specs.Prelude.{ℕ, List, [], ◌∷◌}
+use Rattle.std.specs.Prelude.{List, [], ◌∷◌}
 use Rattle.sqlx_pool_core.specs.declared.steps.Idle.{Idle}
 use Rattle.mem_driver.specs.Driver.{Store, Link, without}
 

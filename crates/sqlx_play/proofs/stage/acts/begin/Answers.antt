@@ -1,4 +1,4 @@
-use Rattle.std.proofs.Common.{◌≡◌, ℕ, suc, ◌+◌, Some, refl, sym, ap, ◌∙◌, arith}
+use Rattle.std.proofs.Common.{◌≡◌, suc, ◌+◌, Some, refl, ap, ◌∙◌, arith}
 use Rattle.mem_driver.specs.declared.statement.Statement.TheVariants.{Level as LevelOf}
 use Rattle.mem_driver.specs.declared.act.Act.TheVariants.{Level as Doing}
 use Rattle.sqlx_savepoints.specs.Texts.{begin_at, text_of}

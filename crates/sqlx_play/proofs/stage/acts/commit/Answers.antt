@@ -1,4 +1,4 @@
-use Rattle.std.proofs.Common.{◌≡◌, ℕ, ◌≤◌, ◌-◌, pred, Some, refl, sym, ap, subst, ◌∙◌, arith}
+use Rattle.std.proofs.Common.{◌≡◌, ◌≤◌, ◌-◌, pred, Some, refl, sym, ap, subst, ◌∙◌, arith}
 use Rattle.mem_driver.specs.declared.statement.Statement.TheVariants.{Level as LevelOf}
 use Rattle.mem_driver.specs.declared.act.Act.TheVariants.{Level as Doing}
 use Rattle.mem_driver.specs.Acts.{after_start_rollback}

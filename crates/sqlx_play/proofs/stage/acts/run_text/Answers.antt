@@ -1,4 +1,4 @@
-use Rattle.std.proofs.Common.{◌≡◌, Option, Some, None, Ok, Err, refl, sym, ap, ◌∙◌}
+use Rattle.std.proofs.Common.{◌≡◌, Option, Some, None, refl, ap, ◌∙◌}
 use Rattle.mem_driver.specs.declared.refusal.Refusal.{Refusal}
 use Rattle.mem_driver.specs.Acts.{refusal_of}
 use Rattle.mem_driver.specs.Errors.{error_of}

@@ -1,5 +1,4 @@
-use Rattle.std.proofs.Common.{◌≡◌, ◌+◌, List, [], ◌∷◌, ◌++◌, ap, refl, sym, subst, ◌∙◌, Err, Ok, OnOk, Result}
-use Rattle.sqlx_pool_core.specs.declared.mark.Mark.{Mark}
+use Rattle.std.proofs.Common.{◌≡◌, ◌+◌, [], ◌∷◌, ◌++◌, ap, refl, sym, subst, ◌∙◌, Err, Ok, OnOk, Result}
 use Rattle.sqlx_pool_core.specs.declared.ticket.Phase.TheVariants.{Connecting}
 use Rattle.sqlx_pool_core.specs.Makes.{Makes}
 use Rattle.sqlx_pool_core.specs.Core.{Core, ticket_of}

@@ -1,7 +1,5 @@
-use Rattle.std.proofs.Common.{◌≡◌, ℕ, ◌^◌, ◌≤◌, Bool, cond, List, [], ◌∷◌, ◌++◌, Some, Ok, Err, IfOk, OnOk, Result, max, refl, sym, ap, subst, ◌∙◌}
+use Rattle.std.proofs.Common.{◌≡◌, ℕ, ◌^◌, ◌≤◌, Bool, cond, List, [], ◌∷◌, max, refl, sym, ap, ◌∙◌}
 use Rattle.std.proofs.Math.Nat.{max-eq_right}
-use Rattle.sqlx_pool_core.specs.declared.mark.Mark.{Mark}
-use Rattle.sqlx_pool_core.specs.declared.ticket.Ticket.{Ticket}
 use Rattle.sqlx_pool_core.specs.Core.{Core, ticket_of}
 use Rattle.sqlx_pool_core.specs.Edits.{with_ticket, to_connect}
 use Rattle.sqlx_pool_core.specs.PollSteps.{phase_for, tested_at, start_answer, started}
@@ -15,7 +13,7 @@ use Rattle.sqlx_script.specs.declared.step.Event.{Event}
 use Rattle.sqlx_play.specs.declared.stage.Stage.{Stage}
 use Rattle.sqlx_play.specs.StageStands.{StageStands}
 use Rattle.sqlx_script.specs.declared.reply.Reply.{Reply}
-use Rattle.sqlx_script.specs.declared.reply.Reply.TheVariants.{NotHeld, PoolClosed, PoolTimedOut, Waiting, Backoff, Ready}
+use Rattle.sqlx_script.specs.declared.reply.Reply.TheVariants.{NotHeld, PoolClosed, PoolTimedOut, Waiting, Ready}
 use Rattle.sqlx_play.specs.Answer.{answer}
 use Rattle.sqlx_play.specs.ScriptMarks.{marks_of, leaving, waits}
 use Rattle.sqlx_play.proofs.Pairs.{tries_of-push}

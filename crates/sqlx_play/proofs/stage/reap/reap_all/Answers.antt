@@ -1,6 +1,6 @@
-use Rattle.std.proofs.Common.{◌≡◌, ◌+◌, Bool, true, false, ◌∷◌, [], ◌++◌, ap, subst, ◌∙◌, length, arith}
-use Rattle.sqlx_play.specs.Reaps.{Reaps, ReapsOne}
-use Rattle.sqlx_play.proofs.Reaping.{reaps-nothing, reaps-then, reaps-whole}
+use Rattle.std.proofs.Common.{◌∷◌, [], ◌++◌, subst, ◌∙◌}
+use Rattle.sqlx_play.specs.Reaps.{ReapsOne}
+use Rattle.sqlx_play.proofs.Reaping.{reaps-then, reaps-whole}
 use Rattle.sqlx_play.proofs.stage.reap.reap_all.Goals as goal
 
 pub loop-moment-preserved : goal.loop-moment-preserved

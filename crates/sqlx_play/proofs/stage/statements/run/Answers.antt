@@ -1,4 +1,4 @@
-use Rattle.std.proofs.Common.{◌≡◌, is_some, List, ◌∷◌, ◌++◌, inl, refl, sym, ap, ◌∙◌}
+use Rattle.std.proofs.Common.{is_some, List, ◌∷◌, ◌++◌, inl, sym, ap, ◌∙◌}
 use Rattle.std.specs.List.{insert}
 use Rattle.sqlx_pool_core.specs.declared.steps.Lent.{Lent}
 use Rattle.sqlx_pool_core.specs.Core.{loan_of}
