@@ -50,7 +50,7 @@ in_order max v (Ended t) next h = tt
 in_order max v Shut next h = tt
 
 -- a mark that may be the last may have any behind it
-followed : (max : ℕ) (v after : View) (last : Option Mark) (m : Mark) (next : Option Mark) → IsFairMark max v after last m None → IsFairMark max v after last m next
+pub followed : (max : ℕ) (v after : View) (last : Option Mark) (m : Mark) (next : Option Mark) → IsFairMark max v after last m None → IsFairMark max v after last m next
 followed max v after last m next f = record {
   finds = f.finds;
   keeps = unless_from (is_amid m next) (size after ≤ max) (subst (λ b. Unless b (size after ≤ max)) (last_settled m) f.keeps);

@@ -17,7 +17,7 @@ use Rattle.sqlx_pool_core.specs.Core.{Core, size, free, waiting}
 use Rattle.sqlx_pool_core.specs.StandsFor.{StandsFor}
 use Rattle.sqlx_pool_core.specs.Makes.{Makes}
 use Rattle.sqlx_pool_core.specs.KeepingSteps.{done, done_at, placed, placed_back, has_place}
-use Rattle.sqlx_pool_core.specs.KeepWith.{failed, filled_made, IsFilled, openings_made, IsFresh, Opens}
+use Rattle.sqlx_pool_core.specs.KeepWith.{failed, is_full, filled_made, IsFilled, openings_made, IsFresh, Opens}
 
 -- a connect that was refused for good, and not for want of memory, raised the count
 pub refused-risen : (before now : ℕ) (e : Error) → IsForGood before now e → failed e ≡ filled.Refused → HasRisen before now
@@ -27,6 +27,14 @@ refused-risen before now e (inr risen, q) r = risen
 failed_is : (e : Error) → (failed e ≡ filled.Short) ⊎ (failed e ≡ filled.Refused)
 failed_is OutOfMemory = inl refl
 failed_is other = inr refl
+
+-- a connect that was refused had a place
+place_kept : (r s : Filled) → r ≡ s → (s ≡ filled.Short) ⊎ (s ≡ filled.Refused) → is_full r ≡ false
+place_kept r s e (inl is) = ap is_full (e ∙ is)
+place_kept r s e (inr is) = ap is_full (e ∙ is)
+
+pub failed-place : (r : Filled) (e : Error) → r ≡ failed e → is_full r ≡ false
+failed-place r e is = place_kept r (failed e) is (failed_is e)
 
 -- a refused connect makes no mark
 made_none : (r s : Filled) (n m : ℕ) → r ≡ s → (s ≡ filled.Short) ⊎ (s ≡ filled.Refused) → filled_made r n m ≡ []

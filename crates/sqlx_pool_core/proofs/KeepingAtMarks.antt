@@ -8,9 +8,9 @@ use Rattle.sqlx_pool_core.specs.Marks.{idle_of, loans_of, leaked_of, tickets_of}
 use Rattle.sqlx_pool_core.specs.Counts.{left_in, free_of}
 use Rattle.sqlx_pool_core.specs.Core.{Core, resting, waiting, free}
 use Rattle.sqlx_pool_core.specs.StandsFor.{StandsFor}
-use Rattle.sqlx_pool_core.specs.EventTable.{is_idle_too_long, may_pass, may_open}
-use Rattle.sqlx_pool_core.specs.KeepingSteps.{is_reaped_at, reap_answer, has_place, close_answer}
-use Rattle.sqlx_pool_core.specs.EventsAtMarks.{may_pass_at, is_old_since, is_beyond_at, idle_conn, resting_conn, reaped_at, has_place_at, closed_at}
+use Rattle.sqlx_pool_core.specs.EventTable.{is_idle_too_long, may_pass, may_open, lacking}
+use Rattle.sqlx_pool_core.specs.KeepingSteps.{is_reaped_at, reap_answer, has_place, lacks, close_answer}
+use Rattle.sqlx_pool_core.specs.EventsAtMarks.{may_pass_at, is_old_since, is_beyond_at, idle_conn, resting_conn, reaped_at, has_place_at, lacking_at, closed_at}
 use Rattle.sqlx_pool_core.proofs.Stands.{IsIdleBorn}
 use Rattle.sqlx_pool_core.proofs.TurnAtMarks.{gone-stands, waiting-stands, owned-stands, size-stands}
 
@@ -46,6 +46,9 @@ module _ {C : Type 0} (core : Core C) (marks : List Mark) (s : StandsFor core ma
 
   pub place-at : (minimum : ℕ) → has_place minimum core ≡ has_place_at core.options core.places marks minimum
   place-at minimum = λ i. may_open (s.shut i) (waiting-stands core marks s i) (free-at i) (size-stands core marks s i) minimum core.options.max_connections (s.conn_number i)
+
+  pub lacks-at : lacks core ≡ lacking_at core.options core.places marks
+  lacks-at = λ i. lacking (s.shut i) (waiting-stands core marks s i) (free-at i) (size-stands core marks s i) core.options.min_connections core.options.max_connections (s.conn_number i)
 
   reap_with : (m : ℕ) (may : Bool) → option_map idle_conn (reap_answer may core.options m core.idle) ≡ cond may (option_map resting_conn (find (is_beyond_at core.options m marks) (idle_of marks))) None
   reap_with m true = found-alike core.options m marks core.idle s.idle_born ∙ ap (λ l. option_map resting_conn (find (is_beyond_at core.options m marks) l)) s.idle

@@ -27,6 +27,11 @@ pub mod Moving
 pub mod KeepingAtMarks
 mod EventRows
 pub mod LogLaws
+pub mod ViewSteps
+pub mod SoundViews
+pub mod FairSteps
 pub mod WholePoll
 pub mod PollOutcome
 pub mod KeepRuns
+pub mod ToldTries
+pub mod Lacking

@@ -113,7 +113,7 @@ either-later : (a b c d e f : ℕ) → HasRisen a b ⊎ HasRisen d e → b ≤ c
 either-later a b c d e f (inl h) p q = inl (risen-later a b c h p)
 either-later a b c d e f (inr h) p q = inr (risen-later d e f h q)
 
-either-before : (a b c d e f : ℕ) → HasRisen b c ⊎ HasRisen e f → a ≤ b → d ≤ e → HasRisen a c ⊎ HasRisen d f
+pub either-before : (a b c d e f : ℕ) → HasRisen b c ⊎ HasRisen e f → a ≤ b → d ≤ e → HasRisen a c ⊎ HasRisen d f
 either-before a b c d e f (inl h) p q = inl (risen-before a b c p h)
 either-before a b c d e f (inr h) p q = inr (risen-before d e f q h)
 

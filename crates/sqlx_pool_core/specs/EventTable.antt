@@ -1,5 +1,5 @@
 -- When a connection is kept, lent without a ticket, reaped, or opened for the minimum.
-use Rattle.std.specs.Prelude.{ℕ, ◌-◌, ◌^◌, Bool, false, not, ◌&&◌, ◌||◌, nat_lt, min, Option, Some, None}
+use Rattle.std.specs.Prelude.{ℕ, ◌+◌, ◌-◌, ◌^◌, Bool, false, not, ◌&&◌, ◌||◌, nat_lt, min, Option, Some, None, if◌then◌else◌}
 use Rattle.sqlx_pool_core.specs.declared.options.PoolOptions.{PoolOptions}
 
 -- the duration is above its limit, strictly; without a limit none is
@@ -27,3 +27,8 @@ may_pass shut waiting free = not shut && nat_lt waiting free
 abbrev pub may_open : Bool → ℕ → ℕ → ℕ → ℕ → ℕ → ℕ → Bool
 may_open shut waiting free size minimum maximum next_conn =
     may_pass shut waiting free && nat_lt size (min minimum maximum) && not (nat_lt (2 ^ 63) next_conn)
+
+-- how many connections may be opened for this minimum, one behind the other
+abbrev pub lacking : Bool → ℕ → ℕ → ℕ → ℕ → ℕ → ℕ → ℕ
+lacking shut waiting free size minimum maximum next_conn =
+    if may_pass shut waiting free then min (min minimum maximum - size) (2 ^ 63 + 1 - next_conn) else 0

@@ -6,7 +6,7 @@ use Rattle.sqlx_pool_core.specs.declared.options.PoolOptions.{PoolOptions}
 use Rattle.sqlx_pool_core.specs.declared.steps.Idle.{Idle}
 use Rattle.sqlx_pool_core.specs.Marks.{Resting, tickets_of, loans_of, idle_of, leaked_of, opened_at, is_shut, next_conn}
 use Rattle.sqlx_pool_core.specs.Counts.{waiting_in, left_in, free_of}
-use Rattle.sqlx_pool_core.specs.EventTable.{is_idle_too_long, is_too_old, may_pass, may_open}
+use Rattle.sqlx_pool_core.specs.EventTable.{is_idle_too_long, is_too_old, may_pass, may_open, lacking}
 
 -- connections may be lent, reaped or opened past the line, in a pool of this maximum that holds so many places for the minimum
 abbrev pub may_pass_at : ℕ → ℕ → List Mark → Bool
@@ -40,6 +40,14 @@ has_place_at options places marks minimum =
     (free_of options.max_connections (length (loans_of marks)) (leaked_of marks) (left_in (tickets_of marks)) places)
     (length (idle_of marks) + length (loans_of marks) + leaked_of marks + left_in (tickets_of marks) + places)
     minimum options.max_connections (next_conn marks)
+
+-- how many connections the pool lacks of its minimum
+abbrev pub lacking_at : PoolOptions → ℕ → List Mark → ℕ
+lacking_at options places marks =
+    lacking (list_any is_shut marks) (waiting_in (tickets_of marks))
+    (free_of options.max_connections (length (loans_of marks)) (leaked_of marks) (left_in (tickets_of marks)) places)
+    (length (idle_of marks) + length (loans_of marks) + leaked_of marks + left_in (tickets_of marks) + places)
+    options.min_connections options.max_connections (next_conn marks)
 
 -- the connections that a close gives back: all idle ones at the first, none later
 abbrev pub closed_at : List Mark → List ℕ

@@ -9,7 +9,7 @@ use Rattle.sqlx_pool_core.specs.declared.steps.CloseState.{CloseState}
 use Rattle.sqlx_pool_core.specs.declared.steps.CloseState.TheVariants as state
 use Rattle.sqlx_pool_core.specs.Marks.{is_shut, loans_of, leaked_of, tickets_of}
 use Rattle.sqlx_pool_core.specs.Core.{Core, waiting, free, size}
-use Rattle.sqlx_pool_core.specs.EventTable.{is_reaped, may_open}
+use Rattle.sqlx_pool_core.specs.EventTable.{is_reaped, may_open, lacking}
 use Rattle.sqlx_pool_core.specs.Edits.{without_idle, kept, opened, at_moment}
 
 -- ---- reap
@@ -40,6 +40,10 @@ without_first test (x ∷ xs) = if test x then xs else x ∷ without_first test 
 -- a place may be held for a connection up to this minimum
 abbrev pub has_place : {C : Type 0} → ℕ → Core C → Bool
 has_place minimum core = may_open core.shut (waiting core.tickets) (free core) (size core) minimum core.options.max_connections core.next_conn
+
+-- how many connections the pool lacks of its minimum
+abbrev pub lacks : {C : Type 0} → Core C → ℕ
+lacks core = lacking core.shut (waiting core.tickets) (free core) (size core) core.options.min_connections core.options.max_connections core.next_conn
 
 abbrev pub placed : {C : Type 0} → Bool → Core C → Core C
 placed true core = record core { places = core.places + 1 }

@@ -25,3 +25,4 @@ pub mod KeepingSteps
 pub mod Moves
 pub mod Laws
 pub mod KeepWith
+pub mod ToldTries

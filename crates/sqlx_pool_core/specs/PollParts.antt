@@ -25,7 +25,7 @@ use Rattle.sqlx_pool_core.specs.declared.mark.Mark.{Mark}
 use Rattle.sqlx_pool_core.specs.declared.mark.Mark.TheVariants as mark
 use Rattle.sqlx_pool_core.specs.Core.{Core}
 use Rattle.sqlx_pool_core.specs.Edits.{ended, lent_to}
-use Rattle.sqlx_pool_core.specs.Outside.{HasRisen, Told, is_transient, pinged_once, tested_once}
+use Rattle.sqlx_pool_core.specs.Outside.{HasRisen, Told, is_transient, pinged_once, tested_once, set_up_once}
 use Rattle.sqlx_pool_core.specs.PollSteps.{wait_of, lent_since}
 use Rattle.sqlx_pool_core.specs.PollWith.{Try, Opens, Again, Fails, untested}
 
@@ -55,6 +55,11 @@ told_pinged false told = told
 abbrev pub told_tested : Bool → Option Told → Option Told
 told_tested true told = option_map tested_once told
 told_tested false told = told
+
+-- what is told after the hook after a connect, if it ran
+abbrev pub told_set_up : Bool → Option Told → Option Told
+told_set_up true told = option_map set_up_once told
+told_set_up false told = told
 
 -- what is told of connects and of their hook is the same
 abbrev pub KeepsConnects : Option Told → Option Told → Type 0

@@ -26,4 +26,6 @@ pub use steps::{
 };
 
 #[cfg(test)]
+mod minimum_tests;
+#[cfg(test)]
 mod tests;

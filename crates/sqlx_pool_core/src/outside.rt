@@ -1,6 +1,6 @@
 //! What the pool asks of its outside: connects, pings, hooks, and closing.
 
-ghost use Rattle.std.specs.Prelude.{◌≡◌, ℕ, Bool, ◌<◌, ◌≤◌, ◌⊎◌, Option, Some, option_map, IfOk, IfErr, IfSome, is_ok, false};
+ghost use Rattle.std.specs.Prelude.{◌≡◌, ℕ, Bool, ◌<◌, ◌≤◌, ◌⊎◌, Option, Some, Err, option_map, IfOk, IfErr, IfSome, is_ok, false};
 ghost use Rattle.sqlx_text.specs.declared.error.Error.{Error};
 ghost use Rattle.sqlx_pool_core.specs.Outside.{HasRisen, Told, reach_of, says_yes, says_ok, IsFirst, IsFirstIfAny, connected_once, pinged_once, set_up_once, tested_once, released_once};
 
@@ -33,11 +33,15 @@ pub trait Outside<C, O> {
     /// The answers of the next calls, if the outside tells them.
     ghost told: { Self → Option Told };
 
+    /// A connect wanted memory, and no other call came since. An outside that doesn't tell it leaves it out.
+    ghost IsShort: { Self → Type 0 } = { λ _. Unit {0} };
+
     /// Opens a connection, which has no level open.
     fn connect(&mut self, alloc: Global, options: &O) -> Result<C, Error>
         ensures new { IfOk result (λ conn. depth self.new conn ≡ 0) }
         ensures others { (other : C) → IfOk result (λ conn. alike self.old conn other ≡ false) → depth self.new other ≡ depth self.old other }
         ensures cause { IfErr result (λ e. (e ≡ Error.OutOfMemory) ⊎ HasRisen (faults self.old) (faults self.new)) }
+        ensures want { result ≡ Err Error.OutOfMemory → IsShort self.new }
         ensures faults { faults self.old ≤ faults self.new }
         ensures refusals { refusals self.old ≤ refusals self.new }
         ensures answer { IfSome (told self.old) (λ t. IsFirstIfAny t.connects (reach_of result)) }

@@ -4,7 +4,8 @@ ghost use Rattle.std.specs.Prelude.{◌≡◌, ℕ, ◌<◌, ◌≤◌, ◌⊎�
 ghost use Rattle.sqlx_text.specs.declared.error.Error.{Error};
 ghost use Rattle.sqlx_pool_core.specs.Outside.{HasRisen, Told, Reach, is_transient, set_up_once};
 ghost use Rattle.sqlx_pool_core.specs.PollWith.{told_passes, told_try, Opens, Again};
-ghost use Rattle.sqlx_pool_core.specs.PollParts.{is_pass, told_pinged, told_tested, KeepsConnects, passes_hook, refused, try_of, IfOpened, IfFailed, IsForGood};
+ghost use Rattle.sqlx_pool_core.specs.PollParts.{is_pass, told_pinged, told_tested, told_set_up, KeepsConnects, passes_hook, refused, try_of, IfOpened, IfFailed, IsForGood};
+ghost use Rattle.sqlx_pool_core.specs.ToldTries.{tries_told, IsNext};
 
 use crate::options::PoolOptions;
 use crate::outside::{Outside, PoolConnectionMetadata};
@@ -104,7 +105,9 @@ pub fn check_of<C, O, X: Outside<C, O>>(
 fn sets_up<C, O, X: Outside<C, O>>(hook: bool, raw: &mut C, out: &mut X) -> bool
     ensures level { X.depth out.old raw.old ≡ 0 → result ≡ true → X.depth out.new raw.new ≡ 0 }
     ensures cause { X.depth out.old raw.old ≡ 0 → result ≡ false → HasRisen (X.refusals out.old) (X.refusals out.new) }
+    ensures plain { hook ≡ false → result ≡ true }
     ensures answer { X.depth out.old raw.old ≡ 0 → (t : Told) → X.told out.old ≡ Some t → (good : Bool) → (goods : List Bool) → t.after_connects ≡ good ∷ goods → result ≡ (not hook || good) }
+    ensures told { X.told out.new ≡ told_set_up hook (X.told out.old) }
     ensures faults { X.faults out.old ≤ X.faults out.new }
     ensures refusals { X.refusals out.old ≤ X.refusals out.new }
 {
@@ -125,7 +128,9 @@ fn set_up<C, O, X: Outside<C, O>>(hook: bool, given: C, out: &mut X) -> Opening<
     ensures passes { try_of result ≡ (if passes_hook result then Opens else Again) }
     ensures level { IfOpened result (λ raw. X.depth out.new raw ≡ 0) }
     ensures cause { passes_hook result ≡ false → HasRisen (X.refusals out.old) (X.refusals out.new) }
+    ensures plain { hook ≡ false → passes_hook result ≡ true }
     ensures answer { (t : Told) → X.told out.old ≡ Some t → (good : Bool) → (goods : List Bool) → t.after_connects ≡ good ∷ goods → passes_hook result ≡ (not hook || good) }
+    ensures told { X.told out.new ≡ told_set_up hook (X.told out.old) }
     ensures faults { X.faults out.old ≤ X.faults out.new }
     ensures refusals { X.refusals out.old ≤ X.refusals out.new }
 {
@@ -160,6 +165,9 @@ pub fn try_connect<C, O, X: Outside<C, O>>(
     ensures again { try_of result ≡ Again → HasRisen (X.faults out.old) (X.faults out.new) ⊎ HasRisen (X.refusals out.old) (X.refusals out.new) }
     ensures failed { IfFailed result (λ e. IsForGood (X.faults out.old) (X.faults out.new) e) }
     ensures answer { (t : Told) → X.told out.old ≡ Some t → (reach : Reach) (good : Bool) (reaches : List Reach) (goods : List Bool) → t.connects ≡ reach ∷ reaches → t.after_connects ≡ good ∷ goods → (try_of result ≡ told_try core.now reach good) ⊎ (result ≡ Opening.Failed Error.OutOfMemory) }
+    // The try comes to the first that was told, and the others are told next.
+    ensures tells { IsNext (tries_told core.now.after_connect (X.told out.old)) (tries_told core.now.after_connect (X.told out.new)) (λ try. try_of result ≡ try) ⊎ (result ≡ Opening.Failed Error.OutOfMemory) }
+    ensures want { result ≡ Opening.Failed Error.OutOfMemory → X.IsShort out.new }
     ensures faults { X.faults out.old ≤ X.faults out.new }
     ensures refusals { X.refusals out.old ≤ X.refusals out.new }
 {

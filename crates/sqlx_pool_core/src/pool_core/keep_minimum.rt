@@ -1,13 +1,15 @@
 //! Keeping the minimum, with the outside asked for each connection.
 
-ghost use Rattle.std.specs.Prelude.{◌≡◌, ℕ, ◌+◌, ◌<◌, ◌≤◌, ◌⊎◌, max, Bool, true, false, not, List, [], Option, Some, None, IfNone};
+ghost use Rattle.std.specs.Prelude.{◌≡◌, ℕ, ◌+◌, ◌<◌, ◌≤◌, ◌⊎◌, max, nat_lt, Bool, true, false, not, List, [], Option, Some, None, IfNone};
 ghost use Rattle.sqlx_text.specs.declared.error.Error.{Error};
 ghost use Rattle.sqlx_pool_core.specs.declared.mark.Mark.{Mark};
 ghost use Rattle.sqlx_pool_core.specs.Makes.{Makes};
 ghost use Rattle.sqlx_pool_core.specs.StandsFor.{StandsFor};
 ghost use Rattle.sqlx_pool_core.specs.Outside.{HasRisen};
-ghost use Rattle.sqlx_pool_core.specs.KeepingSteps.{done, placed, has_place, done_marks};
+ghost use Rattle.sqlx_pool_core.specs.KeepingSteps.{done, placed, has_place, done_marks, lacks};
 ghost use Rattle.sqlx_pool_core.specs.KeepWith.{failed, is_full, filled_made, IsFilled, openings_made, Opens};
+ghost use Rattle.sqlx_pool_core.specs.EventsAtMarks.{lacking_at};
+ghost use Rattle.sqlx_pool_core.specs.ToldTries.{tries_told, IsNext, filled_by, IsToldEnough, OpensAsTold};
 
 use super::PoolCore;
 use crate::filled::Filled;
@@ -67,6 +69,8 @@ impl<C> PoolCore<C> {
         ensures filled { is_full result ≡ false }
         ensures makes { (marks : List Mark) → StandsFor self.old marks → Makes self.old.options.max_connections marks (filled_made result self.old.next_conn (max self.old.last now.0)) self.new }
         ensures becomes { IsFilled X.depth result (max self.old.last now.0) self.old self.new }
+        ensures tells { IsNext (tries_told self.old.options.after_connect (X.told out.old)) (tries_told self.old.options.after_connect (X.told out.new)) (λ try. result ≡ filled_by try) ⊎ (result ≡ Filled.Short) }
+        ensures want { result ≡ Filled.Short → X.IsShort out.new }
         ensures cause { result ≡ Filled.Refused → HasRisen (X.faults out.old) (X.faults out.new) ⊎ HasRisen (X.refusals out.old) (X.refusals out.new) }
         ensures faults { X.faults out.old ≤ X.faults out.new }
         ensures refusals { X.refusals out.old ≤ X.refusals out.new }
@@ -99,6 +103,8 @@ impl<C> PoolCore<C> {
         ensures place { is_full result ≡ not (has_place self.old.options.min_connections self.old) }
         ensures makes { (marks : List Mark) → StandsFor self.old marks → Makes self.old.options.max_connections marks (filled_made result self.old.next_conn (max self.old.last now.0)) self.new }
         ensures becomes { IsFilled X.depth result (max self.old.last now.0) (placed (not (is_full result)) self.old) self.new }
+        ensures tells { is_full result ≡ false → IsNext (tries_told self.old.options.after_connect (X.told out.old)) (tries_told self.old.options.after_connect (X.told out.new)) (λ try. result ≡ filled_by try) ⊎ (result ≡ Filled.Short) }
+        ensures want { result ≡ Filled.Short → X.IsShort out.new }
         ensures cause { result ≡ Filled.Refused → HasRisen (X.faults out.old) (X.faults out.new) ⊎ HasRisen (X.refusals out.old) (X.refusals out.new) }
         ensures faults { X.faults out.old ≤ X.faults out.new }
         ensures refusals { X.refusals out.old ≤ X.refusals out.new }
@@ -122,6 +128,13 @@ impl<C> PoolCore<C> {
     ) -> Openings
         ensures makes { (marks : List Mark) → StandsFor self.old marks → Makes self.old.options.max_connections marks (openings_made result.opened self.old.next_conn (max self.old.last now.0)) self.new }
         ensures opens { Opens X.depth self.old self.new result.opened now.0 }
+        // Where enough is told, as many are opened as are told to open and lack.
+        ensures told { let tries = tries_told self.old.options.after_connect (X.told out.old) in IsToldEnough (lacks self.old) tries → OpensAsTold (lacks self.old) tries result.opened result.short }
+        ensures most { result.opened ≤ lacks self.old }
+        // A place is left where fewer are opened than lack, and want of memory leaves one.
+        ensures place { has_place self.old.options.min_connections self.new ≡ nat_lt result.opened (lacks self.old) }
+        ensures short { result.short ≡ true → (has_place self.old.options.min_connections self.new ≡ true) × X.IsShort out.new }
+        ensures lacks { (marks : List Mark) → StandsFor self.old marks → lacks self.old ≡ lacking_at self.old.options self.old.places marks }
         ensures ends { (has_place self.old.options.min_connections self.new ≡ false) ⊎ (HasRisen (X.faults out.old) (X.faults out.new) ⊎ HasRisen (X.refusals out.old) (X.refusals out.new)) ⊎ (result.short ≡ true) }
         ensures faults { X.faults out.old ≤ X.faults out.new }
         ensures refusals { X.refusals out.old ≤ X.refusals out.new }
