@@ -1,4 +1,5 @@
 pub mod Trees
+pub mod Undoing
 pub mod Numbers
 pub mod LevelTexts
 pub mod OneReading
