@@ -1,1 +1,1 @@
-pub mod ArgumentLemmas
+pub mod StepLemmas

@@ -1,11 +1,14 @@
-//! What runs queries: a connection, or what has one.
-ghost use Rattle.std.specs.Prelude.{◌≡◌, ◌≤◌, [], ℕ, IfErr, IfOk, List, Result};
+//! What runs queries: a connection, or what has one. Each call but `fetch_many` is a filter of its step list.
+ghost use Rattle.std.specs.Prelude.{◌≡◌, ◌≤◌, ◌⊎◌, [], ℕ, IfErr, IfOk, List, Result};
 ghost use Rattle.sqlx_text.specs.declared.error.Error.{Error};
 ghost use Rattle.sqlx_traits.specs.Faults.{FaultCause};
 ghost use Rattle.sqlx_traits.specs.Handed.{Handed, handed};
-ghost use Rattle.sqlx_traits.specs.StepList.{StepCauses, Steps};
+ghost use Rattle.sqlx_traits.specs.Reads.{Answers};
+ghost use Rattle.sqlx_traits.specs.StepList.{Ran, StepCause, StepCauses, Steps, all_of, combined, first_of, one_or, results_of, rows_of};
 
-use crate::{Database, Execute, Faults, FetchMany, Statement};
+use crate::execute_many::combine;
+use crate::fetch::{all, first};
+use crate::{Database, Execute, ExecuteMany, Faults, Fetch, FetchMany, QueryResult, Statement};
 use sqlx_text::{Error, SqlStr};
 use std::alloc::Global;
 
@@ -22,6 +25,76 @@ pub trait Executor<DB: Database>: Faults + Sized {
         ensures steps { runs self.old (handed Q.text Q.arguments Q.kept query) result self.new }
         ensures rises { Self.faults self.old ≤ Self.faults self.new }
         ensures causes { StepCauses (Self.faults self.old) (Self.faults self.new) (Q.arguments query) result };
+
+    /// Runs a query and gives its rows, one by one, and the error behind them if there is one.
+    #[tactic(auto, using(crate::proofs::StepLemmas::causes_of_rows))]
+    fn fetch<Q: Execute<DB>>(&mut self, alloc: Global, query: Q) -> Fetch<DB>
+        ensures rows { Ran runs self.old (handed Q.text Q.arguments Q.kept query) self.new (λ list. result ≡ rows_of list) }
+        ensures rises { Self.faults self.old ≤ Self.faults self.new }
+        ensures causes { StepCauses (Self.faults self.old) (Self.faults self.new) (Q.arguments query) result }
+    {
+        Fetch::<DB>::new(self.fetch_many(alloc, query))
+    }
+
+    /// Runs a query and gives the results of its statements, one by one, and the error behind them if there is one.
+    #[tactic(auto, using(crate::proofs::StepLemmas::causes_of_results))]
+    fn execute_many<Q: Execute<DB>>(&mut self, alloc: Global, query: Q) -> ExecuteMany<DB>
+        ensures results { Ran runs self.old (handed Q.text Q.arguments Q.kept query) self.new (λ list. result ≡ results_of list) }
+        ensures rises { Self.faults self.old ≤ Self.faults self.new }
+        ensures causes { StepCauses (Self.faults self.old) (Self.faults self.new) (Q.arguments query) result }
+    {
+        ExecuteMany::<DB>::new(self.fetch_many(alloc, query))
+    }
+
+    /// Runs a query and gives the results of its statements as one, or the first error.
+    #[tactic(auto, using(crate::proofs::StepLemmas::cause_of_first_error))]
+    fn execute<Q: Execute<DB>>(&mut self, alloc: Global, query: Q) -> Result<DB::QueryResult, Error>
+        ensures combined { Ran runs self.old (handed Q.text Q.arguments Q.kept query) self.new
+            (λ list. result ≡ combined DB.QueryResult.extended DB.QueryResult.nothing (results_of list)) }
+        ensures rises { Self.faults self.old ≤ Self.faults self.new }
+        ensures cause { IfErr result (λ e. StepCause (Self.faults self.old) (Self.faults self.new) (Q.arguments query) e) }
+    {
+        combine(self.execute_many(alloc, query))
+    }
+
+    /// Runs a query and gives all of its rows, or the first error, or want of memory.
+    #[tactic(auto, using(crate::proofs::StepLemmas::cause_of_all))]
+    fn fetch_all<Q: Execute<DB>>(&mut self, alloc: Global, query: Q) -> Result<Vec<DB::Row>, Error>
+        ensures rows { Ran runs self.old (handed Q.text Q.arguments Q.kept query) self.new
+            (λ list. Answers (λ rows. rows.items) Error.OutOfMemory (all_of (rows_of list)) result) }
+        ensures rises { Self.faults self.old ≤ Self.faults self.new }
+        ensures cause { IfErr result (λ e. StepCause (Self.faults self.old) (Self.faults self.new) (Q.arguments query) e) }
+    {
+        all(alloc, self.fetch(alloc, query))
+    }
+
+    /// Runs a query and gives its first row or error, or `None` where it has neither.
+    fn fetch_optional<Q: Execute<DB>>(
+        &mut self,
+        alloc: Global,
+        query: Q,
+    ) -> Result<Option<DB::Row>, Error>
+        ensures row { Ran runs self.old (handed Q.text Q.arguments Q.kept query) self.new
+            (λ list. result ≡ first_of (rows_of list)) }
+        ensures rises { Self.faults self.old ≤ Self.faults self.new }
+        ensures cause { IfErr result (λ e. StepCause (Self.faults self.old) (Self.faults self.new) (Q.arguments query) e) }
+    {
+        first(self.fetch(alloc, query))
+    }
+
+    /// Runs a query and gives its first row or error, and `RowNotFound` where it has neither.
+    fn fetch_one<Q: Execute<DB>>(&mut self, alloc: Global, query: Q) -> Result<DB::Row, Error>
+        ensures row { Ran runs self.old (handed Q.text Q.arguments Q.kept query) self.new
+            (λ list. result ≡ one_or Error.RowNotFound (first_of (rows_of list))) }
+        ensures rises { Self.faults self.old ≤ Self.faults self.new }
+        ensures cause { IfErr result (λ e. (e ≡ Error.RowNotFound) ⊎ StepCause (Self.faults self.old) (Self.faults self.new) (Q.arguments query) e) }
+    {
+        match self.fetch_optional(alloc, query) {
+            Ok(Some(row)) => Ok(row),
+            Ok(None) => Err(Error::RowNotFound),
+            Err(error) => Err(error),
+        }
+    }
 
     /// Prepares a statement for parameters of these types.
     fn prepare_with(
