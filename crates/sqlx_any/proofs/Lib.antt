@@ -1,0 +1,5 @@
+pub mod ArgumentLemmas
+pub mod ReadBack
+pub mod NamesLemmas
+pub mod FormsLemmas
+pub mod CellsLemmas

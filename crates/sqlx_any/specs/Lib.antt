@@ -1,0 +1,13 @@
+pub mod Kinds
+pub mod TypedRead
+pub mod Names
+pub mod Rows
+pub mod ReadsBack
+pub mod Converted
+pub mod Results
+pub mod Settings
+pub mod Native
+pub mod Mapped
+pub mod Described
+pub mod Drivers
+pub mod Runs

@@ -1,0 +1,55 @@
+//! `Any`: a database whose backend is a type parameter, with values, rows and arguments that every
+//! backend shares. It exports the traits of a driver too.
+#![tactic(auto)]
+
+mod arguments;
+mod backend;
+mod blob;
+mod column;
+mod column_names;
+mod connection;
+mod convert;
+mod database;
+mod describe;
+mod driver;
+mod drivers;
+mod executor;
+pub mod laws;
+mod mapped;
+mod native;
+mod options;
+mod query_result;
+mod row;
+mod statement;
+mod transaction;
+mod type_info;
+pub mod typed_reads;
+mod types;
+mod value;
+
+pub use arguments::{AnyArgumentBuffer, AnyArguments};
+pub use backend::{AnyConnectionBackend, AnyOpen};
+pub use blob::AnyBlob;
+pub use column::AnyColumn;
+pub use column_names::ColumnNames;
+pub use connection::AnyConnection;
+pub use database::Any;
+pub use describe::Describe;
+pub use driver::AnyDriver;
+pub use drivers::find_driver;
+pub use options::AnyConnectOptions;
+pub use query_result::AnyQueryResult;
+pub use row::AnyRow;
+pub use sqlx_text::AnyTypeInfoKind;
+pub use sqlx_traits::{
+    ArgumentList, Arguments, Column, ColumnIndex, ColumnOrigin, Connect, ConnectOptions,
+    Connection, Database, Decode, DecodeOwned, Either, Encode, Execute, ExecuteMany, Executor,
+    Faults, Fetch, FetchMany, HasStatementCache, ImmutableArguments, IntoArguments, IsNull,
+    QueryResult, ResultList, Row, RowList, SqlType, Statement, StepList, TableColumn,
+    TransactionManager, Type, TypeInfo, Value, add, index_of_name, index_of_position,
+    label_of_name, label_of_position, mismatched_types, question_mark, reads,
+};
+pub use statement::AnyStatement;
+pub use transaction::AnyTransactionManager;
+pub use type_info::AnyTypeInfo;
+pub use value::{AnyValue, AnyValueKind};

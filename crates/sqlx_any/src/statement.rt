@@ -1,0 +1,192 @@
+//! A statement that a backend prepared.
+ghost use Rattle.std.specs.Prelude.{◌≡◌, ◌↔◌, IfErr, IfOk, IsOk, codes, length};
+ghost use Rattle.sqlx_traits.specs.Reads.{Answers};
+ghost use Rattle.sqlx_any.specs.Names.{AreBelow};
+ghost use Rattle.sqlx_any.specs.Native.{any_statement, native_columns, native_parameters};
+ghost use Rattle.sqlx_any.specs.Rows.{parameters_held};
+
+use crate::native::{columns_from, parameters_from};
+use crate::row::copy_of_columns;
+use crate::{Any, AnyColumn, AnyConnectionBackend, AnyTypeInfo, ColumnNames};
+use sqlx_text::{Error, OutOfMemory, SqlStr, UStr};
+use sqlx_traits::{
+    ColumnIndex, Database, Either, Statement, index_of_name, index_of_position, label_of_name,
+    label_of_position,
+};
+use std::alloc::Global;
+use std::marker::Model;
+
+/// A prepared statement: its text, its parameters, and the columns of its rows.
+#[derive(Drop)]
+pub struct AnyStatement {
+    sql: SqlStr,
+    parameters: Option<Either<Vec<AnyTypeInfo>, usize>>,
+    names: ColumnNames,
+    columns: Vec<AnyColumn>,
+}
+
+impl Model for AnyStatement {
+    ghost use Rattle.std.specs.Prelude.{length};
+    ghost use Rattle.sqlx_any.specs.Names.{AreBelow};
+    ghost use Rattle.sqlx_any.specs.Rows.{StatementParts, parameters_held};
+
+    ghost Value = { StatementParts };
+
+    ghost view = { λ s. record { sql = s.sql; parameters = parameters_held s.parameters; names = s.names; columns = s.columns.items } };
+
+    ghost invariant = { λ s. AreBelow s.names (length s.columns.items) };
+}
+
+impl AnyStatement {
+    /// A statement of these parts, and `InvalidArgument` exactly where a name has a position past the columns.
+    pub fn new(
+        sql: SqlStr,
+        parameters: Option<Either<Vec<AnyTypeInfo>, usize>>,
+        names: ColumnNames,
+        columns: Vec<AnyColumn>,
+    ) -> Result<AnyStatement, Error>
+        ensures fits { IsOk result ↔ AreBelow names (length columns.items) }
+        ensures ok { IfOk result (λ s. s ≡ record { sql = sql; parameters = parameters_held parameters; names = names; columns = columns.items }) }
+        ensures err { IfErr result (λ e. e ≡ Error.InvalidArgument (codes "a statement names no column past its own")) }
+    {
+        if names.are_below(columns.len()) {
+            return Ok(AnyStatement {
+                sql,
+                parameters,
+                names,
+                columns,
+            });
+        }
+        drop(sql);
+        drop(parameters);
+        drop(names);
+        drop(columns);
+        Err(Error::InvalidArgument(UStr::from_static("a statement names no column past its own")))
+    }
+
+    /// The form of a statement of the database, whose columns these names find.
+    ///
+    /// An error is `AnyDriverError` of the first type without a kind, of a parameter before that of a column, or want of memory.
+    pub fn try_from_statement<DB: Database>(
+        alloc: Global,
+        statement: DB::Statement,
+        names: ColumnNames,
+    ) -> Result<AnyStatement, Error>
+        requires { AreBelow names (length (DB.Statement.described statement)) }
+        ensures { Answers (λ made. made) Error.OutOfMemory (any_statement (DB.Statement.text statement) names
+            (native_parameters DB.TypeInfo.kind DB.TypeInfo.named (DB.Statement.takes statement))
+            (native_columns DB.TypeInfo.kind DB.TypeInfo.named DB.Column.at DB.Column.named DB.Column.typed (DB.Statement.described statement))) result }
+    {
+        let parameters = parameters_from::<DB::TypeInfo>(alloc, statement.parameters())?;
+        let columns = columns_from::<DB>(alloc, statement.columns())?;
+        Ok(AnyStatement {
+            sql: statement.into_sql(),
+            parameters,
+            names,
+            columns,
+        })
+    }
+
+    /// The same statement. In sqlx: `clone`.
+    pub fn try_clone(&self, alloc: Global) -> Result<AnyStatement, OutOfMemory>
+        ensures { IfOk result (λ copy. copy ≡ self.now) }
+    {
+        let sql = self.sql.try_clone(alloc)?;
+        let parameters = copy_of_parameters(alloc, &self.parameters)?;
+        let names = self.names.try_clone(alloc)?;
+        let columns = copy_of_columns(alloc, self.columns.as_slice())?;
+        Ok(AnyStatement {
+            sql,
+            parameters,
+            names,
+            columns,
+        })
+    }
+}
+
+fn copy_of_parameters(
+    alloc: Global,
+    parameters: &Option<Either<Vec<AnyTypeInfo>, usize>>,
+) -> Result<Option<Either<Vec<AnyTypeInfo>, usize>>, OutOfMemory>
+    ensures { IfOk result (λ copy. parameters_held copy ≡ parameters_held parameters.now) }
+{
+    match parameters {
+        Some(Either::Left(types)) => {
+            let copy = Vec::from_slice(alloc, types.as_slice())?;
+            Ok(Some(Either::Left(copy)))
+        }
+        Some(Either::Right(count)) => Ok(Some(Either::Right(*count))),
+        None => Ok(None),
+    }
+}
+
+impl<B: AnyConnectionBackend> Statement<Any<B>> for AnyStatement {
+    ghost text = { λ statement. statement.sql };
+
+    ghost described = { λ statement. statement.columns };
+
+    ghost takes = { λ statement. statement.parameters };
+
+    fn into_sql(self) -> SqlStr {
+        let AnyStatement {
+            sql,
+            parameters,
+            names,
+            columns,
+        } = self;
+        drop(parameters);
+        drop(names);
+        drop(columns);
+        sql
+    }
+
+    fn sql(&self) -> &SqlStr {
+        &self.sql
+    }
+
+    fn columns(&self) -> &[AnyColumn] {
+        self.columns.as_slice()
+    }
+
+    fn parameters(&self) -> Option<Either<&[AnyTypeInfo], usize>> {
+        match &self.parameters {
+            Some(Either::Left(types)) => Some(Either::Left(types.as_slice())),
+            Some(Either::Right(count)) => Some(Either::Right(*count)),
+            None => None,
+        }
+    }
+}
+
+impl ColumnIndex<AnyStatement> for usize {
+    ghost use Rattle.std.specs.Prelude.{decimal, length};
+    ghost use Rattle.sqlx_traits.specs.Places.{place_of_position};
+
+    ghost place = { λ at statement. place_of_position at (length statement.columns) };
+
+    ghost shown = { λ at. decimal at };
+
+    fn index(&self, _alloc: Global, statement: &AnyStatement) -> Result<usize, Error> {
+        index_of_position(*self, statement.columns.len())
+    }
+
+    fn label(&self, alloc: Global) -> Result<UStr, OutOfMemory> {
+        label_of_position(alloc, *self)
+    }
+}
+
+impl ColumnIndex<AnyStatement> for &str {
+    ghost use Rattle.sqlx_traits.specs.Places.{in_quotes, place_of_name};
+    ghost use Rattle.sqlx_any.specs.Names.{position_of};
+
+    ghost place = { λ name statement. place_of_name (position_of name.now statement.names) name.now };
+
+    ghost shown = { λ name. in_quotes name.now };
+
+    fn index(&self, alloc: Global, statement: &AnyStatement) -> Result<usize, Error> {
+        index_of_name(alloc, statement.names.get(*self), *self)
+    }
+
+    fn label(&self, alloc: Global) -> Result<UStr, OutOfMemory> {
+        label_of_name(alloc, *self)
+    }
+}
