@@ -1,0 +1,41 @@
+-- Where the errors of mapped rows come from.
+use Rattle.std.proofs.Common.{◌≡◌, ◌⊎◌, inl, inr, ℕ, List, [], ◌∷◌, Option, Some, None, Result, Ok, Err, IfErr, IfSome, rules, arith}
+use Rattle.sqlx_text.specs.declared.error.Error.{Error}
+use Rattle.sqlx_text.specs.declared.error.Error.TheVariants as error
+use Rattle.sqlx_text.specs.declared.fault.Fault.{Fault}
+use Rattle.sqlx_traits.specs.StepList.{StepCause, StepCauses, first_error, or_error, values_of}
+use Rattle.sqlx_query.specs.Mapping.{MapsAll, MappedRows, RefusedBy}
+
+-- want of memory is no fault that is counted
+memory : {A : Type 0} (n now : ℕ) (arguments : Result A Fault) → StepCause n now arguments error.OutOfMemory
+memory n now (Ok arguments) = tt
+memory n now (Err f) = inr tt
+
+-- the cause of an error of mapped rows: the mapper refused, or the error is one of the rows
+abbrev pub Cause : {M R B A : Type 0} → ℕ → ℕ → Result A Fault → (M → R → Result B Error → M → Type 0) → Error → Type 0
+Cause n now arguments maps e = RefusedBy maps e ⊎ StepCause n now arguments e
+
+cause_of_items : {M R B A : Type 0} (n now : ℕ) (arguments : Result A Fault) (maps : M → R → Result B Error → M → Type 0)
+    (rows : List (Result R Error)) (start : M) (items : List (Result B Error))
+    → StepCauses n now arguments rows → MappedRows maps rows start items → IfSome (first_error items) (λ e. Cause n now arguments maps e)
+cause_of_items n now arguments maps [] start items causes mapped = rw mapped tt
+cause_of_items n now arguments maps (Err f ∷ later) start items causes mapped = rw mapped (inr causes.0)
+cause_of_items n now arguments maps (Ok row ∷ later) start items causes (Ok x, next, rest, made, others, is) = rw is (cause_of_items n now arguments maps later next rest causes others)
+cause_of_items n now arguments maps (Ok row ∷ later) start items causes (Err f, next, rest, made, others, is) = rw is (inl (start, row, next, made))
+
+cause_of_error : {X : Type 0} (P : Error → Type 0) (x : X) (first : Option Error) (e : Error) → IfSome first P → or_error x first ≡ Err e → P e
+cause_of_error P x None e cause is = grind arith
+cause_of_error P x (Some f) e cause is = grind arith
+
+memory_alone : {M R B A : Type 0} (n now : ℕ) (arguments : Result A Fault) (maps : M → R → Result B Error → M → Type 0) (e : Error) → e ≡ error.OutOfMemory → Cause n now arguments maps e
+memory_alone n now arguments maps e is = rw is (inr (memory n now arguments))
+
+-- the error in place of all mapped rows
+pub cause_of_all : {M R B V A : Type 0} (n now : ℕ) (arguments : Result A Fault) (seen : V → List B) (maps : M → R → Result B Error → M → Type 0)
+    (rows : List (Result R Error)) (start : M) (r : Result V Error)
+    → StepCauses n now arguments rows → MapsAll seen maps rows start r → IfErr r (λ e. RefusedBy maps e ⊎ StepCause n now arguments e)
+cause_of_all n now arguments seen maps rows start (Ok v) causes all = search rules
+cause_of_all n now arguments seen maps rows start (Err e) causes (inl none) = memory_alone n now arguments maps e (grind arith)
+cause_of_all n now arguments seen maps rows start (Err e) causes (inr (items, mapped, inl due)) =
+    cause_of_error (λ e. Cause n now arguments maps e) (values_of items) (first_error items) e (cause_of_items n now arguments maps rows start items causes mapped) due
+cause_of_all n now arguments seen maps rows start (Err e) causes (inr (items, mapped, inr none)) = memory_alone n now arguments maps e none

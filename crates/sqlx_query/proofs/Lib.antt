@@ -1,0 +1,6 @@
+pub mod MappingLemmas
+pub mod CauseLemmas
+pub mod DraftLemmas
+pub mod PlaceholderLemmas
+pub mod ReadLemmas
+pub mod TestLemmas

@@ -1,0 +1,277 @@
+//! Statements that are built piece by piece: texts, and values that are bound to placeholders.
+ghost use Rattle.std.specs.Prelude.{◌≡◌, ◌≤◌, ◌∷◌, ◌++◌, [], Bool, IfOk, IfSome, List, OnErr, OnOk, codes, length, string_bytes, take, None, Ok};
+ghost use Rattle.std.specs.Iterator.{Drains, IsFinite};
+ghost use Rattle.std.specs.Str.{IsUtf8};
+ghost use Rattle.sqlx_text.specs.declared.fault.Fault.{Fault};
+ghost use Rattle.sqlx_traits.specs.Arguments.{AddsOne};
+ghost use Rattle.sqlx_query.specs.Query as asked;
+ghost use Rattle.sqlx_query.specs.Builder.{Gains, IsPlaceholder, Piece, begun, cut_to, with_piece};
+
+use crate::growing_text::GrowingText;
+use crate::{Query, QueryAs, QueryScalar, Separated};
+use either::Either;
+use sqlx_text::{AssertSqlSafe, Fault, OutOfMemory, SqlSafeStr, SqlStr};
+use sqlx_traits::{ArgumentList, Arguments, Database, Encode, IntoArguments, SqlType, add};
+use std::alloc::Global;
+use std::fmt::Display;
+use std::marker::Model;
+use std::mem;
+
+/// A statement that is built piece by piece.
+///
+/// Once a query was made of it, only `reset`, `sql`, `into_string` and `into_sql` may be called.
+#[derive(Drop)]
+pub struct QueryBuilder<DB: Database> {
+    text: GrowingText,
+    arguments: DB::Arguments,
+    built: bool,
+}
+
+impl<DB: Database> Model for QueryBuilder<DB> {
+    ghost use Rattle.sqlx_query.specs.Builder.{Draft};
+
+    ghost Value = { Draft DB.ArgumentBuffer };
+
+    ghost view = { λ b. record {
+      initial = b.text.initial;
+      text = b.text.text;
+      arguments = DB.Arguments.buffered b.arguments;
+      built = b.built;
+    } };
+}
+
+/// How far a statement went: the bytes of its text, and its arguments.
+#[derive(Clone, Copy)]
+pub(crate) struct Mark {
+    pub(crate) text: usize,
+    pub(crate) arguments: usize,
+}
+
+impl<DB: Database> QueryBuilder<DB> {
+    /// A builder whose text begins with `init`.
+    pub fn new(alloc: Global, init: String) -> Self
+        ensures none { DB.ArgumentBuffer.count result.arguments ≡ 0 }
+        ensures begun { result ≡ begun (string_bytes init) result.arguments }
+    {
+        QueryBuilder {
+            text: GrowingText::new(init),
+            arguments: DB::Arguments::new(alloc),
+            built: false,
+        }
+    }
+
+    /// A builder whose text begins with `init`, and holds the placeholders of `arguments` already.
+    pub fn with_arguments<A: IntoArguments<DB>>(_alloc: Global, init: String, arguments: A) -> Self
+        ensures { result ≡ begun (string_bytes init) (DB.Arguments.buffered (A.becomes arguments)) }
+    {
+        QueryBuilder {
+            text: GrowingText::new(init),
+            arguments: arguments.into_arguments(),
+            built: false,
+        }
+    }
+
+    /// Appends a text. Want of memory leaves the builder as it was.
+    pub fn push(&mut self, _alloc: Global, sql: &str) -> Result<(), OutOfMemory>
+        requires { self.old.built ≡ Bool.false }
+        ensures ok { OnOk result (Gains DB.ArgumentBuffer.count DB.ArgumentBuffer.first self.old (Piece.Text sql.now ∷ []) self.new) }
+        ensures err { OnErr result (self.new ≡ self.old) }
+    {
+        self.append(sql)
+    }
+
+    /// Appends what `{}` writes of a value. Want of memory leaves the builder as it was.
+    pub fn push_display<T: Display>(&mut self, alloc: Global, value: &T) -> Result<(), OutOfMemory>
+        requires { self.old.built ≡ Bool.false }
+        ensures ok { OnOk result (IfSome (T.output value.now) (λ text. Gains DB.ArgumentBuffer.count DB.ArgumentBuffer.first self.old (Piece.Text text ∷ []) self.new)) }
+        ensures err { OnErr result (self.new ≡ self.old) }
+    {
+        let text = value.to_string(alloc)?;
+        self.append(text.as_str())
+    }
+
+    /// Binds a value, and appends its placeholder. A refusal leaves the builder as it was.
+    pub fn push_bind<'t, T: Encode<'t, DB> + SqlType<DB>>(
+        &mut self,
+        alloc: Global,
+        value: T,
+    ) -> Result<(), Fault>
+        requires { self.old.built ≡ Bool.false }
+        ensures ok { OnOk result ((placeholder : _)
+            × IsPlaceholder DB.Arguments.buffered DB.Arguments.placeholder self.new.arguments placeholder
+            × Gains DB.ArgumentBuffer.count DB.ArgumentBuffer.first self.old (Piece.Bound placeholder (T.encoded value) ∷ []) self.new) }
+        ensures err { OnErr result (self.new ≡ self.old) }
+    {
+        self.bind(alloc, value)
+    }
+
+    /// A list whose entries are appended with a separator between them.
+    pub fn separated<'s>(&'s mut self, separator: &'s str) -> Separated<'s, DB>
+        requires { self.old.built ≡ Bool.false }
+        ensures same { result.builder.ghost_name ≡ self.entry.ghost_name }
+        ensures builder { result.builder.now ≡ self.old }
+        ensures separator { result.separator.now ≡ separator.entry.now }
+        ensures none { result.has_piece ≡ Bool.false }
+    {
+        Separated {
+            builder: self,
+            separator,
+            has_piece: false,
+        }
+    }
+
+    /// A query of the text with the arguments, which the builder doesn't have any more. Want of memory leaves it as it was.
+    pub fn build<'q>(&mut self, alloc: Global) -> Result<Query<'q, DB, DB::Arguments>, OutOfMemory>
+        requires { self.old.built ≡ Bool.false }
+        ensures query { IfOk result (λ query. (arguments : DB.Arguments)
+            × (DB.Arguments.buffered arguments ≡ self.old.arguments)
+            × (query ≡ asked.begun self.old.text None (Ok arguments))) }
+        ensures none { OnOk result (DB.ArgumentBuffer.count self.new.arguments ≡ 0) }
+        ensures ok { OnOk result (self.new ≡ record self.old { arguments = self.new.arguments; built = Bool.true }) }
+        ensures err { OnErr result (self.new ≡ self.old) }
+    {
+        let sql = self.sql(alloc)?;
+        let arguments = mem::replace(&mut self.arguments, DB::Arguments::new(alloc));
+        self.built = true;
+        Ok(Query::new(Either::Left(sql), Ok(arguments)))
+    }
+
+    /// A query of what was built, whose rows become values, as [`QueryBuilder::build`] gives it.
+    pub fn build_query_as<'q, O>(
+        &mut self,
+        alloc: Global,
+    ) -> Result<QueryAs<'q, DB, O, DB::Arguments>, OutOfMemory>
+        requires { self.old.built ≡ Bool.false }
+        ensures query { IfOk result (λ made. (arguments : DB.Arguments)
+            × (DB.Arguments.buffered arguments ≡ self.old.arguments)
+            × (made.query ≡ asked.begun self.old.text None (Ok arguments))) }
+        ensures none { OnOk result (DB.ArgumentBuffer.count self.new.arguments ≡ 0) }
+        ensures ok { OnOk result (self.new ≡ record self.old { arguments = self.new.arguments; built = Bool.true }) }
+        ensures err { OnErr result (self.new ≡ self.old) }
+    {
+        Ok(QueryAs::new(self.build(alloc)?))
+    }
+
+    /// A query of what was built, of one value a row, as [`QueryBuilder::build`] gives it.
+    pub fn build_query_scalar<'q, O>(
+        &mut self,
+        alloc: Global,
+    ) -> Result<QueryScalar<'q, DB, O, DB::Arguments>, OutOfMemory>
+        requires { self.old.built ≡ Bool.false }
+        ensures query { IfOk result (λ made. (arguments : DB.Arguments)
+            × (DB.Arguments.buffered arguments ≡ self.old.arguments)
+            × (made.query ≡ asked.begun self.old.text None (Ok arguments))) }
+        ensures none { OnOk result (DB.ArgumentBuffer.count self.new.arguments ≡ 0) }
+        ensures ok { OnOk result (self.new ≡ record self.old { arguments = self.new.arguments; built = Bool.true }) }
+        ensures err { OnErr result (self.new ≡ self.old) }
+    {
+        Ok(QueryScalar::new(self.build(alloc)?))
+    }
+
+    /// Cuts the statement back to what it began with, with no arguments; queries can be made of it again.
+    pub fn reset(&mut self, alloc: Global) -> &mut Self
+        ensures same { result.ghost_name ≡ self.entry.ghost_name }
+        ensures none { DB.ArgumentBuffer.count result.now.arguments ≡ 0 }
+        ensures begun { result.now ≡ begun self.old.initial result.now.arguments }
+    {
+        self.text.reset();
+        self.arguments = DB::Arguments::new(alloc);
+        self.built = false;
+        self
+    }
+
+    /// The text so far.
+    pub fn sql(&self, alloc: Global) -> Result<SqlStr, OutOfMemory>
+        ensures { IfOk result (λ sql. sql ≡ self.now.text) }
+    {
+        AssertSqlSafe(self.text.as_str()).into_sql_str(alloc)
+    }
+
+    /// The text, without its arguments.
+    pub fn into_string(self) -> String
+        ensures { string_bytes result ≡ self.text }
+    {
+        let QueryBuilder {
+            text,
+            arguments,
+            built: _,
+        } = self;
+        drop(arguments);
+        text.into_string()
+    }
+
+    /// The text as a statement, without its arguments.
+    pub fn into_sql(self) -> SqlStr
+        ensures { result ≡ self.text }
+    {
+        let text = self.into_string();
+        let alloc = *text.allocator();
+        AssertSqlSafe(text).into_sql_str(alloc).unwrap()
+    }
+
+    /// Whether a query was made of the builder since the last `reset`.
+    pub fn is_built(&self) -> bool
+        ensures { result ≡ self.now.built }
+    {
+        self.built
+    }
+
+    pub(crate) fn append(&mut self, sql: &str) -> Result<(), OutOfMemory>
+        ensures ok { OnOk result (self.new ≡ with_piece self.old (Piece.Text sql.now)) }
+        ensures err { OnErr result (self.new ≡ self.old) }
+    {
+        self.text.push_str(sql)
+    }
+
+    pub(crate) fn bind<'t, T: Encode<'t, DB> + SqlType<DB>>(
+        &mut self,
+        alloc: Global,
+        value: T,
+    ) -> Result<(), Fault>
+        ensures ok { OnOk result ((placeholder : _)
+            × IsPlaceholder DB.Arguments.buffered DB.Arguments.placeholder self.new.arguments placeholder
+            × (self.new ≡ with_piece self.old (Piece.Bound placeholder (T.encoded value)))) }
+        ensures one { OnOk result (AddsOne DB.ArgumentBuffer.count DB.ArgumentBuffer.first self.old.arguments self.new.arguments) }
+        ensures err { OnErr result (self.new ≡ self.old) }
+    {
+        let before = self.arguments.len();
+        add::<DB, T>(alloc, &mut self.arguments, value)?;
+        let mut placeholder = String::new(alloc);
+        match self.arguments.format_placeholder(alloc, &mut placeholder) {
+            Ok(()) => {}
+            Err(_want) => {
+                self.arguments.truncate(before);
+                return Err(Fault::OutOfMemory);
+            }
+        }
+        match self.text.push_str(placeholder.as_str()) {
+            Ok(()) => Ok(()),
+            Err(_want) => {
+                self.arguments.truncate(before);
+                Err(Fault::OutOfMemory)
+            }
+        }
+    }
+
+    pub(crate) fn mark(&self) -> Mark
+        ensures text { result.text ≡ length self.now.text }
+        ensures arguments { result.arguments ≡ DB.ArgumentBuffer.count self.now.arguments }
+        ensures initial { length self.now.initial ≤ length self.now.text }
+        ensures valid { IsUtf8 self.now.text }
+    {
+        Mark {
+            text: self.text.len(),
+            arguments: self.arguments.len(),
+        }
+    }
+
+    pub(crate) fn cut_back(&mut self, mark: Mark)
+        requires initial { length self.old.initial ≤ mark.text }
+        requires within { mark.text ≤ length self.old.text }
+        requires valid { IsUtf8 (take mark.text self.old.text) }
+        ensures { self.new ≡ cut_to DB.ArgumentBuffer.first self.old mark.text mark.arguments }
+    {
+        self.text.truncate(mark.text);
+        self.arguments.truncate(mark.arguments);
+    }
+}

@@ -1,0 +1,108 @@
+//! Lists whose entries are appended to a statement with a separator between them.
+ghost use Rattle.std.specs.Prelude.{◌≡◌, ◌∷◌, [], Bool, OnErr, OnOk};
+ghost use Rattle.sqlx_text.specs.declared.fault.Fault.{Fault};
+ghost use Rattle.sqlx_query.specs.Builder.{Gains, IsPlaceholder, Piece, entry, with_piece};
+
+use crate::QueryBuilder;
+use sqlx_text::{Fault, OutOfMemory};
+use sqlx_traits::{ArgumentList, Arguments, Database, Encode, SqlType};
+use std::alloc::Global;
+
+/// A list whose entries are appended to a builder with a separator between them.
+#[derive(Drop)]
+pub struct Separated<'qb, DB: Database> {
+    pub(crate) builder: &'qb mut QueryBuilder<DB>,
+    pub(crate) separator: &'qb str,
+    pub(crate) has_piece: bool,
+}
+
+impl<'qb, DB: Database> Separated<'qb, DB> {
+    /// Appends a text as the next entry. Want of memory leaves the builder as it was.
+    pub fn push(&mut self, _alloc: Global, sql: &str) -> Result<(), OutOfMemory>
+        ensures same { (self.new.builder.ghost_name ≡ self.old.builder.ghost_name) × (self.new.separator ≡ self.old.separator) }
+        ensures ok { OnOk result ((self.new.has_piece ≡ Bool.true)
+            × Gains DB.ArgumentBuffer.count DB.ArgumentBuffer.first self.old.builder.now (entry self.old.has_piece self.old.separator.now (Piece.Text sql.now)) self.new.builder.now) }
+        ensures err { OnErr result ((self.new.has_piece ≡ self.old.has_piece) × (self.new.builder.now ≡ self.old.builder.now)) }
+    {
+        let mark = self.builder.mark();
+        self.begin_entry()?;
+        match self.builder.append(sql) {
+            Ok(()) => {
+                self.has_piece = true;
+                Ok(())
+            }
+            Err(want) => {
+                self.builder.cut_back(mark);
+                Err(want)
+            }
+        }
+    }
+
+    /// Appends a text that is no entry of the list. Want of memory leaves the builder as it was.
+    pub fn push_unseparated(&mut self, _alloc: Global, sql: &str) -> Result<(), OutOfMemory>
+        ensures same { (self.new.builder.ghost_name ≡ self.old.builder.ghost_name) × (self.new.separator ≡ self.old.separator) }
+        ensures list { self.new.has_piece ≡ self.old.has_piece }
+        ensures ok { OnOk result (Gains DB.ArgumentBuffer.count DB.ArgumentBuffer.first self.old.builder.now (Piece.Text sql.now ∷ []) self.new.builder.now) }
+        ensures err { OnErr result (self.new.builder.now ≡ self.old.builder.now) }
+    {
+        self.builder.append(sql)
+    }
+
+    /// Binds a value, and appends its placeholder as the next entry. A refusal leaves the builder as it was.
+    pub fn push_bind<'t, T: Encode<'t, DB> + SqlType<DB> + Drop>(
+        &mut self,
+        alloc: Global,
+        value: T,
+    ) -> Result<(), Fault>
+        ensures same { (self.new.builder.ghost_name ≡ self.old.builder.ghost_name) × (self.new.separator ≡ self.old.separator) }
+        ensures ok { OnOk result ((self.new.has_piece ≡ Bool.true)
+            × ((placeholder : _)
+            × IsPlaceholder DB.Arguments.buffered DB.Arguments.placeholder self.new.builder.now.arguments placeholder
+            × Gains DB.ArgumentBuffer.count DB.ArgumentBuffer.first self.old.builder.now (entry self.old.has_piece self.old.separator.now (Piece.Bound placeholder (T.encoded value))) self.new.builder.now)) }
+        ensures err { OnErr result ((self.new.has_piece ≡ self.old.has_piece) × (self.new.builder.now ≡ self.old.builder.now)) }
+    {
+        let mark = self.builder.mark();
+        self.begin_entry()?;
+        match self.builder.bind(alloc, value) {
+            Ok(()) => {
+                self.has_piece = true;
+                Ok(())
+            }
+            Err(fault) => {
+                self.builder.cut_back(mark);
+                Err(fault)
+            }
+        }
+    }
+
+    /// Binds a value, and appends its placeholder, which is no entry of the list. A refusal leaves the builder as it was.
+    pub fn push_bind_unseparated<'t, T: Encode<'t, DB> + SqlType<DB>>(
+        &mut self,
+        alloc: Global,
+        value: T,
+    ) -> Result<(), Fault>
+        ensures same { (self.new.builder.ghost_name ≡ self.old.builder.ghost_name) × (self.new.separator ≡ self.old.separator) }
+        ensures list { self.new.has_piece ≡ self.old.has_piece }
+        ensures ok { OnOk result ((placeholder : _)
+            × IsPlaceholder DB.Arguments.buffered DB.Arguments.placeholder self.new.builder.now.arguments placeholder
+            × Gains DB.ArgumentBuffer.count DB.ArgumentBuffer.first self.old.builder.now (Piece.Bound placeholder (T.encoded value) ∷ []) self.new.builder.now) }
+        ensures err { OnErr result (self.new.builder.now ≡ self.old.builder.now) }
+    {
+        self.builder.bind(alloc, value)
+    }
+
+    // The separator, where there is an entry already.
+    fn begin_entry(&mut self) -> Result<(), OutOfMemory>
+        ensures same { (self.new.builder.ghost_name ≡ self.old.builder.ghost_name) × (self.new.separator ≡ self.old.separator) }
+        ensures list { self.new.has_piece ≡ self.old.has_piece }
+        ensures none { OnOk result (self.old.has_piece ≡ Bool.false → self.new.builder.now ≡ self.old.builder.now) }
+        ensures some { OnOk result (self.old.has_piece ≡ Bool.true → self.new.builder.now ≡ with_piece self.old.builder.now (Piece.Text self.old.separator.now)) }
+        ensures err { OnErr result (self.new.builder.now ≡ self.old.builder.now) }
+    {
+        if self.has_piece {
+            self.builder.append(self.separator)
+        } else {
+            Ok(())
+        }
+    }
+}
