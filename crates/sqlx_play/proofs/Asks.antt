@@ -83,8 +83,8 @@ asked_stands stage core pairs moment client n deadline s late number makes becom
       tried = subst (λ (c : Core Link). All (IsTried (pairs ++ pair ∷ [])) c.tickets) (sym becomes)
           (All-push (IsTried (pairs ++ pair ∷ [])) stage.core.tickets _ (tried-same pairs pair stage.core.tickets tries s.tried) (tries stage.core.next_ticket ∙ s.untried stage.core.next_ticket (omega arith)));
       untried = λ t h. tries t ∙ s.untried t (omega (arith, h, next));
-      links = subst (LinksStand core stage.store stage.lent.items) (sym (asked_history stage.pool pairs moment client n))
-          (links-same stage.core core stage.store stage.lent.items (history_of stage.pool pairs) s.links (ap (λ (c : Core Link). c.held) becomes) (ap (λ (c : Core Link). c.idle) becomes) (ap (λ (c : Core Link). c.next_conn) becomes));
+      links = subst (LinksStand core stage.out.store stage.lent.items) (sym (asked_history stage.pool pairs moment client n))
+          (links-same stage.core core stage.out.store stage.lent.items (history_of stage.pool pairs) s.links (ap (λ (c : Core Link). c.held) becomes) (ap (λ (c : Core Link). c.idle) becomes) (ap (λ (c : Core Link). c.next_conn) becomes));
     }
 
 -- the stage after an ask of a closed pool
@@ -101,6 +101,6 @@ refused_stands stage core pairs moment client s becomes =
       places = s.places;
       tried = tried-same pairs pair stage.core.tickets tries s.tried;
       untried = λ t h. tries t ∙ s.untried t h;
-      links = subst (LinksStand stage.core stage.store stage.lent.items) (sym (refused_history stage.pool pairs moment client)) s.links;
+      links = subst (LinksStand stage.core stage.out.store stage.lent.items) (sym (refused_history stage.pool pairs moment client)) s.links;
     } in
     subst (λ (c : Core Link). StageStands (record stage { core = c }) (pairs ++ pair ∷ [])) (sym becomes) stays

@@ -73,7 +73,7 @@ counted_by false idle = sym (length_map resting idle)
 module _ (old new : Stage) (items : List (Idle Link)) (pairs : List (Event × Reply)) (moment : Moment) (count : ℕ) (s : StageStands old pairs) (sound : IsSound old.core)
     (answer : items ≡ close_answer old.core.shut old.core.idle) (becomes : new.core ≡ closed_from old.core.shut old.core)
     (makes : Makes old.core.options.max_connections (marks_of old.pool pairs) (close_marks old.core.shut items) new.core)
-    (store : new.store ≡ closed_all items old.store) (lent : new.lent ≡ old.lent) (pool : new.pool ≡ old.pool) (counted : count ≡ length items) where
+    (store : new.out.store ≡ closed_all items old.out.store) (lent : new.lent ≡ old.lent) (pool : new.pool ≡ old.pool) (counted : count ≡ length items) where
   abbrev marks : List Mark
   marks = marks_of old.pool pairs
 
@@ -89,16 +89,16 @@ module _ (old new : Stage) (items : List (Idle Link)) (pairs : List (Event × Re
   apart : IsApart old.core.held old.core.idle
   apart c = let once = sound.once c in omega (arith, once)
 
-  links_by : (b : Bool) → LinksStand (closed_from b old.core) (closed_all (close_answer b old.core.idle) old.store) old.lent.items (gone_by (close_marks b (close_answer b old.core.idle)) (history_of old.pool pairs))
+  links_by : (b : Bool) → LinksStand (closed_from b old.core) (closed_all (close_answer b old.core.idle) old.out.store) old.lent.items (gone_by (close_marks b (close_answer b old.core.idle)) (history_of old.pool pairs))
   links_by true = s.links
-  links_by false = links-same (record old.core { idle = [] }) (closed_from false old.core) (closed_all old.core.idle old.store) old.lent.items _
-      (links-all_unrest old.core old.store old.lent.items (history_of old.pool pairs) old.core.idle s.links refl apart) refl refl refl
+  links_by false = links-same (record old.core { idle = [] }) (closed_from false old.core) (closed_all old.core.idle old.out.store) old.lent.items _
+      (links-all_unrest old.core old.out.store old.lent.items (history_of old.pool pairs) old.core.idle s.links refl apart) refl refl refl
 
-  links : LinksStand new.core new.store new.lent.items (gone_by (shut marks) (history_of old.pool pairs))
-  links = subst (λ (l : List Mark). LinksStand new.core new.store new.lent.items (gone_by l (history_of old.pool pairs))) (sym (ap (close_marks old.core.shut) answer) ∙ is_made)
-      (subst (λ (k : Core Link). LinksStand k new.store new.lent.items (gone_by (close_marks old.core.shut (close_answer old.core.shut old.core.idle)) (history_of old.pool pairs))) (sym becomes)
-      (subst (λ (k : Store). LinksStand (closed_from old.core.shut old.core) k new.lent.items (gone_by (close_marks old.core.shut (close_answer old.core.shut old.core.idle)) (history_of old.pool pairs))) (sym (store ∙ ap (λ (l : List (Idle Link)). closed_all l old.store) answer))
-      (subst (λ (l : _). LinksStand (closed_from old.core.shut old.core) (closed_all (close_answer old.core.shut old.core.idle) old.store) l.items (gone_by (close_marks old.core.shut (close_answer old.core.shut old.core.idle)) (history_of old.pool pairs))) (sym lent) (links_by old.core.shut))))
+  links : LinksStand new.core new.out.store new.lent.items (gone_by (shut marks) (history_of old.pool pairs))
+  links = subst (λ (l : List Mark). LinksStand new.core new.out.store new.lent.items (gone_by l (history_of old.pool pairs))) (sym (ap (close_marks old.core.shut) answer) ∙ is_made)
+      (subst (λ (k : Core Link). LinksStand k new.out.store new.lent.items (gone_by (close_marks old.core.shut (close_answer old.core.shut old.core.idle)) (history_of old.pool pairs))) (sym becomes)
+      (subst (λ (k : Store). LinksStand (closed_from old.core.shut old.core) k new.lent.items (gone_by (close_marks old.core.shut (close_answer old.core.shut old.core.idle)) (history_of old.pool pairs))) (sym (store ∙ ap (λ (l : List (Idle Link)). closed_all l old.out.store) answer))
+      (subst (λ (l : _). LinksStand (closed_from old.core.shut old.core) (closed_all (close_answer old.core.shut old.core.idle) old.out.store) l.items (gone_by (close_marks old.core.shut (close_answer old.core.shut old.core.idle)) (history_of old.pool pairs))) (sym lent) (links_by old.core.shut))))
 
   same_tickets : (b : Bool) → (closed_from b old.core).tickets ≡ old.core.tickets
   same_tickets true = refl

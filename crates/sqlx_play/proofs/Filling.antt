@@ -10,10 +10,12 @@ use Rattle.sqlx_pool_core.specs.Marks.{next_conn, is_shut}
 use Rattle.sqlx_pool_core.specs.EventTable.{may_pass}
 use Rattle.sqlx_pool_core.specs.StandsFor.{StandsFor}
 use Rattle.sqlx_pool_core.proofs.TurnAtMarks.{free-places, waiting-stands, size-stands}
-use Rattle.mem_driver.specs.Driver.{Link}
+use Rattle.mem_driver.specs.Driver.{Store, Link}
 use Rattle.sqlx_brackets.specs.Changes.{History}
 use Rattle.sqlx_script.specs.declared.pool_line.PoolLine.{PoolLine}
+use Rattle.sqlx_play.specs.declared.outside.ScriptOutside.{ScriptOutside}
 use Rattle.sqlx_play.specs.declared.stage.Stage.{Stage}
+use Rattle.sqlx_play.specs.LinksStand.{LinksStand}
 use Rattle.sqlx_play.specs.ScriptMarks.{openings, passes}
 use Rattle.sqlx_play.specs.StageStands.{IsSetUp}
 use Rattle.sqlx_play.specs.Answer.{opened_for_minimum}
@@ -147,3 +149,12 @@ pub filled-part : (old mid now : Stage) (m opens k : ℕ) → k ≤ opens → Ha
 filled-part old mid now m opens k le h o marks past at =
     let ended : (core_passes old.core && nat_lt (size old.core + k) (least old.core.options)) ≡ false = (λ i. sym h.passes i && nat_lt (sym h.sized i) (least (sym h.options i))) ∙ sym o.answer in
     (counted_part (core_passes old.core) k opens (least old.core.options) (size old.core) le h.few ended ∙ counted-stands old marks past opens at, (opened-last old mid now m k h o).comes marks past at)
+
+-- the letters of a line are no part of it
+pub fills-from : (old : Stage) (out : ScriptOutside) (new : Stage) (m opens n : ℕ) → out.store ≡ old.out.store → Fills (record old { out = out }) new m opens n → Fills old new m opens n
+fills-from old out new m opens n same fills marks past at =
+    let links : LinksStand old.core out.store old.lent.items past = subst (λ (x : Store). LinksStand old.core x old.lent.items past) (sym same) at.links in
+    let filled = fills marks past (record { set_up = at.set_up; places = at.places; stands = at.stands; links = links }) in (
+      filled.0,
+      record { pool = filled.1.pool; makes = filled.1.makes; options = filled.1.options; places = filled.1.places; tickets = filled.1.tickets; next = filled.1.next; links = filled.1.links },
+    )

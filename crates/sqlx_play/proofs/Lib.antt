@@ -1,5 +1,6 @@
 pub mod Parts
 pub mod Events
+pub mod RunsAdded
 pub mod Lines
 pub mod Causes
 pub mod Scripts
@@ -15,6 +16,7 @@ pub mod PollTries
 pub mod PollMarks
 pub mod Passing
 pub mod Dispatch
+pub mod Asked
 pub mod Polls
 pub mod PollPlays
 pub mod StageAfter
@@ -42,10 +44,17 @@ pub mod Middles
 pub mod OwnLink
 pub mod OwnLinkLeft
 pub mod StatementStands
+pub mod RunsCounted
 pub mod FillBehind
 pub mod PlaysGive
 pub mod Departing
 pub mod PlaysLeave
 pub mod InTurn
+pub mod FairEvents
+pub mod FairPolls
+pub mod FairScripts
+pub mod Depths
+pub mod AtRest
 pub mod Unowned
 mod WorkedScripts
+mod WorkedLaws

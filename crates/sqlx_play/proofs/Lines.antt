@@ -1,5 +1,5 @@
 -- How far the lines after the first were played.
-use Rattle.std.proofs.Common.{◌≡◌, ℕ, ◌+◌, ◌<◌, ◌≤◌, true, List, [], ◌∷◌, ◌++◌, Option, Some, None, refl, sym, ap, subst, ◌∙◌, append_assoc, append-nil, nat_lt, length, ◌==◌, eqb-true, arith}
+use Rattle.std.proofs.Common.{◌≡◌, ℕ, ◌+◌, ◌^◌, ◌<◌, ◌≤◌, true, List, [], ◌∷◌, ◌++◌, Option, Some, None, refl, sym, ap, subst, ◌∙◌, append_assoc, append-nil, nat_lt, length, length-append, ◌==◌, eqb-true, arith}
 use Rattle.std.specs.Io.KnownBytes.{Appends}
 use Rattle.std.proofs.KnownBytes.{Appends-nil, Appends-trans}
 use Rattle.std.proofs.lemmas.Bool.{lt-ltb, le-ltb, cond-true, cond-false}
@@ -15,6 +15,8 @@ use Rattle.sqlx_play.specs.StageStands.{StageStands}
 use Rattle.sqlx_play.specs.Output.{pairs_after, reply_line, replies_text}
 use Rattle.sqlx_play.specs.Headline.{WrotePart, PlaysLines, StopsAt, lines_text}
 use Rattle.sqlx_play.specs.Laws.{RestsUnowned}
+use Rattle.sqlx_play.specs.ScriptRuns.{runs_of, runs_after}
+use Rattle.sqlx_play.proofs.RunsAdded.{runs_of-push}
 use Rattle.sqlx_play.proofs.Unowned.{rests-none, rests-after}
 use Rattle.sqlx_play.proofs.Events.{pairs_after-append, pairs_after-nil, pairs_after-push, pairs_after-front, replies_text-append, replies_text-push}
 
@@ -29,15 +31,19 @@ pub record PlayedSoFar (text rest : List ℕ) (number last : ℕ) (pool : PoolLi
   pub written : Appends before now (replies_text (pairs_after pool [] done))
   pub stands : StageStands stage (pairs_after pool [] done)
   pub rests : RestsUnowned pool (pairs_after pool [] done)
+  pub counted : length (pairs_after pool [] done) + 2 ≡ number
+  pub runs : stage.out.store.runs ≡ runs_of (pairs_after pool [] done)
 
 -- nothing was played yet
-pub begun : (text : List ℕ) (pool : PoolLine) (now : Option (List ℕ)) (stage : Stage) → StageStands stage [] → PlayedSoFar text text 2 0 pool now now stage
-begun text pool now stage s = record {
+pub begun : (text : List ℕ) (pool : PoolLine) (now : Option (List ℕ)) (stage : Stage) → StageStands stage [] → stage.out.store.runs ≡ runs_of [] → PlayedSoFar text text 2 0 pool now now stage
+begun text pool now stage s none = record {
   rests = subst (RestsUnowned pool) (sym (pairs_after-nil pool [])) (rests-none pool);
   done = [];
   reads = refl;
   written = subst (λ ps. Appends now now (replies_text ps)) (sym (pairs_after-nil pool [])) (Appends-nil now);
   stands = subst (StageStands stage) (sym (pairs_after-nil pool [])) s;
+  counted = ap (λ (ps : List (Event × Reply)). length ps + 2) (pairs_after-nil pool []);
+  runs = none ∙ ap runs_of (sym (pairs_after-nil pool []));
 }
 
 -- ---- what the next line says
@@ -72,6 +78,9 @@ read_to : (text rest : List ℕ) (number last : ℕ) (pool : PoolLine) (before n
     → reading_from number last (lines_of rest) ≡ r → reading_from 2 0 (lines_of text) ≡ after w.done r
 read_to text rest number last pool before now stage w r e = w.reads ∙ ap (after w.done) e
 
+longer : (pairs : List (Event × Reply)) (pair : Event × Reply) (number : ℕ) → length pairs + 2 ≡ number → length (pairs ++ pair ∷ []) + 2 ≡ number + 1
+longer pairs pair number e = let l : length (pairs ++ pair ∷ []) ≡ length pairs + 1 = length-append pairs (pair ∷ []) in omega (arith, e, l)
+
 -- the next event was played
 pub more : (text rest line rest' : List ℕ) (number last : ℕ) (pool : PoolLine) (before now now' : Option (List ℕ)) (stage stage' : Stage) (e : Event)
     → PlayedSoFar text rest number last pool before now stage
@@ -79,9 +88,11 @@ pub more : (text rest line rest' : List ℕ) (number last : ℕ) (pool : PoolLin
     → stage.pool ≡ pool → stage'.pool ≡ stage.pool
     → ((pairs : List (Event × Reply)) → StageStands stage pairs
     → Appends now now' (line_of (reply_text (answer stage.pool pairs e))) × StageStands stage' (pairs ++ (e, answer stage.pool pairs e) ∷ []))
+    → number < 2 ^ 64
+    → ((pairs : List (Event × Reply)) → StageStands stage pairs → stage'.out.store.runs ≡ runs_after e.step (answer stage.pool pairs e) stage.out.store.runs)
     → PlayedSoFar text rest' (number + 1) e.moment.0 pool before now' stage'
 unfolding reply_line
-more text rest line rest' number last pool before now now' stage stage' e w lines is late same stays plays =
+more text rest line rest' number last pool before now now' stage stage' e w lines is late same stays plays few runs =
     let pairs = pairs_after pool [] w.done in
     let played =
     subst (λ p. Appends now now' (line_of (reply_text (answer p pairs e))) × StageStands stage' (pairs ++ (e, answer p pairs e) ∷ [])) same (plays pairs w.stands) in
@@ -94,6 +105,11 @@ more text rest line rest' number last pool before now now' stage stage' e w line
       written = subst (Appends before now') (sym (ap replies_text pushed ∙ replies_text-push pairs (e, answer pool pairs e))) (Appends-trans before now now' _ _ w.written played.0);
       stands = subst (StageStands stage') (sym pushed) played.1;
       rests = subst (RestsUnowned pool) (sym pushed) (rests-after pool pairs (e, answer pool pairs e) stage' (stays ∙ same) played.1 w.rests);
+      counted = ap (λ (ps : List (Event × Reply)). length ps + 2) pushed ∙ longer pairs (e, answer pool pairs e) number w.counted;
+      runs =
+          subst (λ (p : PoolLine). stage'.out.store.runs ≡ runs_after e.step (answer p pairs e) stage.out.store.runs) same (runs pairs w.stands)
+          ∙ ap (runs_after e.step (answer pool pairs e)) w.runs
+          ∙ sym (ap runs_of pushed ∙ runs_of-push pairs (e, answer pool pairs e) (omega (arith, w.counted, few)));
     }
 
 -- the text of the lines, where the next line is an event
@@ -179,4 +195,5 @@ finished text rest number last pool before now stage w e =
       written = subst (λ es. Appends before now (replies_text (pairs_after pool [] es))) events w.written;
       stage_after = subst (λ es. StageStands stage (pairs_after pool [] es)) events w.stands;
       rests = subst (λ es. RestsUnowned pool (pairs_after pool [] es)) events w.rests;
+      runs_after = w.runs ∙ ap (λ es. runs_of (pairs_after pool [] es)) events;
     }

@@ -15,6 +15,7 @@ use Rattle.sqlx_pool_core.specs.Makes.{Makes}
 use Rattle.sqlx_pool_core.specs.StandsFor.{StandsFor}
 use Rattle.sqlx_pool_core.proofs.ListFacts.{length-push}
 use Rattle.mem_driver.specs.Driver.{Store, Link, new_link, connected}
+use Rattle.sqlx_play.specs.declared.outside.ScriptOutside.{ScriptOutside}
 use Rattle.sqlx_play.specs.declared.stage.Stage.{Stage}
 use Rattle.sqlx_play.specs.LinksStand.{LinksStand}
 use Rattle.sqlx_play.specs.Fills.{core_passes, least, OpensOne}
@@ -52,20 +53,20 @@ opens-none old core m few unplaceable same = subst (λ (c : Core Link). OpensOne
 
 -- ---- one
 
-module _ (old : Stage) (placed_core core : Core Link) (store : Store) (link : Link) (m : ℕ) where
+module _ (old : Stage) (placed_core core : Core Link) (out : ScriptOutside) (link : Link) (m : ℕ) where
   -- the core with the new connection
   abbrev born : Core Link
-  born = at_moment m (placed_back (opened (kept (record { id = old.core.next_conn; created = record { 0 = m }; raw = new_link (old.store.given + 1) }) m (placed true old.core))))
+  born = at_moment m (placed_back (opened (kept (record { id = old.core.next_conn; created = record { 0 = m }; raw = new_link (old.out.store.given + 1) }) m (placed true old.core))))
 
   is_open : true ≡ has_place old.core.options.min_connections old.core → old.core.next_conn ≤ 2 ^ 63 → old.core.shut ≡ false
   is_open placeable few = shut_of old.core.shut (waiting old.core.tickets) (free old.core) (and_parts (core_passes old.core) (nat_lt (size old.core) (least old.core.options)) (sym (place-told old.core few) ∙ sym placeable)).0
 
-  is_born : old.core.shut ≡ false → old.core.last ≤ m → link ≡ new_link (old.store.given + 1) → placed_core ≡ placed true old.core → core ≡ done (max placed_core.last m) (Some link) placed_core → core ≡ born
+  is_born : old.core.shut ≡ false → old.core.last ≤ m → link ≡ new_link (old.out.store.given + 1) → placed_core ≡ placed true old.core → core ≡ done (max placed_core.last m) (Some link) placed_core → core ≡ born
   is_born shut late new one two =
       two
       ∙ (λ i. done (max (one i).last m) (Some (new i)) (one i))
-      ∙ ap (λ (k : ℕ). done k (Some (new_link (old.store.given + 1))) (placed true old.core)) (max-eq_right late)
-      ∙ ap (λ (b : Bool). at_moment m (placed_back (done_at b m (Some (new_link (old.store.given + 1))) (placed true old.core)))) shut
+      ∙ ap (λ (k : ℕ). done k (Some (new_link (old.out.store.given + 1))) (placed true old.core)) (max-eq_right late)
+      ∙ ap (λ (b : Bool). at_moment m (placed_back (done_at b m (Some (new_link (old.out.store.given + 1))) (placed true old.core)))) shut
 
   born_makes : (marks : List Mark) → StandsFor old.core marks → old.core.shut ≡ false → old.core.last ≤ m → placed_core ≡ placed true old.core
       → ((marks : List Mark) → StandsFor old.core marks → Makes old.core.options.max_connections marks [] placed_core)
@@ -82,15 +83,15 @@ module _ (old : Stage) (placed_core core : Core Link) (store : Store) (link : Li
 
   pub opens-one : true ≡ has_place old.core.options.min_connections old.core → old.core.next_conn ≤ 2 ^ 63 → old.core.last ≤ m → placed_core ≡ placed true old.core
       → ((marks : List Mark) → StandsFor old.core marks → Makes old.core.options.max_connections marks [] placed_core)
-      → link ≡ new_link (old.store.given + 1) → store ≡ connected (old.store.given + 1) old.store
+      → link ≡ new_link (old.out.store.given + 1) → out.store ≡ connected (old.out.store.given + 1) old.out.store
       → core ≡ done (max placed_core.last m) (Some link) placed_core
       → ((marks : List Mark) → StandsFor placed_core marks → Makes placed_core.options.max_connections marks (done_marks placed_core.shut placed_core.next_conn (max placed_core.last m) (Some link)) core)
-      → OpensOne old (record old { core = core; store = store }) m true
+      → OpensOne old (record old { core = core; out = out }) m true
   opens-one placeable few late one first new more two second =
       let shut = is_open placeable few in
       let is : core ≡ born = is_born shut late new one two in
       let freed : old.core.places + 1 - 1 ≡ old.core.places = omega arith in
-      let i : Idle Link = record { lent = record { id = old.core.next_conn; created = record { 0 = m }; raw = new_link (old.store.given + 1) }; since = record { 0 = m } } in
+      let i : Idle Link = record { lent = record { id = old.core.next_conn; created = record { 0 = m }; raw = new_link (old.out.store.given + 1) }; since = record { 0 = m } } in
       record {
         answer = placeable ∙ place-told old.core few;
         comes = λ marks past at. record {
@@ -101,8 +102,8 @@ module _ (old : Stage) (placed_core core : Core Link) (store : Store) (link : Li
           tickets = ap (λ (c : Core Link). c.tickets) is;
           next = ap (λ (c : Core Link). c.next_ticket) is;
           links = subst (λ (s : Store). LinksStand core s old.lent.items past) (sym more)
-              (links-same (opened (kept (record { id = old.core.next_conn; created = record { 0 = m }; raw = new_link (old.store.given + 1) }) m old.core)) core (connected (old.store.given + 1) old.store) old.lent.items past
-              (links-born old.core old.store old.lent.items past at.links m) (ap (λ (c : Core Link). c.held) is) (ap (λ (c : Core Link). c.idle) is) (ap (λ (c : Core Link). c.next_conn) is));
+              (links-same (opened (kept (record { id = old.core.next_conn; created = record { 0 = m }; raw = new_link (old.out.store.given + 1) }) m old.core)) core (connected (old.out.store.given + 1) old.out.store) old.lent.items past
+              (links-born old.core old.out.store old.lent.items past at.links m) (ap (λ (c : Core Link). c.held) is) (ap (λ (c : Core Link). c.idle) is) (ap (λ (c : Core Link). c.next_conn) is));
         };
         passes = ap core_passes is ∙ ap (λ (k : ℕ). may_pass old.core.shut (waiting old.core.tickets) (free_of old.core.options.max_connections (length old.core.held) old.core.leaked (gone old.core.tickets) k)) freed;
         sized = ap size is ∙ (let push = length-push old.core.idle i in omega (arith, push));

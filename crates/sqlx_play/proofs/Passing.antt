@@ -52,7 +52,7 @@ module _ (stage : Stage) (pairs : List (Event × Reply)) (pair : Event × Reply)
         places = s.places;
         tried = tried-same pairs pair stage.core.tickets same s.tried;
         untried = λ t h. same t ∙ s.untried t h;
-        links = subst (LinksStand stage.core stage.store stage.lent.items) (sym past) s.links;
+        links = subst (LinksStand stage.core stage.out.store stage.lent.items) (sym past) s.links;
       }))
 
   -- a ticket ends
@@ -66,8 +66,8 @@ module _ (stage : Stage) (pairs : List (Event × Reply)) (pair : Event × Reply)
         places = ap (λ (c : Core Link). c.places) becomes ∙ s.places;
         tried = subst (λ (c : Core Link). All (IsTried (pairs ++ pair ∷ [])) c.tickets) (sym becomes) (tried-without pairs (pairs ++ pair ∷ []) t stage.core.tickets same s.tried);
         untried = λ u h. same u ∙ s.untried u (subst (λ (n : ℕ). n ≤ u) (ap (λ (c : Core Link). c.next_ticket) becomes) h);
-        links = subst (LinksStand core stage.store stage.lent.items) (sym past)
-            (links-same stage.core core stage.store stage.lent.items (history_of stage.pool pairs) s.links (ap (λ (c : Core Link). c.held) becomes) (ap (λ (c : Core Link). c.idle) becomes) (ap (λ (c : Core Link). c.next_conn) becomes));
+        links = subst (LinksStand core stage.out.store stage.lent.items) (sym past)
+            (links-same stage.core core stage.out.store stage.lent.items (history_of stage.pool pairs) s.links (ap (λ (c : Core Link). c.held) becomes) (ap (λ (c : Core Link). c.idle) becomes) (ap (λ (c : Core Link). c.next_conn) becomes));
       })
 
 -- ---- cancel
@@ -150,7 +150,7 @@ unlent-stands stage core pairs moment k s becomes =
     stays-standing stage pairs pair s (λ u. tries_of-push u pairs pair) refl core becomes refl
 
 pub lent-stands : (stage new : Stage) (pairs : List (Event × Reply)) (moment : Moment) (k last : ℕ) (lent : Lent Link) → StageStands stage pairs → FirstIdle stage.core lent
-    → new.core ≡ at_moment last (lent_to k lent.id lent.created (took stage.core)) → new.store ≡ stage.store → new.lent.items ≡ stage.lent.items ++ lent ∷ [] → new.pool ≡ stage.pool
+    → new.core ≡ at_moment last (lent_to k lent.id lent.created (took stage.core)) → new.out.store ≡ stage.out.store → new.lent.items ≡ stage.lent.items ++ lent ∷ [] → new.pool ≡ stage.pool
     → Makes stage.core.options.max_connections (marks_of stage.pool pairs) (mark.Taken lent.id ∷ mark.Lent k lent.id ∷ []) new.core
     → StageStands new (pairs ++ (record { moment = moment; step = Try k }, reply.Ready lent.id) ∷ [])
 lent-stands stage new pairs moment k last lent s first becomes store owned pool makes =
@@ -161,10 +161,10 @@ lent-stands stage new pairs moment k last lent s first becomes store owned pool 
       places = ap (λ (c : Core Link). c.places) becomes ∙ s.places;
       tried = subst (λ (c : Core Link). All (IsTried (pairs ++ pair ∷ [])) c.tickets) (sym becomes) (tried-same pairs pair stage.core.tickets (λ u. tries_of-push u pairs pair) s.tried);
       untried = λ u h. tries_of-push u pairs pair ∙ s.untried u (subst (λ (n : ℕ). n ≤ u) (ap (λ (c : Core Link). c.next_ticket) becomes) h);
-      links = links-as core new.core stage.store new.store (stage.lent.items ++ lent ∷ []) new.lent.items (history_of stage.pool pairs) becomes store owned
-          (subst (λ (l : Lent Link). LinksStand (at_moment last (lent_to k l.id l.created (took stage.core))) stage.store (stage.lent.items ++ l ∷ []) (history_of stage.pool pairs)) (sym first.is)
-          (links-same _ (at_moment last (lent_to k first.i.lent.id first.i.lent.created (took stage.core))) stage.store _ (history_of stage.pool pairs)
-          (links-lent stage.core stage.store stage.lent.items (history_of stage.pool pairs) s.links first.i first.rest first.idle k first.i.lent.created) refl refl refl));
+      links = links-as core new.core stage.out.store new.out.store (stage.lent.items ++ lent ∷ []) new.lent.items (history_of stage.pool pairs) becomes store owned
+          (subst (λ (l : Lent Link). LinksStand (at_moment last (lent_to k l.id l.created (took stage.core))) stage.out.store (stage.lent.items ++ l ∷ []) (history_of stage.pool pairs)) (sym first.is)
+          (links-same _ (at_moment last (lent_to k first.i.lent.id first.i.lent.created (took stage.core))) stage.out.store _ (history_of stage.pool pairs)
+          (links-lent stage.core stage.out.store stage.lent.items (history_of stage.pool pairs) s.links first.i first.rest first.idle k first.i.lent.created) refl refl refl));
     })
   where
     pair : Event × Reply
@@ -175,7 +175,7 @@ lent-stands stage new pairs moment k last lent s first becomes store owned pool 
 
 -- it stands whatever the reply is
 pub tried-stands : (stage new : Stage) (pairs : List (Event × Reply)) (moment : Moment) (k last : ℕ) (lent : Lent Link) (r : Reply) → StageStands stage pairs → FirstIdle stage.core lent → r ≡ reply.Ready lent.id
-    → new.core ≡ at_moment last (lent_to k lent.id lent.created (took stage.core)) → new.store ≡ stage.store → new.lent.items ≡ stage.lent.items ++ lent ∷ [] → new.pool ≡ stage.pool
+    → new.core ≡ at_moment last (lent_to k lent.id lent.created (took stage.core)) → new.out.store ≡ stage.out.store → new.lent.items ≡ stage.lent.items ++ lent ∷ [] → new.pool ≡ stage.pool
     → Makes stage.core.options.max_connections (marks_of stage.pool pairs) (mark.Taken lent.id ∷ mark.Lent k lent.id ∷ []) new.core
     → StageStands new (pairs ++ (record { moment = moment; step = Try k }, r) ∷ [])
 tried-stands stage new pairs moment k last lent r s first is becomes store owned pool makes =

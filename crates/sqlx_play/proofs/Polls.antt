@@ -47,7 +47,7 @@ pair_of moment k t answers r = (record { moment = moment; step = Poll k t answer
 
 pub tested-stands : (stage new : Stage) (pairs : List (Event × Reply)) (moment : Moment) (k t last : ℕ) (answers : PollAnswers) (i : Idle Link) (mid : Core Link) → StageStands stage pairs → IsSound stage.core → AtTest stage.core k t i
     → mid ≡ started t last (start.Test i) stage.core → new.core ≡ ended t (lent_to k i.lent.id i.lent.created mid)
-    → new.store ≡ stage.store → new.lent.items ≡ stage.lent.items ++ i.lent ∷ [] → new.pool ≡ stage.pool
+    → new.out.store ≡ stage.out.store → new.lent.items ≡ stage.lent.items ++ i.lent ∷ [] → new.pool ≡ stage.pool
     → Makes stage.core.options.max_connections (marks_of stage.pool pairs) (mark.Left t ∷ mark.Taken i.lent.id ∷ []) mid
     → Makes mid.options.max_connections (marks_of stage.pool pairs ++ mark.Left t ∷ mark.Taken i.lent.id ∷ []) (mark.Lent k i.lent.id ∷ mark.Ended t ∷ []) new.core
     → StageStands new (pairs ++ pair_of moment k t answers (reply.Ready i.lent.id) ∷ [])
@@ -62,10 +62,10 @@ tested-stands stage new pairs moment k t last answers i mid s sound a begun beco
       tried = subst (All (IsTried (pairs ++ pair ∷ []))) (sym (ap (λ (c : Core Link). c.tickets) whole ∙ gone-changed t (to_test last i) stage.core.tickets (λ x. refl)))
           (tried-without pairs (pairs ++ pair ∷ []) t stage.core.tickets (λ u. tries_of-push u pairs pair) s.tried);
       untried = λ u h. tries_of-push u pairs pair ∙ s.untried u (subst (λ (n : ℕ). n ≤ u) (ap (λ (c : Core Link). c.next_ticket) whole) h);
-      links = subst (LinksStand new.core new.store new.lent.items) (ap (λ (l : List Mark). gone_by l (history_of stage.pool pairs)) made)
-          (links-as new.core new.core stage.store new.store (stage.lent.items ++ i.lent ∷ []) new.lent.items (history_of stage.pool pairs) refl store owned
-          (links-same (lent_to k i.lent.id i.lent.created (took stage.core)) new.core stage.store (stage.lent.items ++ i.lent ∷ []) (history_of stage.pool pairs)
-          (links-lent stage.core stage.store stage.lent.items (history_of stage.pool pairs) s.links i a.rest a.idle k i.lent.created)
+      links = subst (LinksStand new.core new.out.store new.lent.items) (ap (λ (l : List Mark). gone_by l (history_of stage.pool pairs)) made)
+          (links-as new.core new.core stage.out.store new.out.store (stage.lent.items ++ i.lent ∷ []) new.lent.items (history_of stage.pool pairs) refl store owned
+          (links-same (lent_to k i.lent.id i.lent.created (took stage.core)) new.core stage.out.store (stage.lent.items ++ i.lent ∷ []) (history_of stage.pool pairs)
+          (links-lent stage.core stage.out.store stage.lent.items (history_of stage.pool pairs) s.links i a.rest a.idle k i.lent.created)
           (ap (λ (c : Core Link). c.held) whole) (ap (λ (c : Core Link). c.idle) whole) (ap (λ (c : Core Link). c.next_conn) whole)));
     })
   where
@@ -101,7 +101,7 @@ pub record Connecting (stage mid : Stage) (pairs : List (Event × Reply)) (k t m
   pub next_conn : mid.core.next_conn ≡ stage.core.next_conn
   pub pool : mid.pool ≡ stage.pool
   pub makes : Makes stage.core.options.max_connections (marks_of stage.pool pairs) made mid.core
-  pub links : LinksStand mid.core mid.store mid.lent.items (gone_by made (history_of stage.pool pairs))
+  pub links : LinksStand mid.core mid.out.store mid.lent.items (gone_by made (history_of stage.pool pairs))
   pub marks : (o : Outcome) → made ++ connect_marks k t m (reply_by stage.core.next_conn o) ≡ polled (marks_of stage.pool pairs) m k t (reply_by stage.core.next_conn o)
 
 -- what a connect leaves as it was
@@ -161,7 +161,7 @@ module _ (stage mid new : Stage) (pairs : List (Event × Reply)) (moment : Momen
 
   stands_by : (o : Outcome) → ((u : ℕ) → o ≡ backs_off u → u ≡ moment.0 + wait_of c.y)
       → Makes mid.core.options.max_connections (marks_of stage.pool pairs ++ made) (connect_marks k t moment.0 (reply_by stage.core.next_conn o)) new.core
-      → new.core ≡ after_connect k t moment (reply_by stage.core.next_conn o) mid.core → LinksStand new.core new.store new.lent.items (gone_by made (history_of stage.pool pairs)) → new.pool ≡ mid.pool
+      → new.core ≡ after_connect k t moment (reply_by stage.core.next_conn o) mid.core → LinksStand new.core new.out.store new.lent.items (gone_by made (history_of stage.pool pairs)) → new.pool ≡ mid.pool
       → StageStands new (pairs ++ pair_of moment k t answers (reply_by stage.core.next_conn o) ∷ [])
   stands_by o until makes becomes links pool =
       let kept = keeps-connect k t stage.core.next_conn moment mid.core o in
@@ -180,13 +180,13 @@ module _ (stage mid new : Stage) (pairs : List (Event × Reply)) (moment : Momen
         untried = λ u h.
             let late : stage.core.next_ticket ≤ u = subst (λ (n : ℕ). n ≤ u) (ap (λ (n : Core Link). n.next_ticket) becomes ∙ kept.next_ticket ∙ c.next_ticket) h in
             untried_by o u late ∙ s.untried u late;
-        links = subst (LinksStand new.core new.store new.lent.items) past links;
+        links = subst (LinksStand new.core new.out.store new.lent.items) past links;
       })
 
   -- the stage after a connect with this reply
   pub connect-stands : (r : Reply) → r ≡ connect_reply mid.pool answers mid.core.next_conn (moment.0 + wait_of c.y) answers.connect
       → Makes mid.core.options.max_connections (marks_of stage.pool pairs ++ made) (connect_marks k t moment.0 r) new.core
-      → new.core ≡ after_connect k t moment r mid.core → LinksStand new.core new.store new.lent.items (gone_by made (history_of stage.pool pairs)) → new.pool ≡ mid.pool
+      → new.core ≡ after_connect k t moment r mid.core → LinksStand new.core new.out.store new.lent.items (gone_by made (history_of stage.pool pairs)) → new.pool ≡ mid.pool
       → StageStands new (pairs ++ pair_of moment k t answers r ∷ [])
   connect-stands r is makes becomes links pool =
       let o = outcome_of stage.pool answers (moment.0 + wait_of c.y) answers.connect in
@@ -199,11 +199,11 @@ module _ (stage mid new : Stage) (pairs : List (Event × Reply)) (moment : Momen
 -- ---- the two ways to a connect
 
 -- no connection is idle, or the next try is due
-pub at-connect-connects : (stage : Stage) (core : Core Link) (pairs : List (Event × Reply)) (k t m : ℕ) → StageStands stage pairs → IsSound stage.core → (a : AtConnect stage.core k t m)
-    → core ≡ started t m start.Connect stage.core
-    → Makes stage.core.options.max_connections (marks_of stage.pool pairs) (start_marks {C = Link} t (phase_for k t stage.core.tickets) start.Connect) core
-    → Connecting stage (record stage { core = core }) pairs k t m (leaving t (waits k t (marks_of stage.pool pairs)))
-at-connect-connects stage core pairs k t m s sound a becomes makes =
+pub at-connect-connects : (stage mid : Stage) (pairs : List (Event × Reply)) (k t m : ℕ) → StageStands stage pairs → IsSound stage.core → (a : AtConnect stage.core k t m)
+    → mid.core ≡ started t m start.Connect stage.core → mid.out.store ≡ stage.out.store → mid.lent.items ≡ stage.lent.items → mid.pool ≡ stage.pool
+    → Makes stage.core.options.max_connections (marks_of stage.pool pairs) (start_marks {C = Link} t (phase_for k t stage.core.tickets) start.Connect) mid.core
+    → Connecting stage mid pairs k t m (leaving t (waits k t (marks_of stage.pool pairs)))
+at-connect-connects stage mid pairs k t m s sound a becomes store owned pool makes =
     let marks : List Mark = marks_of stage.pool pairs in
     let tried = tried-of k t pairs stage.core.tickets a.x s.tried a.found in
     record {
@@ -220,10 +220,11 @@ at-connect-connects stage core pairs k t m s sound a becomes makes =
       places = ap (λ (c : Core Link). c.places) becomes;
       next_ticket = ap (λ (c : Core Link). c.next_ticket) becomes;
       next_conn = ap (λ (c : Core Link). c.next_conn) becomes;
-      pool = refl;
-      makes = subst (λ (l : List Mark). Makes stage.core.options.max_connections marks l core) (leaving-connect stage.core marks k t s.stands m a) makes;
-      links = subst (LinksStand core stage.store stage.lent.items) (by (waits k t marks))
-          (links-same stage.core core stage.store stage.lent.items (history_of stage.pool pairs) s.links (ap (λ (c : Core Link). c.held) becomes) (ap (λ (c : Core Link). c.idle) becomes) (ap (λ (c : Core Link). c.next_conn) becomes));
+      pool = pool;
+      makes = subst (λ (l : List Mark). Makes stage.core.options.max_connections marks l mid.core) (leaving-connect stage.core marks k t s.stands m a) makes;
+      links = subst (LinksStand mid.core mid.out.store mid.lent.items) (by (waits k t marks))
+          (links-as mid.core mid.core stage.out.store mid.out.store stage.lent.items mid.lent.items (history_of stage.pool pairs) refl store owned
+          (links-same stage.core mid.core stage.out.store stage.lent.items (history_of stage.pool pairs) s.links (ap (λ (c : Core Link). c.held) becomes) (ap (λ (c : Core Link). c.idle) becomes) (ap (λ (c : Core Link). c.next_conn) becomes)));
       marks = λ o. connect-marks m k t stage.core.next_conn (waits k t marks) o
           ∙ ap (λ (taken : Option ℕ). polled_by m k t (waits k t marks) taken (reply_by stage.core.next_conn o)) (sym (taken-connect stage.core marks k t s.stands m a))
           ∙ sym (polled-by marks m k t stage.core.next_conn o);
@@ -236,7 +237,7 @@ at-connect-connects stage core pairs k t m s sound a becomes makes =
 -- the idle connection was refused
 pub refused-connects : (stage mid : Stage) (core : Core Link) (pairs : List (Event × Reply)) (k t m : ℕ) (i : Idle Link) → StageStands stage pairs → IsSound stage.core → (a : AtTest stage.core k t i)
     → core ≡ started t m (start.Test i) stage.core → mid.core ≡ record core { tickets = with_ticket t to_connect core.tickets }
-    → mid.store ≡ record stage.store { places = without i.lent.raw.number stage.store.places } → mid.lent.items ≡ stage.lent.items → mid.pool ≡ stage.pool
+    → mid.out.store ≡ record stage.out.store { places = without i.lent.raw.number stage.out.store.places } → mid.lent.items ≡ stage.lent.items → mid.pool ≡ stage.pool
     → Makes stage.core.options.max_connections (marks_of stage.pool pairs) (mark.Left t ∷ mark.Taken i.lent.id ∷ []) core
     → Makes core.options.max_connections (marks_of stage.pool pairs ++ mark.Left t ∷ mark.Taken i.lent.id ∷ []) (mark.Closed i.lent.id ∷ []) mid.core
     → Connecting stage mid pairs k t m (mark.Left t ∷ mark.Taken i.lent.id ∷ mark.Closed i.lent.id ∷ [])
@@ -258,9 +259,9 @@ refused-connects stage mid core pairs k t m i s sound a begun becomes store owne
       pool = pool;
       makes = makes-then stage.core.options.max_connections marks (mark.Left t ∷ mark.Taken i.lent.id ∷ []) (mark.Closed i.lent.id ∷ []) core mid.core makes
           (subst (λ (n : ℕ). Makes n (marks ++ mark.Left t ∷ mark.Taken i.lent.id ∷ []) (mark.Closed i.lent.id ∷ []) mid.core) (ap (λ (c : Core Link). c.options.max_connections) begun) then);
-      links = links-as mid.core mid.core _ mid.store stage.lent.items mid.lent.items (leaves i.lent.id ∷ history_of stage.pool pairs) refl store owned
+      links = links-as mid.core mid.core _ mid.out.store stage.lent.items mid.lent.items (leaves i.lent.id ∷ history_of stage.pool pairs) refl store owned
           (links-same (took stage.core) mid.core _ stage.lent.items (leaves i.lent.id ∷ history_of stage.pool pairs)
-          (links-closed stage.core stage.store stage.lent.items (history_of stage.pool pairs) s.links i a.rest a.idle sound)
+          (links-closed stage.core stage.out.store stage.lent.items (history_of stage.pool pairs) s.links i a.rest a.idle sound)
           (ap (λ (c : Core Link). c.held) whole) (ap (λ (c : Core Link). c.idle) whole) (ap (λ (c : Core Link). c.next_conn) whole));
       marks = λ o. refused-marks m k t i.lent.id stage.core.next_conn o other too
           ∙ (λ j. polled_by m k t (sym (waits-test stage.core marks k t s.stands i a) j) (sym (taken-test stage.core marks k t s.stands i a) j) (reply_by stage.core.next_conn o))

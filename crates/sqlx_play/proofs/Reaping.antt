@@ -23,6 +23,7 @@ use Rattle.sqlx_script.specs.declared.step.Event.{Event}
 use Rattle.sqlx_script.specs.declared.step.Step.TheVariants.{Reap}
 use Rattle.sqlx_script.specs.declared.reply.Reply.{Reply}
 use Rattle.sqlx_script.specs.declared.reply.Reply.TheVariants as reply
+use Rattle.sqlx_play.specs.declared.outside.ScriptOutside.{ScriptOutside}
 use Rattle.sqlx_play.specs.declared.stage.Stage.{Stage}
 use Rattle.sqlx_play.specs.ScriptMarks.{marks_of, openings, reaped_of, reaping, is_beyond_limits, is_aged}
 use Rattle.sqlx_play.specs.ScriptLevels.{gone_by, history_of}
@@ -93,12 +94,12 @@ reaps-none old core m m' same answer becomes =
     subst (λ (c : Core Link). ReapsOne old (record old { core = c }) m false) (sym becomes)
     (record { beyond = refl; comes = λ marks past at. comes-nowhere old marks past at; next = refl; fewer = omega arith }, none)
 
-pub reaps-one : (old : Stage) (core : Core Link) (store : Store) (i : Idle Link) (m m' : ℕ) → m' ≡ m → IsSound old.core → Some i ≡ reap_answer (core_passes old.core) old.core.options m' old.core.idle
+pub reaps-one : (old : Stage) (core : Core Link) (out : ScriptOutside) (i : Idle Link) (m m' : ℕ) → m' ≡ m → IsSound old.core → Some i ≡ reap_answer (core_passes old.core) old.core.options m' old.core.idle
     → core ≡ at_moment m' (record old.core { idle = without_idle i.lent.id old.core.idle })
     → ((marks : List Mark) → StandsFor old.core marks → Makes old.core.options.max_connections marks (Reaped i.lent.id ∷ []) core)
-    → store ≡ closed_in i.lent.raw.number old.store
-    → ReapsOne old (record old { core = core; store = store }) m true
-reaps-one old core store i m m' same sound answer becomes makes closed =
+    → out.store ≡ closed_in i.lent.raw.number old.out.store
+    → ReapsOne old (record old { core = core; out = out }) m true
+reaps-one old core out i m m' same sound answer becomes makes closed =
     let told = answered_some (core_passes old.core) old.core.options m old.core.idle i (answer ∙ ap (λ (k : ℕ). reap_answer (core_passes old.core) old.core.options k old.core.idle) same) in
     let test = is_reaped_at old.core.options m in
     let here = idle-found old.core sound i.lent.id (found_counts test (rests i.lent.id) old.core.idle i told.1 (same_number i.lent.id)) in
@@ -120,8 +121,8 @@ reaps-one old core store i m m' same sound answer becomes makes closed =
           tickets = ap (λ (c : Core Link). c.tickets) becomes;
           next = ap (λ (c : Core Link). c.next_ticket) becomes;
           links = subst (λ (s : Store). LinksStand core s old.lent.items (leaves i.lent.id ∷ past)) (sym closed)
-              (links-same (record old.core { idle = without_idle i.lent.id old.core.idle }) core (closed_in i.lent.raw.number old.store) old.lent.items (leaves i.lent.id ∷ past)
-              (links-unrest old.core old.store old.lent.items past i at.links found one here.unowned)
+              (links-same (record old.core { idle = without_idle i.lent.id old.core.idle }) core (closed_in i.lent.raw.number old.out.store) old.lent.items (leaves i.lent.id ∷ past)
+              (links-unrest old.core old.out.store old.lent.items past i at.links found one here.unowned)
               (ap (λ (c : Core Link). c.held) becomes) left (ap (λ (c : Core Link). c.next_conn) becomes));
         };
         next = ap (λ (c : Core Link). c.next_conn) becomes;

@@ -89,7 +89,7 @@ part_of_report text rest pool before mid now stage report e same plays reports p
 
 -- all was written
 -- the rows of the store are what a connection that was never opened sees
-rows_seen : (stage : Stage) (pairs : List (Event × Reply)) → StageStands stage pairs → (key : ℤ) → get stage.store.rows key ≡ value stage.core.next_conn key (history_of stage.pool pairs)
+rows_seen : (stage : Stage) (pairs : List (Event × Reply)) → StageStands stage pairs → (key : ℤ) → get stage.out.store.rows key ≡ value stage.core.next_conn key (history_of stage.pool pairs)
 rows_seen stage pairs s key =
     let history = history_of stage.pool pairs in
     let link = s.links.unopened stage.core.next_conn (omega arith) in
@@ -101,7 +101,7 @@ rows_seen stage pairs s key =
 pub plays_text : (text rest : List ℕ) (pool : PoolLine) (before mid now : Option (List ℕ)) (stage : Stage) (report : Report) → length text ≤ limit → script_of text ≡ Some (script_with pool rest)
     → stage.pool ≡ pool → PlaysLines rest pool before mid stage
     → ((pairs : List (Event × Reply)) → StageStands stage pairs → report ≡ report_of stage.pool pairs)
-    → Appends mid now (line_of (report_text report)) → Plays text before now stage.core stage.store
+    → Appends mid now (line_of (report_text report)) → Plays text before now stage.core stage.out.store
 plays_text text rest pool before mid now stage report short e same plays reports w =
     let due = report_due rest pool before mid stage report same plays reports ∙ ap (λ bad. closing_due bad (script_with pool rest)) plays.good in
     let pairs : List (Event × Reply) = pairs_after pool [] (reading_from 2 0 (lines_of rest)).events in
@@ -117,5 +117,6 @@ plays_text text rest pool before mid now stage report short e same plays reports
         within = keeps-the-maximum pool.max _ fair;
       };
       core_after = subst (λ (p : PoolLine). StandsFor stage.core (marks_of p pairs)) same plays.stage_after.stands;
-      rows_after = subst (λ (p : PoolLine). (key : ℤ) → get stage.store.rows key ≡ value stage.core.next_conn key (history_of p pairs)) same (rows_seen stage pairs plays.stage_after);
+      rows_after = subst (λ (p : PoolLine). (key : ℤ) → get stage.out.store.rows key ≡ value stage.core.next_conn key (history_of p pairs)) same (rows_seen stage pairs plays.stage_after);
+      runs_after = plays.runs_after;
     }

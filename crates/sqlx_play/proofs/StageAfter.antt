@@ -24,7 +24,7 @@ pub record StageMoves (old new : Stage) (pairs : List (Event × Reply)) (pair : 
   pub places : new.core.places ≡ 0
   pub tried : All (IsTried (pairs ++ pair ∷ [])) new.core.tickets
   pub untried : (t : ℕ) → new.core.next_ticket ≤ t → tries_of t (pairs ++ pair ∷ []) ≡ None
-  pub links : LinksStand new.core new.store new.lent.items (history_after old.pool (marks_of old.pool pairs) (history_of old.pool pairs) pair)
+  pub links : LinksStand new.core new.out.store new.lent.items (history_after old.pool (marks_of old.pool pairs) (history_of old.pool pairs) pair)
 
 pub stage-after : (old new : Stage) (pairs : List (Event × Reply)) (pair : Event × Reply) → StageStands old pairs → StageMoves old new pairs pair → StageStands new (pairs ++ pair ∷ [])
 stage-after old new pairs pair s m =
@@ -39,5 +39,5 @@ stage-after old new pairs pair s m =
       places = m.places;
       tried = m.tried;
       untried = m.untried;
-      links = subst (LinksStand new.core new.store new.lent.items) past m.links;
+      links = subst (LinksStand new.core new.out.store new.lent.items) past m.links;
     }

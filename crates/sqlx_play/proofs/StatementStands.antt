@@ -104,7 +104,7 @@ answer_is pool pairs event x e = ap (reply_at pool pairs (marks_of pool pairs) (
 
 -- a stage of which a statement changed the store and the links
 moves : (old new : Stage) (pairs : List (Event × Reply)) (event : Event) (r : Reply) (x : levels.Statement) → StageStands old pairs → statement_of event.step ≡ Some x
-    → new.core ≡ old.core → new.pool ≡ old.pool → LinksStand old.core new.store new.lent.items (changed_by (Some x) r (history_of old.pool pairs)) → StageStands new (pairs ++ (event, r) ∷ [])
+    → new.core ≡ old.core → new.pool ≡ old.pool → LinksStand old.core new.out.store new.lent.items (changed_by (Some x) r (history_of old.pool pairs)) → StageStands new (pairs ++ (event, r) ∷ [])
 moves old new pairs event r x s e core pool links =
     let pair : Event × Reply = (event, r) in
     let marks : List Mark = marks_of old.pool pairs in
@@ -117,8 +117,8 @@ moves old new pairs event r x s e core pool links =
       places = ap (λ (c : Core Link). c.places) core ∙ s.places;
       tried = All-same (IsTried (pairs ++ pair ∷ [])) new.core.tickets old.core.tickets (ap (λ (c : Core Link). c.tickets) core) (tried-same pairs pair old.core.tickets tries s.tried);
       untried = λ t h. tries t ∙ s.untried t (subst (λ (c : Core Link). c.next_ticket ≤ t) core h);
-      links = subst (λ (c : Core Link). LinksStand c new.store new.lent.items (history_after old.pool marks (history_of old.pool pairs) pair)) (sym core)
-          (subst (λ (h : History). LinksStand old.core new.store new.lent.items h)
+      links = subst (λ (c : Core Link). LinksStand c new.out.store new.lent.items (history_after old.pool marks (history_of old.pool pairs) pair)) (sym core)
+          (subst (λ (h : History). LinksStand old.core new.out.store new.lent.items h)
           (sym (ap (λ (l : List Mark). levels.gone_by l (changed_by (statement_of event.step) r (history_of old.pool pairs))) none ∙ ap (λ (o : Option levels.Statement). changed_by o r (history_of old.pool pairs)) e)) links);
     })
 
@@ -147,8 +147,8 @@ runs_not old new pairs event st r s sound e core pool ran =
     let kept : past ≡ changed_by (Some (said st)) r past = sym (ap (λ (x : Reply). change_by a (read_reply x) past) ran.told ∙ not_held_changes a past) in (
       ran.told ∙ ap (λ b. written_reply a (depth st.connection past) (reply_of a b (met_of st.answer) past)) (sym not_owned) ∙ sym (answer_is old.pool pairs event (said st) e),
       moves old new pairs event r (said st) s e core pool
-          (subst (λ (h : History). LinksStand old.core new.store new.lent.items h) kept
-          (subst (λ (x : Store). LinksStand old.core x new.lent.items past) (sym ran.store) (subst (λ (l : List (Lent Link)). LinksStand old.core old.store l past) (sym ran.links) s.links))),
+          (subst (λ (h : History). LinksStand old.core new.out.store new.lent.items h) kept
+          (subst (λ (x : Store). LinksStand old.core x new.lent.items past) (sym ran.store) (subst (λ (l : List (Lent Link)). LinksStand old.core old.out.store l past) (sym ran.links) s.links))),
     )
 
 -- ---- a connection that the client owns
@@ -170,23 +170,23 @@ runs_on old new pairs event st r s sound e met core pool ran =
     let a : bracket.Act = act_on own.id st.act in
     let now : bracket.Act = act_on st.connection st.act in
     let said' : bracket.Reply = reply_of a true (met_of st.answer) past in
-    let links : LinksStand old.core old.store (ran.before ++ own ∷ ran.after) past = subst (λ (l : List (Lent Link)). LinksStand old.core old.store l past) ran.lent s.links in
+    let links : LinksStand old.core old.out.store (ran.before ++ own ∷ ran.after) past = subst (λ (l : List (Lent Link)). LinksStand old.core old.out.store l past) ran.lent s.links in
     let owned : owns st.client (owner_of st.connection marks) ≡ true = sym (owner-alike old.core sound marks st.client st.connection s.stands) ∙ ran.owned in
-    let work : at_work old.store own.raw st ≡ session_at past own.id own.raw.number old.store.places old.store.given old.store.runs (answer_for st.answer) =
-    work_is past own.id old.store own.raw st links.rows (All-mid (λ (x : Lent Link). IsLinkOf (linked_after past) x.id x.raw) ran.before own ran.after links.lent_links) in
-    let alike : AlikeAt a past own.id (at_work old.store own.raw st) said' (reply_on st.act (at_work old.store own.raw st)) (left_at old.store own.raw st) =
+    let work : at_work old.out.store own.raw st ≡ session_at past own.id own.raw.number old.out.store.places old.out.store.given old.out.store.runs (answer_for st.answer) =
+    work_is past own.id old.out.store own.raw st links.rows (All-mid (λ (x : Lent Link). IsLinkOf (linked_after past) x.id x.raw) ran.before own ran.after links.lent_links) in
+    let alike : AlikeAt a past own.id (at_work old.out.store own.raw st) said' (reply_on st.act (at_work old.out.store own.raw st)) (left_at old.out.store own.raw st) =
     subst (λ (x : Session). AlikeAt a past own.id x said' (reply_on st.act x) (left_by st.act x)) (sym work)
-    (acts-alike past links.accepted own.id own.raw.number old.store.places old.store.given old.store.runs st.act st.answer met (busy-alike old.core sound old.store ran.before own ran.after past links)) in
+    (acts-alike past links.accepted own.id own.raw.number old.out.store.places old.out.store.given old.out.store.runs st.act st.answer met (busy-alike old.core sound old.out.store ran.before own ran.after past links)) in
     let told : r ≡ written_reply a (depth own.id past) said' = ran.told ∙ alike.0 in
-    let left : LinksStand old.core (left_at old.store own.raw st).store (ran.before ++ record own { raw = (left_at old.store own.raw st).link } ∷ ran.after) (change_by a said' past) =
-    links-left old.core sound old.store ran.before own ran.after past (change_by a said' past) links (answer_for st.answer) (left_at old.store own.raw st) (asked_fine a true (met_of st.answer) past links.accepted) alike.1 in
+    let left : LinksStand old.core (left_at old.out.store own.raw st).store (ran.before ++ record own { raw = (left_at old.out.store own.raw st).link } ∷ ran.after) (change_by a said' past) =
+    links-left old.core sound old.out.store ran.before own ran.after past (change_by a said' past) links (answer_for st.answer) (left_at old.out.store own.raw st) (asked_fine a true (met_of st.answer) past links.accepted) alike.1 in
     let changed : change_by a said' past ≡ changed_by (Some (said st)) r past =
     ap (λ (x : bracket.Reply). change_by a x past) (sym (ap read_reply told ∙ read_written a (depth own.id past) said')) ∙ ap (λ n. change_by (act_on n st.act) (read_reply r) past) ran.is in (
       told ∙ ap (λ n. written_reply (act_on n st.act) (depth n past) (reply_of (act_on n st.act) true (met_of st.answer) past)) ran.is
           ∙ ap (λ b. written_reply now (depth st.connection past) (reply_of now b (met_of st.answer) past)) (sym owned) ∙ sym (answer_is old.pool pairs event (said st) e),
       moves old new pairs event r (said st) s e core pool
-          (subst (λ (h : History). LinksStand old.core new.store new.lent.items h) changed
-          (subst (λ (x : Store). LinksStand old.core x new.lent.items (change_by a said' past)) (sym ran.store) (subst (λ (l : List (Lent Link)). LinksStand old.core (left_at old.store own.raw st).store l (change_by a said' past)) (sym ran.links) left))),
+          (subst (λ (h : History). LinksStand old.core new.out.store new.lent.items h) changed
+          (subst (λ (x : Store). LinksStand old.core x new.lent.items (change_by a said' past)) (sym ran.store) (subst (λ (l : List (Lent Link)). LinksStand old.core (left_at old.out.store own.raw st).store l (change_by a said' past)) (sym ran.links) left))),
     )
 
 -- a statement is played

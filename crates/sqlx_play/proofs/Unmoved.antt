@@ -34,7 +34,7 @@ stage-unmoved stage pairs pair s leaves =
       places = s.places;
       tried = tried-same pairs pair stage.core.tickets leaves.tries s.tried;
       untried = λ t h. leaves.tries t ∙ s.untried t h;
-      links = subst (LinksStand stage.core stage.store stage.lent.items) past s.links;
+      links = subst (LinksStand stage.core stage.out.store stage.lent.items) past s.links;
     }
 
 -- the same where the core is another with the same value

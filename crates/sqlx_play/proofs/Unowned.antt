@@ -19,14 +19,14 @@ use Rattle.sqlx_play.specs.StageStands.{StageStands}
 use Rattle.sqlx_play.specs.Laws.{RestsUnowned}
 use Rattle.sqlx_play.proofs.Pairs.{history_of-nil}
 
-none_found : {X : Type 0} (p : X → Bool) (xs : List X) → find p xs ≡ None → list_any p xs ≡ false
+pub none_found : {X : Type 0} (p : X → Bool) (xs : List X) → find p xs ≡ None → list_any p xs ≡ false
 none_found p [] e = refl
 none_found p (x ∷ xs) e = none_at p x xs (p x) refl e (none_found p xs) where
   none_at : {X : Type 0} (p : X → Bool) (x : X) (xs : List X) (b : Bool) → p x ≡ b → find p (x ∷ xs) ≡ None → (find p xs ≡ None → list_any p xs ≡ false) → list_any p (x ∷ xs) ≡ false
   none_at p x xs true is e rest = absurd (let f : ◌≡◌ {A = Option _} (Some x) None = rw is at e in cc)
   none_at p x xs false is e rest = rw is (rest (rw is at e))
 
-no_loan : (o : Option Loan) → option_map (λ (l : Loan). l.client) o ≡ None → o ≡ None
+pub no_loan : (o : Option Loan) → option_map (λ (l : Loan). l.client) o ≡ None → o ≡ None
 no_loan None e = refl
 no_loan (Some l) e = absurd cc
 

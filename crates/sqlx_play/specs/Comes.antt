@@ -13,7 +13,7 @@ pub record IsAt (stage : Stage) (marks : List Mark) (past : History) : Type 0 wh
   pub set_up : IsSetUp stage.pool stage.core.options
   pub places : stage.core.places ≡ 0
   pub stands : StandsFor stage.core marks
-  pub links : LinksStand stage.core stage.store stage.lent.items past
+  pub links : LinksStand stage.core stage.out.store stage.lent.items past
 
 -- The stage comes from these marks, by those that were made, to this history; its tickets stay.
 pub record Comes (old new : Stage) (marks made : List Mark) (past : History) : Type 0 where
@@ -23,4 +23,4 @@ pub record Comes (old new : Stage) (marks made : List Mark) (past : History) : T
   pub places : new.core.places ≡ 0
   pub tickets : new.core.tickets ≡ old.core.tickets
   pub next : new.core.next_ticket ≡ old.core.next_ticket
-  pub links : LinksStand new.core new.store new.lent.items past
+  pub links : LinksStand new.core new.out.store new.lent.items past

@@ -17,6 +17,7 @@ use Rattle.sqlx_play.specs.ScriptLevels.{history_of}
 use Rattle.sqlx_play.specs.Laws.{RestsUnowned, HoldsHeadline}
 use Rattle.sqlx_play.specs.Faults.{HasFaulted}
 use Rattle.sqlx_play.specs.StageStands.{StageStands}
+use Rattle.sqlx_play.specs.ScriptRuns.{runs_of}
 use Rattle.sqlx_play.specs.Output.{pairs_after, pairs_of, replies_text, output_of, replies_due, output_due}
 
 -- ---- reading
@@ -68,6 +69,7 @@ pub record PlaysLines (text : List ℕ) (pool : PoolLine) (before now : Option (
   pub written : Appends before now (lines_text pool text)
   pub stage_after : StageStands stage (pairs_after pool [] (reading_from 2 0 (lines_of text)).events)
   pub rests : RestsUnowned pool (pairs_after pool [] (reading_from 2 0 (lines_of text)).events)
+  pub runs_after : stage.out.store.runs ≡ runs_of (pairs_after pool [] (reading_from 2 0 (lines_of text)).events)
 
 -- A line after the first is bad, and the replies before it were written.
 pub record StopsAt (text : List ℕ) (pool : PoolLine) (before now : Option (List ℕ)) (n : ℕ) : Type 0 where
@@ -76,7 +78,7 @@ pub record StopsAt (text : List ℕ) (pool : PoolLine) (before now : Option (Lis
 
 -- ---- playing
 
--- The bytes are a script, whose output was written and for which the headline holds. The core stands for the marks of its events and replies, and the store's rows are what a connection that was never opened sees.
+-- The bytes are a script, whose output was written and for which the headline holds. The core stands for the marks of its events and replies, the store's rows are what a connection that was never opened sees, and the store counted each text that ran.
 pub record Plays (bytes : List ℕ) (before now : Option (List ℕ)) (core : Core Link) (store : Store) : Type 0 where
   pub script : Script
   pub is_script : IsScript bytes script
@@ -84,6 +86,7 @@ pub record Plays (bytes : List ℕ) (before now : Option (List ℕ)) (core : Cor
   pub headline : HoldsHeadline script.pool (pairs_of script)
   pub core_after : StandsFor core (marks_of script.pool (pairs_of script))
   pub rows_after : (key : ℤ) → get store.rows key ≡ value core.next_conn key (history_of script.pool (pairs_of script))
+  pub runs_after : store.runs ≡ runs_of (pairs_of script)
 
 -- The bytes are a script, whose output was written and for which the headline holds.
 pub record Answers (bytes : List ℕ) (before now : Option (List ℕ)) : Type 0 where

@@ -1,5 +1,5 @@
 -- The headline's laws, in its own words.
-use Rattle.std.specs.Prelude.{◌≡◌, ◌≢◌, ◌↔◌, ℕ, ◌<◌, true, false, List, ◌++◌, Some, None}
+use Rattle.std.specs.Prelude.{◌≡◌, ◌≢◌, ◌↔◌, ℕ, ◌<◌, true, false, List, [], ◌++◌, Some, None}
 use Rattle.sqlx_text.specs.declared.moment.Moment.{Moment}
 use Rattle.sqlx_pool_core.specs.Marks.{Asking, tickets_of, is_open, owner_of}
 use Rattle.sqlx_pool_core.specs.Counts.{asked_in}
@@ -15,6 +15,7 @@ use Rattle.sqlx_brackets.specs.Brackets.{depth}
 use Rattle.sqlx_play.specs.ScriptMarks.{marks_of}
 use Rattle.sqlx_play.specs.ScriptLevels.{history_of}
 use Rattle.sqlx_play.specs.Answer.{answer}
+use Rattle.sqlx_play.specs.Output.{pairs_after}
 
 -- A waiting ticket of its client, polled in time in an open pool.
 pub record IsWaiting (pool : PoolLine) (pairs : List (Event × Reply)) (moment client ticket : ℕ) (asking : Asking) : Type 0 where
@@ -40,3 +41,21 @@ pub record HoldsHeadline (pool : PoolLine) (pairs : List (Event × Reply)) : Typ
   pub rests : RestsUnowned pool pairs
   pub in_turn : InTurn pool.max (marks_of pool pairs)
   pub within : WithinMaximum pool.max (marks_of pool pairs)
+
+-- ---- whatever the events, where each reply is the answer to its event
+
+-- No connection has two owners.
+abbrev pub ScriptsLendOnce : Type 0
+ScriptsLendOnce = (pool : PoolLine) (events : List Event) → NoTwoOwners (marks_of pool (pairs_after pool [] events))
+
+-- A connection without an owner has no open level.
+abbrev pub ScriptsRestUnowned : Type 0
+ScriptsRestUnowned = (pool : PoolLine) (events : List Event) → RestsUnowned pool (pairs_after pool [] events)
+
+-- Tickets leave the line in turn.
+abbrev pub ScriptsKeepTheLine : Type 0
+ScriptsKeepTheLine = (pool : PoolLine) (events : List Event) → InTurn pool.max (marks_of pool (pairs_after pool [] events))
+
+-- The pool keeps its maximum.
+abbrev pub ScriptsKeepTheMaximum : Type 0
+ScriptsKeepTheMaximum = (pool : PoolLine) (events : List Event) → WithinMaximum pool.max (marks_of pool (pairs_after pool [] events))

@@ -6,6 +6,7 @@ pub mod ScriptMarks
 pub mod Tries
 pub mod ScriptLevels
 pub mod Answer
+pub mod ScriptOutside
 pub mod LinksStand
 pub mod LentLinks
 pub mod StageStands
@@ -19,6 +20,7 @@ pub mod PlaysEvent
 pub mod Polling
 pub mod LinkActs
 pub mod StatementRuns
+pub mod ScriptRuns
 pub mod Output
 pub mod Headline
 pub mod Laws

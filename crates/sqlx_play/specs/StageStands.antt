@@ -45,7 +45,7 @@ pub record StageStands (stage : Stage) (pairs : List (Event × Reply)) : Type 0 
   pub places : stage.core.places ≡ 0
   pub tried : All (IsTried pairs) stage.core.tickets
   pub untried : (t : ℕ) → stage.core.next_ticket ≤ t → tries_of t pairs ≡ None
-  pub links : LinksStand stage.core stage.store stage.lent.items (history_of stage.pool pairs)
+  pub links : LinksStand stage.core stage.out.store stage.lent.items (history_of stage.pool pairs)
 
 -- the last moment of the stage
 abbrev pub last_of : Stage → ℕ

@@ -1,5 +1,5 @@
 -- What a statement of a script does on a stage, by the database's statement.
-use Rattle.std.specs.Prelude.{◌≡◌, ℕ, ◌==◌, ◌⊎◌, Bool, true, false, is_some, List, ◌∷◌, ◌++◌, length}
+use Rattle.std.specs.Prelude.{◌≡◌, ℕ, ◌==◌, ◌⊎◌, Bool, true, false, is_some, pos, Option, Some, None, List, ◌∷◌, ◌++◌, length}
 use Rattle.std.specs.List.{list_any}
 use Rattle.sqlx_pool_core.specs.declared.steps.Lent.{Lent}
 use Rattle.sqlx_pool_core.specs.Core.{loan_of}
@@ -9,6 +9,8 @@ use Rattle.sqlx_script.specs.declared.step.Step.TheVariants.{Begin, Custom, Put,
 use Rattle.sqlx_script.specs.declared.reply.Reply.{Reply}
 use Rattle.sqlx_script.specs.declared.reply.Reply.TheVariants.{NotHeld}
 use Rattle.sqlx_play.specs.declared.stage.Stage.{Stage}
+use Rattle.sqlx_play.specs.declared.stage.acts.Act.{Act}
+use Rattle.sqlx_play.specs.declared.stage.acts.Act.TheVariants as act
 use Rattle.sqlx_play.specs.declared.stage.statements.Statement.{Statement}
 use Rattle.sqlx_play.specs.ScriptLevels as levels
 use Rattle.sqlx_play.specs.ScriptLevels.{met_of}
@@ -29,6 +31,18 @@ acts (Commit client connection answer) = true
 acts (Rollback client connection answer) = true
 acts (GiveUp client connection) = true
 acts other = false
+
+-- what a statement's step does
+abbrev pub done_by : Step → Option Act
+done_by (Begin client connection answer) = Some act.Begin
+done_by (Custom client connection begins answer) = Some (act.Custom begins)
+done_by (Put client connection key value answer) = Some (act.Put (pos key) value)
+done_by (Del client connection key answer) = Some (act.Delete (pos key))
+done_by (Get client connection key answer) = Some (act.Get (pos key))
+done_by (Commit client connection answer) = Some act.Commit
+done_by (Rollback client connection answer) = Some act.Rollback
+done_by (GiveUp client connection) = Some act.GiveUp
+done_by other = None
 
 abbrev pub is_lent_id : ℕ → Lent Link → Bool
 is_lent_id id l = id == l.id
@@ -57,14 +71,14 @@ pub record RunsOnLink (old new : Stage) (s : Statement) (reply : Reply) : Type 0
   pub lent : old.lent.items ≡ before ++ own ∷ after
   pub is : own.id ≡ s.connection
   pub owned : is_some (loan_of s.client s.connection old.core.held) ≡ true
-  pub told : reply ≡ reply_on s.act (at_work old.store own.raw s)
-  pub store : new.store ≡ (left_at old.store own.raw s).store
-  pub links : new.lent.items ≡ before ++ record own { raw = (left_at old.store own.raw s).link } ∷ after
+  pub told : reply ≡ reply_on s.act (at_work old.out.store own.raw s)
+  pub store : new.out.store ≡ (left_at old.out.store own.raw s).store
+  pub links : new.lent.items ≡ before ++ record own { raw = (left_at old.out.store own.raw s).link } ∷ after
 
 -- The client has no such connection, and nothing changed.
 pub record RunsNot (old new : Stage) (s : Statement) (reply : Reply) : Type 0 where
   pub told : reply ≡ NotHeld
-  pub store : new.store ≡ old.store
+  pub store : new.out.store ≡ old.out.store
   pub links : new.lent.items ≡ old.lent.items
   pub cause : (is_some (loan_of s.client s.connection old.core.held) ≡ false) ⊎ (list_any (is_lent_id s.connection) old.lent.items ≡ false)
 

@@ -8,6 +8,7 @@ ghost use Rattle.sqlx_script.specs.Built.{is_built};
 ghost use Rattle.sqlx_script.specs.Grammar.{Script, script_of, limit};
 ghost use Rattle.sqlx_play.specs.Answer.{answer};
 ghost use Rattle.sqlx_play.specs.StageStands.{StageStands, last_of, numbers_of};
+ghost use Rattle.sqlx_play.specs.ScriptRuns.{runs_of, runs_after};
 ghost use Rattle.sqlx_play.specs.Output.{output_due};
 ghost use Rattle.sqlx_play.specs.Headline.{TookAll, WrotePart, TextCause, PlaysLines, StopsAt, lines_text, Plays, Answers, StopsText, PlayCause, IsSound, shown};
 
@@ -54,6 +55,8 @@ fn play_event<K: Sink>(
     ensures ok { OnOk result ((pairs : List (Event × Reply)) → StageStands stage.old pairs →
         Appends (K.written sink.old) (K.written sink.new) (line_of (reply_text (answer stage.old.pool pairs event.now)))
         × StageStands stage.new (pairs ++ (event.now, answer stage.old.pool pairs event.now) ∷ [])) }
+    ensures runs { OnOk result ((pairs : List (Event × Reply)) → StageStands stage.old pairs →
+        stage.new.out.store.runs ≡ runs_after event.now.step (answer stage.old.pool pairs event.now) stage.old.out.store.runs) }
     ensures pool { stage.new.pool ≡ stage.old.pool }
     ensures last { last_of stage.new ≤ event.now.moment.0 }
     ensures used { numbers_of stage.new ≤ numbers_of stage.old + 2 ^ 20 }
@@ -74,6 +77,7 @@ fn play_lines<K: Sink>(
     sink: &mut K,
 ) -> Result<(), PlayError>
     requires stands { StageStands stage.old [] }
+    requires runs { stage.old.out.store.runs ≡ runs_of [] }
     requires last { last_of stage.old ≡ 0 }
     requires numbers { numbers_of stage.old ≤ 2 }
     requires short { length text.now ≤ limit }
@@ -127,8 +131,11 @@ fn play_text<K: Sink>(alloc: Global, text: &[u8], sink: &mut K) -> Result<Played
     if let Err(error) = write_line(alloc, sink, &report(&stage)) {
         return Err(error);
     }
-    let Stage { core, store, .. } = stage;
-    Ok(Played { core, store })
+    let Stage { core, out, .. } = stage;
+    Ok(Played {
+        core,
+        store: out.into_store(),
+    })
 }
 
 // Reads a script to its end and plays it.

@@ -5,6 +5,7 @@ ghost use Rattle.sqlx_script.specs.declared.reply.Reply.{Reply};
 ghost use Rattle.sqlx_script.specs.Built.{is_built};
 ghost use Rattle.sqlx_play.specs.Answer.{report_of};
 ghost use Rattle.sqlx_play.specs.PlaysEvent.{PlaysEvent};
+ghost use Rattle.sqlx_play.specs.ScriptRuns.{runs_of, runs_after};
 ghost use Rattle.sqlx_play.specs.StageStands.{IsSetUp, StageStands, last_of, numbers_of};
 
 mod acts;
@@ -20,10 +21,12 @@ mod lent;
 mod min;
 mod poll;
 mod reap;
+mod set_up;
 mod statements;
 mod try_acquire;
 
 use crate::error::PlayError;
+use crate::outside::ScriptOutside;
 use mem_driver::{MemLink, MemStore};
 use sqlx_pool_core::{Lent, PoolCore, PoolOptions};
 use sqlx_script::{Event, PoolLine, Reply, Report, Step};
@@ -34,7 +37,8 @@ use std::alloc::Global;
 pub struct Stage {
     pub pool: PoolLine,
     pub core: PoolCore<MemLink>,
-    pub store: MemStore,
+    // The database in memory, and the answers of the present line.
+    pub out: ScriptOutside,
     // The connections that clients own, in the order of lending.
     pub lent: Vec<Lent<MemLink>>,
 }
@@ -60,6 +64,7 @@ pub fn new_stage(alloc: Global, pool: PoolLine) -> Result<Stage, PlayError>
     requires some { 1 ≤ pool.max }
     ensures stands { IfOk result (λ stage. StageStands stage []) }
     ensures pool { IfOk result (λ stage. stage.pool ≡ pool) }
+    ensures runs { IfOk result (λ stage. stage.out.store.runs ≡ runs_of []) }
     ensures last { IfOk result (λ stage. last_of stage ≡ 0) }
     ensures numbers { IfOk result (λ stage. numbers_of stage ≤ 2) }
     ensures memory { IfErr result (λ e. e ≡ PlayError.OutOfMemory) }
@@ -68,7 +73,7 @@ pub fn new_stage(alloc: Global, pool: PoolLine) -> Result<Stage, PlayError>
         Ok(core) => Ok(Stage {
             pool,
             core,
-            store: MemStore::new(alloc),
+            out: ScriptOutside::new(MemStore::new(alloc)),
             lent: Vec::new(alloc),
         }),
         Err(_) => Err(PlayError::OutOfMemory),
@@ -82,6 +87,7 @@ pub fn answer(stage: &mut Stage, alloc: Global, event: &Event) -> Result<Reply, 
     requires in_order { last_of stage.old ≤ event.now.moment.0 }
     ensures ok { IfOk result (PlaysEvent stage.old stage.new event.now) }
     ensures pool { stage.new.pool ≡ stage.old.pool }
+    ensures runs { IfOk result (λ reply. stage.new.out.store.runs ≡ runs_after event.now.step reply stage.old.out.store.runs) }
     ensures last { last_of stage.new ≤ event.now.moment.0 }
     ensures used { numbers_of stage.new ≤ numbers_of stage.old + 2 ^ 20 }
     ensures memory { IfErr result (λ e. e ≡ PlayError.OutOfMemory) }

@@ -1,5 +1,5 @@
 //! The event `ask`.
-ghost use Rattle.std.specs.Prelude.{◌≡◌, ◌+◌, ◌^◌, ◌≤◌, IfOk, IfErr};
+ghost use Rattle.std.specs.Prelude.{◌≡◌, ◌+◌, ◌^◌, ◌≤◌, IfOk, OnOk, IfErr};
 ghost use Rattle.sqlx_script.specs.declared.step.Step.{Step};
 ghost use Rattle.sqlx_play.specs.PlaysEvent.{PlaysEvent};
 ghost use Rattle.sqlx_play.specs.StageStands.{last_of, numbers_of};
@@ -22,6 +22,7 @@ pub fn ask(
     requires in_order { last_of stage.old ≤ moment.0 }
     ensures ok { IfOk result (PlaysEvent stage.old stage.new (record { moment = moment; step = Step.Ask client })) }
     ensures pool { stage.new.pool ≡ stage.old.pool }
+    ensures runs { OnOk result (stage.new.out.store.runs ≡ stage.old.out.store.runs) }
     ensures last { last_of stage.new ≤ moment.0 }
     ensures used { numbers_of stage.new ≤ numbers_of stage.old + 2 ^ 20 }
     ensures memory { IfErr result (λ e. e ≡ PlayError.OutOfMemory) }

@@ -14,7 +14,8 @@ use std::collections::VecDeque;
 
 // Closes these connections.
 fn close_all(store: &mut MemStore, idle: &mut VecDeque<Idle<MemLink>>)
-    ensures { store.new ≡ closed_all idle.old.items store.old }
+    ensures store { store.new ≡ closed_all idle.old.items store.old }
+    ensures runs { store.new.runs ≡ store.old.runs }
 {
     while let Some(first) = idle.pop_front() {
         store.close(first.lent.raw);
@@ -26,6 +27,7 @@ fn close_all(store: &mut MemStore, idle: &mut VecDeque<Idle<MemLink>>)
 pub fn close(stage: &mut Stage, moment: Moment) -> Reply
     ensures ok { PlaysEvent stage.old stage.new (record { moment = moment; step = Step.Close }) result }
     ensures pool { stage.new.pool ≡ stage.old.pool }
+    ensures runs { stage.new.out.store.runs ≡ stage.old.out.store.runs }
     ensures last { last_of stage.new ≡ last_of stage.old }
     ensures used { numbers_of stage.new ≡ numbers_of stage.old }
 {
@@ -33,6 +35,6 @@ pub fn close(stage: &mut Stage, moment: Moment) -> Reply
     let _moment = stage.core.moment(moment);
     let mut idle = stage.core.close();
     let count = idle.len() as u64;
-    close_all(&mut stage.store, &mut idle);
+    close_all(&mut stage.out.store, &mut idle);
     Reply::Closing(count)
 }

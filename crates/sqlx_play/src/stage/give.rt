@@ -1,5 +1,6 @@
 //! The event `give`: a client gives its connection back.
-ghost use Rattle.std.specs.Prelude.{◌≡◌, ◌+◌, ◌^◌, ◌≤◌, IfOk, IfErr};
+ghost use Rattle.std.specs.Prelude.{◌≡◌, ◌+◌, ◌^◌, ◌≤◌, None, IfOk, OnOk, IfErr};
+ghost use Rattle.sqlx_play.specs.ScriptOutside.{give_letters};
 ghost use Rattle.sqlx_script.specs.declared.step.Step.{Step};
 ghost use Rattle.sqlx_play.specs.PlaysEvent.{PlaysEvent};
 ghost use Rattle.sqlx_play.specs.Returns.{lets_rest, Returns};
@@ -8,9 +9,12 @@ ghost use Rattle.sqlx_play.specs.StageStands.{last_of, numbers_of};
 use super::Stage;
 use super::fill::fill;
 use super::lent::{place_of, put_lent};
+use super::poll::is_answered;
 use crate::error::PlayError;
-use sqlx_pool_core::{Given, Lent};
-use sqlx_script::{GiveAnswers, HookAnswer, PoolLine, Reply};
+use crate::outside::ScriptOutside;
+use mem_driver::MemLink;
+use sqlx_pool_core::{Given, Lent, Outside, PoolConnectionMetadata};
+use sqlx_script::{GiveAnswers, PoolLine, Reply};
 use sqlx_text::Moment;
 use std::alloc::Global;
 
@@ -23,12 +27,29 @@ pub enum Returned {
 }
 
 // Whether the hook, the connection's depth and the ping let it rest.
-fn lets_rest(pool: &PoolLine, answers: GiveAnswers, depth: usize) -> bool
-    ensures { result ≡ lets_rest pool.now answers depth }
+fn lets_rest(
+    pool: &PoolLine,
+    out: &mut ScriptOutside,
+    link: &mut MemLink,
+    meta: PoolConnectionMetadata,
+) -> bool
+    requires none_left { out.old.left_open ≡ None }
+    ensures answer { result ≡ lets_rest pool.now (give_letters out.old) link.old.depth }
+    ensures link { link.new ≡ link.old }
+    ensures store { out.new.store ≡ out.old.store }
 {
-    (!pool.after_release || matches!(answers.after_release, HookAnswer::Accepts))
-        && depth == 0
-        && answers.ping
+    let released = if pool.after_release {
+        match out.after_release(link, meta) {
+            Ok(accepted) => accepted,
+            Err(error) => {
+                drop(error);
+                false
+            }
+        }
+    } else {
+        true
+    };
+    released && out.depth(link) == 0 && is_answered(out.ping(link))
 }
 
 // Takes a connection back.
@@ -42,6 +63,7 @@ fn take_back(
     requires in_order { last_of stage.old ≤ moment.0 }
     ensures ok { IfOk result (Returns stage.old stage.new answers moment.0 client conn) }
     ensures pool { stage.new.pool ≡ stage.old.pool }
+    ensures runs { OnOk result (stage.new.out.store.runs ≡ stage.old.out.store.runs) }
     ensures last { last_of stage.new ≤ moment.0 }
     ensures used { numbers_of stage.new ≡ numbers_of stage.old }
     ensures memory { IfErr result (λ e. e ≡ PlayError.OutOfMemory) }
@@ -50,13 +72,22 @@ fn take_back(
     let Some(at) = place_of(&stage.lent, conn) else {
         return Ok(Returned::NotHeld);
     };
-    let lent = stage.lent.remove(at);
-    let created = lent.created;
-    let accepted = lets_rest(&stage.pool, answers, lent.raw.depth());
+    let Lent {
+        id,
+        created,
+        mut raw,
+    } = stage.lent.remove(at);
+    let meta = PoolConnectionMetadata {
+        age: now.0.saturating_sub(created.0),
+        idle_for: 0,
+    };
+    stage.out.begin_give(answers);
+    let accepted = lets_rest(&stage.pool, &mut stage.out, &mut raw, meta);
+    let lent = Lent { id, created, raw };
     match stage.core.give(client, lent, now, accepted) {
         Given::Kept => Ok(Returned::Kept),
         Given::Closed(raw) => {
-            stage.store.close(raw);
+            stage.out.close(raw);
             Ok(Returned::Closed)
         }
         Given::NotHeld(raw) => {
@@ -88,6 +119,7 @@ pub fn give(
     requires few { opens ≤ 2 ^ 16 }
     ensures ok { IfOk result (PlaysEvent stage.old stage.new (record { moment = moment; step = Step.Give client connection answers opens })) }
     ensures pool { stage.new.pool ≡ stage.old.pool }
+    ensures runs { OnOk result (stage.new.out.store.runs ≡ stage.old.out.store.runs) }
     ensures last { last_of stage.new ≤ moment.0 }
     ensures used { numbers_of stage.new ≤ numbers_of stage.old + 2 ^ 20 }
     ensures memory { IfErr result (λ e. e ≡ PlayError.OutOfMemory) }

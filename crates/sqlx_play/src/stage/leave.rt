@@ -1,5 +1,5 @@
 //! The events `end`, `detach` and `leak`: a client's connection leaves the pool.
-ghost use Rattle.std.specs.Prelude.{◌≡◌, ◌+◌, ◌^◌, ◌≤◌, find, Some, IfOk, IfErr};
+ghost use Rattle.std.specs.Prelude.{◌≡◌, ◌+◌, ◌^◌, ◌≤◌, find, Some, IfOk, OnOk, IfErr};
 ghost use Rattle.sqlx_pool_core.specs.declared.mark.Mark.{Mark};
 ghost use Rattle.sqlx_pool_core.specs.declared.steps.Lent.{Lent};
 ghost use Rattle.sqlx_pool_core.specs.KeepingSteps.{without_first};
@@ -22,11 +22,12 @@ use std::alloc::Global;
 fn close_lent(stage: &mut Stage, conn: u64)
     ensures core { stage.new.core ≡ stage.old.core }
     ensures pool { stage.new.pool ≡ stage.old.pool }
-    ensures store { (l : Lent Link) → find (is_lent conn) stage.old.lent.items ≡ Some l → stage.new.store ≡ record stage.old.store { places = without l.raw.number stage.old.store.places } }
+    ensures store { (l : Lent Link) → find (is_lent conn) stage.old.lent.items ≡ Some l → stage.new.out.store ≡ record stage.old.out.store { places = without l.raw.number stage.old.out.store.places } }
+    ensures runs { stage.new.out.store.runs ≡ stage.old.out.store.runs }
     ensures lent { stage.new.lent.items ≡ without_first (is_lent conn) stage.old.lent.items }
 {
     if let Some(lent) = take_lent(&mut stage.lent, conn) {
-        stage.store.close(lent.raw);
+        stage.out.store.close(lent.raw);
     }
 }
 
@@ -34,6 +35,7 @@ fn close_lent(stage: &mut Stage, conn: u64)
 fn end_loan(stage: &mut Stage, moment: Moment, client: u32, conn: u64) -> bool
     ensures ok { Departs stage.old stage.new (Mark.Closed conn) client conn result }
     ensures pool { stage.new.pool ≡ stage.old.pool }
+    ensures runs { stage.new.out.store.runs ≡ stage.old.out.store.runs }
     ensures last { last_of stage.new ≡ last_of stage.old }
     ensures used { numbers_of stage.new ≡ numbers_of stage.old }
 {
@@ -49,6 +51,7 @@ fn end_loan(stage: &mut Stage, moment: Moment, client: u32, conn: u64) -> bool
 fn detach_loan(stage: &mut Stage, moment: Moment, client: u32, conn: u64) -> bool
     ensures ok { Departs stage.old stage.new (Mark.Detached conn) client conn result }
     ensures pool { stage.new.pool ≡ stage.old.pool }
+    ensures runs { stage.new.out.store.runs ≡ stage.old.out.store.runs }
     ensures last { last_of stage.new ≡ last_of stage.old }
     ensures used { numbers_of stage.new ≡ numbers_of stage.old }
 {
@@ -64,6 +67,7 @@ fn detach_loan(stage: &mut Stage, moment: Moment, client: u32, conn: u64) -> boo
 fn leak_loan(stage: &mut Stage, moment: Moment, client: u32, conn: u64) -> bool
     ensures ok { Departs stage.old stage.new (Mark.Leaked conn) client conn result }
     ensures pool { stage.new.pool ≡ stage.old.pool }
+    ensures runs { stage.new.out.store.runs ≡ stage.old.out.store.runs }
     ensures last { last_of stage.new ≡ last_of stage.old }
     ensures used { numbers_of stage.new ≡ numbers_of stage.old }
 {
@@ -89,6 +93,7 @@ pub fn end(
     requires few { opens ≤ 2 ^ 16 }
     ensures ok { IfOk result (PlaysEvent stage.old stage.new (record { moment = moment; step = Step.End client connection opens })) }
     ensures pool { stage.new.pool ≡ stage.old.pool }
+    ensures runs { OnOk result (stage.new.out.store.runs ≡ stage.old.out.store.runs) }
     ensures last { last_of stage.new ≤ moment.0 }
     ensures used { numbers_of stage.new ≤ numbers_of stage.old + 2 ^ 20 }
     ensures memory { IfErr result (λ e. e ≡ PlayError.OutOfMemory) }
@@ -116,6 +121,7 @@ pub fn detach(
     requires few { opens ≤ 2 ^ 16 }
     ensures ok { IfOk result (PlaysEvent stage.old stage.new (record { moment = moment; step = Step.Detach client connection opens })) }
     ensures pool { stage.new.pool ≡ stage.old.pool }
+    ensures runs { OnOk result (stage.new.out.store.runs ≡ stage.old.out.store.runs) }
     ensures last { last_of stage.new ≤ moment.0 }
     ensures used { numbers_of stage.new ≤ numbers_of stage.old + 2 ^ 20 }
     ensures memory { IfErr result (λ e. e ≡ PlayError.OutOfMemory) }
@@ -143,6 +149,7 @@ pub fn leak(
     requires few { opens ≤ 2 ^ 16 }
     ensures ok { IfOk result (PlaysEvent stage.old stage.new (record { moment = moment; step = Step.Leak client connection opens })) }
     ensures pool { stage.new.pool ≡ stage.old.pool }
+    ensures runs { OnOk result (stage.new.out.store.runs ≡ stage.old.out.store.runs) }
     ensures last { last_of stage.new ≤ moment.0 }
     ensures used { numbers_of stage.new ≤ numbers_of stage.old + 2 ^ 20 }
     ensures memory { IfErr result (λ e. e ≡ PlayError.OutOfMemory) }

@@ -1,5 +1,5 @@
 //! The event `poll`.
-ghost use Rattle.std.specs.Prelude.{◌≡◌, ℕ, ◌+◌, ◌^◌, ◌≤◌, List, [], ◌∷◌, ◌++◌, Some, false, IfOk, OnOk, IfErr};
+ghost use Rattle.std.specs.Prelude.{◌≡◌, ℕ, ◌+◌, ◌^◌, ◌≤◌, List, [], ◌∷◌, ◌++◌, Some, None, Err, false, IfOk, OnOk, IfErr, IfSome, is_ok};
 ghost use Rattle.sqlx_script.specs.declared.step.Step.{Step};
 ghost use Rattle.sqlx_pool_core.specs.declared.mark.Mark.{Mark};
 ghost use Rattle.sqlx_pool_core.specs.declared.ticket.Ticket.{Ticket};
@@ -9,37 +9,68 @@ ghost use Rattle.sqlx_pool_core.specs.Edits.{at_moment, ended, lent_to, opened, 
 ghost use Rattle.sqlx_pool_core.specs.Makes.{Makes};
 ghost use Rattle.sqlx_pool_core.specs.PollSteps.{phase_for, tested_at, wait_of};
 ghost use Rattle.sqlx_pool_core.specs.StandsFor.{StandsFor};
-ghost use Rattle.mem_driver.specs.Driver.{connected, new_link, without};
-ghost use Rattle.sqlx_play.specs.Answer.{passes_test, is_set_up, connect_reply};
+ghost use Rattle.mem_driver.specs.Driver.{without};
+ghost use Rattle.sqlx_play.specs.Answer.{passes_test, connect_reply};
+ghost use Rattle.sqlx_play.specs.ScriptOutside.{depth_of, poll_letters};
 ghost use Rattle.sqlx_play.specs.PlaysEvent.{PlaysEvent};
 ghost use Rattle.sqlx_play.specs.LinksStand.{LinksStand};
-ghost use Rattle.sqlx_play.specs.Polling.{connect_marks, backing_off, after_connect, rejected};
+ghost use Rattle.sqlx_play.specs.Polling.{connect_marks, backing_off, after_connect};
 ghost use Rattle.sqlx_brackets.specs.Changes.{History};
 ghost use Rattle.sqlx_script.specs.declared.reply.Reply.{Reply};
 ghost use Rattle.sqlx_play.specs.StageStands.{last_of, numbers_of};
 
 use super::Stage;
 use super::hand_over::hand_over;
+use super::set_up::sets_up;
 use crate::error::PlayError;
+use crate::outside::{ScriptOutside, refused_by};
 use mem_driver::MemLink;
-use sqlx_pool_core::{AfterConnect, AfterTest, Lent, Start, Tried, Verdict};
-use sqlx_script::{AfterConnectAnswer, ConnectAnswer, HookAnswer, PollAnswers, PoolLine, Reply};
-use sqlx_text::Moment;
+use sqlx_pool_core::{
+    AfterConnect, AfterTest, Lent, Outside, PoolConnectionMetadata, Start, Tried, Verdict,
+};
+use sqlx_script::{ConnectAnswer, PollAnswers, PoolLine, Reply};
+use sqlx_text::{Error, Moment};
 use std::alloc::Global;
 
-// Whether the idle connection passes its test.
-fn passes(pool: &PoolLine, answers: PollAnswers) -> bool
-    ensures { result ≡ passes_test pool.now answers }
+/// Whether it was no refusal.
+pub fn is_answered(answer: Result<(), Error>) -> bool
+    ensures { result ≡ is_ok answer }
 {
-    let accepts = matches!(answers.before_acquire, HookAnswer::Accepts);
-    (!pool.test_before_acquire || answers.ping) && (!pool.before_acquire || accepts)
+    match answer {
+        Ok(()) => true,
+        Err(error) => {
+            drop(error);
+            false
+        }
+    }
 }
 
-// Whether the new connection is set up.
-fn sets_up(pool: &PoolLine, answers: PollAnswers) -> bool
-    ensures { result ≡ is_set_up pool.now answers }
+// Whether the idle connection passes its test.
+fn passes(
+    pool: &PoolLine,
+    out: &mut ScriptOutside,
+    link: &mut MemLink,
+    meta: PoolConnectionMetadata,
+) -> bool
+    ensures answer { depth_of out.old link.old ≡ 0 → result ≡ passes_test pool.now (poll_letters out.old) }
+    ensures link { link.new ≡ link.old }
+    ensures store { out.new.store ≡ out.old.store }
+    ensures letters { poll_letters out.new ≡ poll_letters out.old }
+    ensures opens { out.new.opens ≡ out.old.opens }
 {
-    !pool.after_connect || matches!(answers.after_connect, AfterConnectAnswer::SetUp)
+    if pool.test_before_acquire && !is_answered(out.ping(link)) {
+        return false;
+    }
+    if !pool.before_acquire {
+        return true;
+    }
+    match out.before_acquire(link, meta) {
+        Ok(accepted) => accepted && out.depth(link) == 0,
+        Err(error) => {
+            drop(error);
+            false
+        }
+    }
 }
 
 // The idle connection passed its test: the client has it.
@@ -55,7 +86,7 @@ fn lend(
     ensures makes { (marks : List Mark) → StandsFor stage.old.core marks → Makes stage.old.core.options.max_connections marks (Mark.Lent client lent.id ∷ Mark.Ended ticket ∷ []) stage.new.core }
     ensures becomes { stage.new.core ≡ ended ticket (lent_to client lent.id lent.created stage.old.core) }
     ensures lent { OnOk result (stage.new.lent.items ≡ stage.old.lent.items ++ lent ∷ []) }
-    ensures store { stage.new.store ≡ stage.old.store }
+    ensures store { stage.new.out.store ≡ stage.old.out.store }
     ensures pool { stage.new.pool ≡ stage.old.pool }
     ensures memory { IfErr result (λ e. e ≡ PlayError.OutOfMemory) }
 {
@@ -72,12 +103,14 @@ fn refuse(stage: &mut Stage, client: u32, ticket: u64, lent: Lent<MemLink>)
     requires open { stage.old.core.shut ≡ false }
     ensures makes { (marks : List Mark) → StandsFor stage.old.core marks → Makes stage.old.core.options.max_connections marks (Mark.Closed lent.id ∷ []) stage.new.core }
     ensures becomes { stage.new.core ≡ record stage.old.core { tickets = with_ticket ticket to_connect stage.old.core.tickets } }
-    ensures store { stage.new.store ≡ record stage.old.store { places = without lent.raw.number stage.old.store.places } }
+    ensures store { stage.new.out.store ≡ record stage.old.out.store { places = without lent.raw.number stage.old.out.store.places } }
     ensures lent { stage.new.lent.items ≡ stage.old.lent.items }
+    ensures letters { poll_letters stage.new.out ≡ poll_letters stage.old.out }
+    ensures opens { stage.new.out.opens ≡ stage.old.out.opens }
     ensures pool { stage.new.pool ≡ stage.old.pool }
 {
     let verdict = Verdict::Refused(lent.id);
-    stage.store.close(lent.raw);
+    stage.out.close(lent.raw);
     let AfterTest::Connect = stage.core.finish_test(client, ticket, verdict) else {
         unreachable!();
     };
@@ -86,10 +119,10 @@ fn refuse(stage: &mut Stage, client: u32, ticket: u64, lent: Lent<MemLink>)
 // The new connection is set up: the client has it.
 fn open(
     stage: &mut Stage,
-    alloc: Global,
     moment: Moment,
     client: u32,
     ticket: u64,
+    link: MemLink,
 ) -> Result<Reply, PlayError>
     requires connecting { phase_for client ticket stage.old.core.tickets ≡ Some Connecting }
     requires open { stage.old.core.shut ≡ false }
@@ -97,16 +130,13 @@ fn open(
     ensures answer { IfOk result (λ reply. reply ≡ Reply.Ready stage.old.core.next_conn) }
     ensures makes { (marks : List Mark) → StandsFor stage.old.core marks → OnOk result (Makes stage.old.core.options.max_connections marks (connect_marks client ticket moment.0 (Reply.Ready stage.old.core.next_conn)) stage.new.core) }
     ensures becomes { OnOk result (stage.new.core ≡ at_moment moment.0 (ended ticket (lent_to client stage.old.core.next_conn moment (opened stage.old.core)))) }
-    ensures lent { OnOk result (stage.new.lent.items ≡ stage.old.lent.items ++ (record { id = stage.old.core.next_conn; created = moment; raw = new_link (stage.old.store.given + 1) }) ∷ []) }
-    ensures store { OnOk result (stage.new.store ≡ connected (stage.old.store.given + 1) stage.old.store) }
+    ensures lent { OnOk result (stage.new.lent.items ≡ stage.old.lent.items ++ (record { id = stage.old.core.next_conn; created = moment; raw = link }) ∷ []) }
+    ensures store { stage.new.out.store ≡ stage.old.out.store }
     ensures pool { stage.new.pool ≡ stage.old.pool }
     ensures last { last_of stage.new ≤ moment.0 }
     ensures used { numbers_of stage.new ≤ numbers_of stage.old + 1 }
     ensures memory { IfErr result (λ e. e ≡ PlayError.OutOfMemory) }
 {
-    let Ok(link) = stage.store.connect(alloc) else {
-        return Err(PlayError::OutOfMemory);
-    };
     let tried = Tried::Opened(link);
     let AfterConnect::Ready(lent) = stage.core.finish_connect(client, ticket, moment, tried) else {
         unreachable!();
@@ -123,7 +153,7 @@ fn back_off(stage: &mut Stage, moment: Moment, client: u32, ticket: u64) -> Repl
     ensures makes { (marks : List Mark) → StandsFor stage.old.core marks → Makes stage.old.core.options.max_connections marks [] stage.new.core }
     ensures becomes { (x : Ticket) → ticket_of client ticket stage.old.core.tickets ≡ Some x → stage.new.core ≡ backing_off ticket moment.0 (moment.0 + wait_of x) stage.old.core }
     ensures lent { stage.new.lent.items ≡ stage.old.lent.items }
-    ensures store { stage.new.store ≡ stage.old.store }
+    ensures store { stage.new.out.store ≡ stage.old.out.store }
     ensures pool { stage.new.pool ≡ stage.old.pool }
     ensures last { last_of stage.new ≤ moment.0 }
     ensures used { numbers_of stage.new ≡ numbers_of stage.old }
@@ -143,7 +173,7 @@ fn fail(stage: &mut Stage, moment: Moment, client: u32, ticket: u64)
     ensures makes { (marks : List Mark) → StandsFor stage.old.core marks → Makes stage.old.core.options.max_connections marks (Mark.Ended ticket ∷ []) stage.new.core }
     ensures becomes { stage.new.core ≡ at_moment moment.0 (ended ticket stage.old.core) }
     ensures lent { stage.new.lent.items ≡ stage.old.lent.items }
-    ensures store { stage.new.store ≡ stage.old.store }
+    ensures store { stage.new.out.store ≡ stage.old.out.store }
     ensures pool { stage.new.pool ≡ stage.old.pool }
 {
     let tried = Tried::Fatal;
@@ -152,19 +182,42 @@ fn fail(stage: &mut Stage, moment: Moment, client: u32, ticket: u64)
     };
 }
 
-// The new connection is not set up: it is closed again.
-fn reject(stage: &mut Stage, alloc: Global) -> Result<(), PlayError>
-    ensures store { OnOk result (stage.new.store ≡ rejected (stage.old.store.given + 1) stage.old.store) }
-    ensures core { stage.new.core ≡ stage.old.core }
-    ensures lent { stage.new.lent.items ≡ stage.old.lent.items }
+// The connect was refused by this letter, or for want of memory.
+fn refused(
+    stage: &mut Stage,
+    moment: Moment,
+    client: u32,
+    ticket: u64,
+    letter: Option<ConnectAnswer>,
+) -> Result<Reply, PlayError>
+    requires connecting { phase_for client ticket stage.old.core.tickets ≡ Some Connecting }
+    requires open { stage.old.core.shut ≡ false }
+    requires in_order { last_of stage.old ≤ moment.0 }
+    requires refuses { (letter ≡ Some ConnectAnswer.Connected) → ⊥ }
+    ensures answer { (x : Ticket) → ticket_of client ticket stage.old.core.tickets ≡ Some x → IfOk result (λ reply. IfSome letter (λ l. reply ≡ connect_reply stage.old.pool (poll_letters stage.old.out) stage.old.core.next_conn (moment.0 + wait_of x) l)) }
+    ensures wanting { letter ≡ None → result ≡ Err PlayError.OutOfMemory }
+    ensures makes { (marks : List Mark) → StandsFor stage.old.core marks → IfOk result (λ reply. Makes stage.old.core.options.max_connections marks (connect_marks client ticket moment.0 reply) stage.new.core) }
+    ensures becomes { IfOk result (λ reply. stage.new.core ≡ after_connect client ticket moment reply stage.old.core) }
+    ensures links { (history : History) → LinksStand stage.old.core stage.old.out.store stage.old.lent.items history → OnOk result (LinksStand stage.new.core stage.new.out.store stage.new.lent.items history) }
+    ensures runs { stage.new.out.store.runs ≡ stage.old.out.store.runs }
     ensures pool { stage.new.pool ≡ stage.old.pool }
+    ensures last { last_of stage.new ≤ moment.0 }
+    ensures used { numbers_of stage.new ≡ numbers_of stage.old }
     ensures memory { IfErr result (λ e. e ≡ PlayError.OutOfMemory) }
 {
-    let Ok(link) = stage.store.connect(alloc) else {
-        return Err(PlayError::OutOfMemory);
-    };
-    stage.store.close(link);
-    Ok(())
+    match letter {
+        None => Err(PlayError::OutOfMemory),
+        Some(ConnectAnswer::Connected) => unreachable!(),
+        Some(ConnectAnswer::Transient) => Ok(back_off(stage, moment, client, ticket)),
+        Some(ConnectAnswer::ConnectIo) => {
+            fail(stage, moment, client, ticket);
+            Ok(Reply::Io)
+        }
+        Some(ConnectAnswer::ConnectDatabase) => {
+            fail(stage, moment, client, ticket);
+            Ok(Reply::DatabaseRefused)
+        }
+    }
 }
 
 // The ticket has left the line without an idle connection: it connects.
@@ -174,36 +227,33 @@ fn connect(
     moment: Moment,
     client: u32,
     ticket: u64,
-    answers: PollAnswers,
 ) -> Result<Reply, PlayError>
     requires connecting { phase_for client ticket stage.old.core.tickets ≡ Some Connecting }
     requires open { stage.old.core.shut ≡ false }
     requires in_order { last_of stage.old ≤ moment.0 }
-    ensures answer { (x : Ticket) → ticket_of client ticket stage.old.core.tickets ≡ Some x → IfOk result (λ reply. reply ≡ connect_reply stage.old.pool answers stage.old.core.next_conn (moment.0 + wait_of x) answers.connect) }
+    requires opens { stage.old.out.opens ≡ 0 }
+    ensures answer { (x : Ticket) → ticket_of client ticket stage.old.core.tickets ≡ Some x → IfOk result (λ reply. reply ≡ connect_reply stage.old.pool (poll_letters stage.old.out) stage.old.core.next_conn (moment.0 + wait_of x) stage.old.out.connect.answer) }
     ensures makes { (marks : List Mark) → StandsFor stage.old.core marks → IfOk result (λ reply. Makes stage.old.core.options.max_connections marks (connect_marks client ticket moment.0 reply) stage.new.core) }
     ensures becomes { IfOk result (λ reply. stage.new.core ≡ after_connect client ticket moment reply stage.old.core) }
-    ensures links { (history : History) → LinksStand stage.old.core stage.old.store stage.old.lent.items history → OnOk result (LinksStand stage.new.core stage.new.store stage.new.lent.items history) }
+    ensures links { (history : History) → LinksStand stage.old.core stage.old.out.store stage.old.lent.items history → OnOk result (LinksStand stage.new.core stage.new.out.store stage.new.lent.items history) }
     ensures pool { stage.new.pool ≡ stage.old.pool }
+    ensures runs { OnOk result (stage.new.out.store.runs ≡ stage.old.out.store.runs) }
     ensures last { last_of stage.new ≤ moment.0 }
     ensures used { numbers_of stage.new ≤ numbers_of stage.old + 1 }
     ensures memory { IfErr result (λ e. e ≡ PlayError.OutOfMemory) }
 {
-    match answers.connect {
-        ConnectAnswer::Connected => {
-            if sets_up(&stage.pool, answers) {
-                return open(stage, alloc, moment, client, ticket);
+    match stage.out.connect(alloc, &()) {
+        Ok(mut link) => {
+            if sets_up(&stage.pool, &mut stage.out, &mut link) {
+                return open(stage, moment, client, ticket, link);
             }
-            reject(stage, alloc)?;
+            stage.out.close(link);
             Ok(back_off(stage, moment, client, ticket))
         }
-        ConnectAnswer::Transient => Ok(back_off(stage, moment, client, ticket)),
-        ConnectAnswer::ConnectIo => {
-            fail(stage, moment, client, ticket);
-            Ok(Reply::Io)
-        }
-        ConnectAnswer::ConnectDatabase => {
-            fail(stage, moment, client, ticket);
-            Ok(Reply::DatabaseRefused)
+        Err(error) => {
+            let letter = refused_by(&error);
+            drop(error);
+            refused(stage, moment, client, ticket, letter)
         }
     }
 }
@@ -222,6 +272,7 @@ pub fn poll(
     requires in_order { last_of stage.old ≤ moment.0 }
     ensures ok { IfOk result (PlaysEvent stage.old stage.new (record { moment = moment; step = Step.Poll client ticket answers })) }
     ensures pool { stage.new.pool ≡ stage.old.pool }
+    ensures runs { OnOk result (stage.new.out.store.runs ≡ stage.old.out.store.runs) }
     ensures last { last_of stage.new ≤ moment.0 }
     ensures used { numbers_of stage.new ≤ numbers_of stage.old + 2 ^ 20 }
     ensures memory { IfErr result (λ e. e ≡ PlayError.OutOfMemory) }
@@ -236,13 +287,28 @@ pub fn poll(
         Start::Exhausted => unreachable!(),
         Start::Waiting => Ok(Reply::Waiting),
         Start::Backoff(until) => Ok(Reply::Backoff(until)),
-        Start::Connect => connect(stage, alloc, moment, client, number, answers),
+        Start::Connect => {
+            stage.out.begin_poll(answers);
+            connect(stage, alloc, moment, client, number)
+        }
         Start::Test(idle) => {
-            if passes(&stage.pool, answers) {
-                return lend(stage, client, number, idle.lent);
+            stage.out.begin_poll(answers);
+            let meta = PoolConnectionMetadata {
+                age: moment.0.saturating_sub(idle.lent.created.0),
+                idle_for: moment.0.saturating_sub(idle.since.0),
+            };
+            let Lent {
+                id,
+                created,
+                mut raw,
+            } = idle.lent;
+            let good = passes(&stage.pool, &mut stage.out, &mut raw, meta);
+            let lent = Lent { id, created, raw };
+            if good {
+                return lend(stage, client, number, lent);
             }
-            refuse(stage, client, number, idle.lent);
-            connect(stage, alloc, moment, client, number, answers)
+            refuse(stage, client, number, lent);
+            connect(stage, alloc, moment, client, number)
         }
     }
 }

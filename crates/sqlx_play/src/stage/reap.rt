@@ -1,5 +1,5 @@
 //! The event `reap`: idle connections beyond a limit leave, and the pool is filled up to its minimum.
-ghost use Rattle.std.specs.Prelude.{◌≡◌, ◌+◌, ◌^◌, ◌≤◌, IfOk, IfErr};
+ghost use Rattle.std.specs.Prelude.{◌≡◌, ◌+◌, ◌^◌, ◌≤◌, IfOk, OnOk, IfErr};
 ghost use Rattle.sqlx_script.specs.declared.step.Step.{Step};
 ghost use Rattle.sqlx_play.specs.PlaysEvent.{PlaysEvent};
 ghost use Rattle.sqlx_play.specs.Reaps.{ReapsOne, ReapsAll};
@@ -17,6 +17,7 @@ fn reap_one(stage: &mut Stage, moment: Moment) -> bool
     requires in_order { last_of stage.old ≤ moment.0 }
     ensures reaps { ReapsOne stage.old stage.new moment.0 result }
     ensures pool { stage.new.pool ≡ stage.old.pool }
+    ensures runs { stage.new.out.store.runs ≡ stage.old.out.store.runs }
     ensures last { last_of stage.new ≤ moment.0 }
     ensures used { numbers_of stage.new ≡ numbers_of stage.old }
 {
@@ -24,7 +25,7 @@ fn reap_one(stage: &mut Stage, moment: Moment) -> bool
     let _moment = stage.core.moment(moment);
     match stage.core.reap(moment) {
         Some(idle) => {
-            stage.store.close(idle.lent.raw);
+            stage.out.store.close(idle.lent.raw);
             true
         }
         None => false,
@@ -36,6 +37,7 @@ fn reap_all(stage: &mut Stage, moment: Moment) -> u64
     requires in_order { last_of stage.old ≤ moment.0 }
     ensures reaps { ReapsAll stage.old stage.new moment.0 result }
     ensures pool { stage.new.pool ≡ stage.old.pool }
+    ensures runs { stage.new.out.store.runs ≡ stage.old.out.store.runs }
     ensures last { last_of stage.new ≤ moment.0 }
     ensures used { numbers_of stage.new ≡ numbers_of stage.old }
 {
@@ -56,6 +58,7 @@ pub fn reap(
     requires few { opens ≤ 2 ^ 16 }
     ensures ok { IfOk result (PlaysEvent stage.old stage.new (record { moment = moment; step = Step.Reap opens })) }
     ensures pool { stage.new.pool ≡ stage.old.pool }
+    ensures runs { OnOk result (stage.new.out.store.runs ≡ stage.old.out.store.runs) }
     ensures last { last_of stage.new ≤ moment.0 }
     ensures used { numbers_of stage.new ≤ numbers_of stage.old + 2 ^ 20 }
     ensures memory { IfErr result (λ e. e ≡ PlayError.OutOfMemory) }

@@ -6,8 +6,9 @@ ghost use Rattle.sqlx_pool_core.specs.Sound.{IsSound};
 ghost use Rattle.sqlx_pool_core.specs.declared.steps.Lent.{Lent as LentLink};
 ghost use Rattle.sqlx_play.specs.ScriptLevels as levels;
 ghost use Rattle.sqlx_play.specs.LinkActs.{IsMet};
-ghost use Rattle.sqlx_play.specs.StatementRuns.{said, acts, is_lent_id, IsTakenOut, Runs};
+ghost use Rattle.sqlx_play.specs.StatementRuns.{said, acts, done_by, is_lent_id, IsTakenOut, Runs};
 ghost use Rattle.sqlx_play.specs.PlaysEvent.{PlaysEvent};
+ghost use Rattle.sqlx_play.specs.ScriptRuns.{runs_after};
 ghost use Rattle.sqlx_play.specs.StageStands.{last_of, numbers_of};
 
 use super::Stage;
@@ -30,6 +31,7 @@ pub struct Statement {
 /// The statement of a step, none where it is none.
 fn statement_of(step: &Step) -> Option<Statement>
     ensures some { IfSome result (λ s. levels.statement_of step.now ≡ Some (said s)) }
+    ensures act { IfSome result (λ s. done_by step.now ≡ Some s.act) }
     ensures met { IfSome result (λ s. IsMet s.act s.answer) }
     ensures none { IfNone result (acts step.now ≡ false) }
 {
@@ -139,7 +141,7 @@ fn run(stage: &mut Stage, alloc: Global, statement: Statement) -> Result<Reply, 
     };
     let Lent { id, created, raw } = lent;
     let (raw, reply) = match run_on(
-        &mut stage.store,
+        &mut stage.out.store,
         alloc,
         raw,
         statement.act,
@@ -160,6 +162,7 @@ pub fn play(stage: &mut Stage, alloc: Global, event: &Event) -> Result<Reply, Pl
     requires in_order { last_of stage.old ≤ event.now.moment.0 }
     ensures ok { IfOk result (PlaysEvent stage.old stage.new event.now) }
     ensures pool { stage.new.pool ≡ stage.old.pool }
+    ensures runs { IfOk result (λ reply. stage.new.out.store.runs ≡ runs_after event.now.step reply stage.old.out.store.runs) }
     ensures last { last_of stage.new ≤ event.now.moment.0 }
     ensures used { numbers_of stage.new ≤ numbers_of stage.old + 2 ^ 20 }
     ensures memory { IfErr result (λ e. e ≡ PlayError.OutOfMemory) }

@@ -1,4 +1,6 @@
-use Rattle.std.proofs.Common.{sym, ap, ◌∙◌, Some}
+use Rattle.std.proofs.Common.{sym, ap, subst, ◌∙◌, Some}
+use Rattle.mem_driver.specs.Driver.{Store}
+use Rattle.sqlx_play.specs.Headline.{Plays}
 use Rattle.sqlx_play.proofs.Lines.{no_element}
 use Rattle.sqlx_play.proofs.Causes.{cause_of, cause_at_first}
 use Rattle.sqlx_play.proofs.Scripts.{script_is, no_script, empty_script, stops_at_first, stops_later, part_of_replies, part_of_report, plays_text}
@@ -25,4 +27,5 @@ returns-in-Err-write_line-clause-cause g c =
 pub returns-clause-ok : goal.returns-clause-ok
 returns-clause-ok g c =
     let is = script_is c.args.text.now c.cut_line.result.0.now c.cut_line.result.1.now c.in-Ok.stage.pool c.cut_line.ensures.line (sym c.read_pool_line.ensures.says ∙ c.in-Some.is ∙ ap Some (sym c.in-Ok.ensures.pool)) in
-    plays_text c.args.text.now c.cut_line.result.1.now _ _ _ _ _ _ c.requires is c.play_lines.ensures.pool c.in_default-play_lines.ensures.ok c.report.ensures c.in_default-write_line.ensures.ok
+    subst (λ (store : Store). Plays c.args.text.now (g.K.Sink.written c.args.sink.now) (g.K.Sink.written c.write_line.new.sink) c.play_lines.new.stage.core store) (sym c.into_store.ensures)
+    (plays_text c.args.text.now c.cut_line.result.1.now _ _ _ _ _ _ c.requires is c.play_lines.ensures.pool c.in_default-play_lines.ensures.ok c.report.ensures c.in_default-write_line.ensures.ok)

@@ -1,4 +1,6 @@
+use Rattle.std.proofs.Common.{refl}
 use Rattle.sqlx_play.proofs.Dispatch.{plays-event}
+use Rattle.sqlx_play.proofs.RunsCounted.{counts-nothing}
 use Rattle.sqlx_play.proofs.stage.answer.Goals as goal
 
 pub returns-in-Ask-clause-ok : goal.returns-in-Ask-clause-ok
@@ -30,3 +32,33 @@ returns-in-Detach-clause-ok c = plays-event _ _ c.args.event.now _ _ c.in-Detach
 
 pub returns-in-Leak-clause-ok : goal.returns-in-Leak-clause-ok
 returns-in-Leak-clause-ok c = plays-event _ _ c.args.event.now _ _ c.in-Leak.is c.leak.ensures.ok
+
+pub returns-in-Ask-clause-runs : goal.returns-in-Ask-clause-runs
+returns-in-Ask-clause-runs c = counts-nothing _ _ c.args.event.now.step _ _ c.in-Ask.is (λ reply. refl) c.ask.ensures.runs
+
+pub returns-in-Poll-clause-runs : goal.returns-in-Poll-clause-runs
+returns-in-Poll-clause-runs c = counts-nothing _ _ c.args.event.now.step _ _ c.in-Poll.is (λ reply. refl) c.poll.ensures.runs
+
+pub returns-in-Cancel-clause-runs : goal.returns-in-Cancel-clause-runs
+returns-in-Cancel-clause-runs c = counts-nothing _ _ c.args.event.now.step _ _ c.in-Cancel.is (λ reply. refl) c.cancel.ensures.runs
+
+pub returns-in-Try-clause-runs : goal.returns-in-Try-clause-runs
+returns-in-Try-clause-runs c = counts-nothing _ _ c.args.event.now.step _ _ c.in-Try.is (λ reply. refl) c.try_acquire.ensures.runs
+
+pub returns-in-Min-clause-runs : goal.returns-in-Min-clause-runs
+returns-in-Min-clause-runs c = counts-nothing _ _ c.args.event.now.step _ _ c.in-Min.is (λ reply. refl) c.min.ensures.runs
+
+pub returns-in-Reap-clause-runs : goal.returns-in-Reap-clause-runs
+returns-in-Reap-clause-runs c = counts-nothing _ _ c.args.event.now.step _ _ c.in-Reap.is (λ reply. refl) c.reap.ensures.runs
+
+pub returns-in-Give-clause-runs : goal.returns-in-Give-clause-runs
+returns-in-Give-clause-runs c = counts-nothing _ _ c.args.event.now.step _ _ c.in-Give.is (λ reply. refl) c.give.ensures.runs
+
+pub returns-in-End-clause-runs : goal.returns-in-End-clause-runs
+returns-in-End-clause-runs c = counts-nothing _ _ c.args.event.now.step _ _ c.in-End.is (λ reply. refl) c.end.ensures.runs
+
+pub returns-in-Detach-clause-runs : goal.returns-in-Detach-clause-runs
+returns-in-Detach-clause-runs c = counts-nothing _ _ c.args.event.now.step _ _ c.in-Detach.is (λ reply. refl) c.detach.ensures.runs
+
+pub returns-in-Leak-clause-runs : goal.returns-in-Leak-clause-runs
+returns-in-Leak-clause-runs c = counts-nothing _ _ c.args.event.now.step _ _ c.in-Leak.is (λ reply. refl) c.leak.ensures.runs

@@ -1,4 +1,4 @@
-use Rattle.std.proofs.Common.{sym, subst, []}
+use Rattle.std.proofs.Common.{sym, subst, [], ◌∙◌}
 use Rattle.std.proofs.lemmas.List.Elements.{All-nil, All-same}
 use Rattle.sqlx_pool_core.specs.StandsFor.{StandsFor}
 use Rattle.sqlx_pool_core.specs.FairLog.{IsFair}
@@ -21,7 +21,7 @@ returns-in-Ok-clause-stands c =
       places = c.in-Ok.ensures.places;
       tried = All-same (IsTried []) core.tickets [] (tickets-nil core stands) (All-nil (IsTried []));
       untried = λ t h. tries_of-nil t;
-      links = subst (LinksStand core c.new-in-Ok.result c.new-in-Ok-2.result.items) (sym (history_of-nil c.args.pool))
-          (subst (λ (store : Store). LinksStand core store c.new-in-Ok-2.result.items []) (sym c.new-in-Ok.ensures)
-          (links-none core c.new-in-Ok-2.result.items (held-nil core stands) (idle-nil core stands) c.new-in-Ok-2.ensures.items));
+      links = subst (LinksStand core c.new-in-Ok-2.result.store c.new-in-Ok-3.result.items) (sym (history_of-nil c.args.pool))
+          (subst (λ (store : Store). LinksStand core store c.new-in-Ok-3.result.items []) (sym (c.new-in-Ok-2.ensures ∙ c.new-in-Ok.ensures))
+          (links-none core c.new-in-Ok-3.result.items (held-nil core stands) (idle-nil core stands) c.new-in-Ok-3.ensures.items));
     }

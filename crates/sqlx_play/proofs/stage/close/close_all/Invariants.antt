@@ -7,6 +7,7 @@ use Rattle.sqlx_play.proofs.stage.close.close_all.Given as goal
 abbrev pub invariant-loop-first : goal.invariant-loop-first
 invariant-loop-first l = record {
   closed : closed_all l.idle.items l.store ≡ closed_all l.initial.idle.items l.initial.store;
+  runs : l.store.runs ≡ l.initial.store.runs;
 }
 
 abbrev pub decreases-loop-first : goal.decreases-loop-first

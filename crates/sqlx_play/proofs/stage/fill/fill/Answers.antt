@@ -1,39 +1,12 @@
-use Rattle.std.proofs.Common.{◌≡◌, ℕ, Bool, refl, sym, subst, ◌∙◌, arith}
-use Rattle.sqlx_play.specs.Fills.{OpensOne, Fills}
-use Rattle.sqlx_play.proofs.Filling.{HasOpened, opened-none, opened-more, filled-whole, filled-part}
+use Rattle.std.proofs.Common.{ℕ, Result, Ok, Err, IfOk}
+use Rattle.sqlx_play.specs.declared.error.PlayError.{PlayError}
+use Rattle.sqlx_play.specs.Fills.{Fills}
+use Rattle.sqlx_play.proofs.Filling.{fills-from}
 use Rattle.sqlx_play.proofs.stage.fill.fill.Goals as goal
 
-pub loop-init : goal.loop-init
-loop-init c = record {
-  opened = opened-none c.args.stage.now c.args.moment.0;
-  counted = refl;
-  numbers = omega arith;
-  in_order = c.requires.in_order;
-  pool = refl;
-}
-
-pub loop-preserved : goal.loop-preserved
-loop-preserved c =
-    let counted = c.loop.invariant.counted in
-    let numbers = c.loop.invariant.numbers in
-    let used = c.open_one.ensures.used in
-    record {
-      opened = opened-more c.args.stage.now c.loop.stage c.open_one.new.stage c.args.moment.0 c.loop.opened c.loop.invariant.opened
-          (subst (λ (b : Bool). OpensOne c.loop.stage c.open_one.new.stage c.args.moment.0 b) c.in-Ok-true.field-0-test c.in-Ok-true.ensures.ok);
-      counted = omega (arith, counted);
-      numbers = omega (arith, numbers, used);
-      in_order = c.open_one.ensures.last;
-      pool = c.open_one.ensures.pool ∙ c.loop.invariant.pool;
-    }
-
-pub returns-in-Ok-false-clause-ok : goal.returns-in-Ok-false-clause-ok
-returns-in-Ok-false-clause-ok c =
-    let counted = c.loop.invariant.counted in
-    filled-part c.args.stage.now c.loop.stage c.open_one.new.stage c.args.moment.0 c.args.opens c.loop.opened (omega arith) c.loop.invariant.opened
-    (subst (λ (b : Bool). OpensOne c.loop.stage c.open_one.new.stage c.args.moment.0 b) c.in-Ok-false.field-0-test c.in-Ok-false.ensures.ok)
-
 pub returns-clause-ok : goal.returns-clause-ok
-returns-clause-ok c =
-    let all : c.loop.opened ≡ c.args.opens = omega arith in
-    subst (λ (n : ℕ). Fills c.args.stage.now c.loop.stage c.args.moment.0 c.args.opens n) (sym all)
-    (filled-whole c.args.stage.now c.loop.stage c.args.moment.0 c.args.opens (subst (λ (n : ℕ). HasOpened c.args.stage.now c.loop.stage c.args.moment.0 n) all c.loop.invariant.opened))
+returns-clause-ok c = by c.open_accepted.result c.open_accepted.ensures.ok
+  where
+    by : (r : Result ℕ PlayError) → IfOk r (Fills (record c.args.stage.now { out = c.begin_minimum.new.self }) c.open_accepted.new.stage c.args.moment.0 c.args.opens) → IfOk r (Fills c.args.stage.now c.open_accepted.new.stage c.args.moment.0 c.args.opens)
+    by (Ok n) fills = fills-from c.args.stage.now c.begin_minimum.new.self c.open_accepted.new.stage c.args.moment.0 c.args.opens n c.begin_minimum.ensures.store fills
+    by (Err e) fills = tt

@@ -11,6 +11,7 @@ loop-moment-preserved c =
       pool = c.reap_one.ensures.pool ∙ c.loop-moment.invariant.pool;
       in_order = c.reap_one.ensures.last;
       used = c.reap_one.ensures.used ∙ c.loop-moment.invariant.used;
+      runs = c.reap_one.ensures.runs ∙ c.loop-moment.invariant.runs;
     }
 
 pub returns-clause-reaps : goal.returns-clause-reaps

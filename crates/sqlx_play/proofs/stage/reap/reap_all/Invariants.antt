@@ -12,6 +12,7 @@ invariant-loop-moment l = record {
   pool : l.stage.pool ≡ l.initial.stage.pool;
   in_order : last_of l.stage ≤ l.moment.0;
   used : numbers_of l.stage ≡ numbers_of l.initial.stage;
+  runs : l.stage.out.store.runs ≡ l.initial.stage.out.store.runs;
 }
 
 abbrev pub decreases-loop-moment : goal.decreases-loop-moment
