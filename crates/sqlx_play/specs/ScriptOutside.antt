@@ -50,6 +50,24 @@ told_of out = record {
   after_releases = due_of accepts out.after_release;
 }
 
+-- what a poll's line tells: one answer of each of its letters
+abbrev pub told_by_poll : PollAnswers → Told
+told_by_poll answers = record {
+  connects = reach_by answers.connect ∷ [];
+  pings = answers.ping ∷ [];
+  after_connects = sets_up answers.after_connect ∷ [];
+  before_acquires = accepts answers.before_acquire ∷ [];
+  after_releases = [];
+}
+
+-- what a give's line tells
+abbrev pub told_by_give : GiveAnswers → Told
+told_by_give answers = record { connects = []; pings = answers.ping ∷ []; after_connects = []; before_acquires = []; after_releases = accepts answers.after_release ∷ [] }
+
+-- what a line tells for the minimum: so many accepted connects, and then a refused one
+abbrev pub told_by_minimum : ℕ → Told
+told_by_minimum opens = record { connects = replicate opens outside.Connected ++ outside.RefusedForGood ∷ []; pings = []; after_connects = []; before_acquires = []; after_releases = [] }
+
 -- whether a hook left a level open on the link of this number
 abbrev pub is_left_open : Option ℕ → ℕ → Bool
 is_left_open None number = false

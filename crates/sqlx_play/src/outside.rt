@@ -4,7 +4,7 @@ ghost use Rattle.std.specs.Prelude.{◌≡◌, ℕ, ◌≤◌, ◌+◌, ◌-◌,
 ghost use Rattle.sqlx_pool_core.specs.Outside.{HasRisen, Told, IsFirst, IsFirstIfAny, RefusedForGood, refusal, reach_of, says_yes, says_ok, connected_once, pinged_once, set_up_once, tested_once, released_once};
 ghost use Rattle.sqlx_script.specs.Built.{accepts, sets_up};
 ghost use Rattle.mem_driver.specs.Driver.{Link, connected, new_link, without};
-ghost use Rattle.sqlx_play.specs.ScriptOutside.{Opens, depth_of, give_letters, is_left_open, next_connect, poll_letters, reach_by, refused_by, told_of};
+ghost use Rattle.sqlx_play.specs.ScriptOutside.{Opens, depth_of, give_letters, is_left_open, next_connect, poll_letters, reach_by, refused_by, told_by_give, told_by_minimum, told_by_poll, told_of};
 
 use mem_driver::{MemLink, MemStore};
 use sqlx_pool_core::{Outside, PoolConnectionMetadata};
@@ -94,7 +94,8 @@ pub fn refused_by(error: &Error) -> Option<ConnectAnswer>
 impl ScriptOutside {
     /// The outside of a database before the first line.
     pub(crate) fn new(store: MemStore) -> ScriptOutside
-        ensures { result.store ≡ store }
+        ensures store { result.store ≡ store }
+        ensures counts { (result.faults ≡ 0) × (result.refusals ≡ 0) }
     {
         ScriptOutside {
             store,
@@ -121,8 +122,10 @@ impl ScriptOutside {
     pub(crate) fn begin_poll(&mut self, answers: PollAnswers)
         ensures store { self.new.store ≡ self.old.store }
         ensures letters { poll_letters self.new ≡ answers }
+        ensures told { told_of self.new ≡ told_by_poll answers }
         ensures opens { self.new.opens ≡ 0 }
         ensures left { self.new.left_open ≡ None }
+        ensures counts { (self.new.faults ≡ self.old.faults) × (self.new.refusals ≡ self.old.refusals) }
     {
         self.opens = 0;
         self.connect = Letter::due(answers.connect);
@@ -137,7 +140,9 @@ impl ScriptOutside {
     pub(crate) fn begin_give(&mut self, answers: GiveAnswers)
         ensures store { self.new.store ≡ self.old.store }
         ensures letters { give_letters self.new ≡ answers }
+        ensures told { told_of self.new ≡ told_by_give answers }
         ensures left { self.new.left_open ≡ None }
+        ensures counts { (self.new.faults ≡ self.old.faults) × (self.new.refusals ≡ self.old.refusals) }
     {
         self.opens = 0;
         self.connect = Letter::unsaid(ConnectAnswer::ConnectIo);
@@ -153,7 +158,9 @@ impl ScriptOutside {
         ensures store { self.new.store ≡ self.old.store }
         ensures opens { self.new.opens ≡ opens }
         ensures sets_up { sets_up self.new.after_connect.answer ≡ true }
+        ensures told { told_of self.new ≡ told_by_minimum opens }
         ensures left { self.new.left_open ≡ None }
+        ensures counts { (self.new.faults ≡ self.old.faults) × (self.new.refusals ≡ self.old.refusals) }
     {
         self.opens = opens;
         self.connect = Letter::due(ConnectAnswer::ConnectIo);

@@ -22,6 +22,6 @@ returns-in-Ok-clause-stands c =
       tried = All-same (IsTried []) core.tickets [] (tickets-nil core stands) (All-nil (IsTried []));
       untried = λ t h. tries_of-nil t;
       links = subst (LinksStand core c.new-in-Ok-2.result.store c.new-in-Ok-3.result.items) (sym (history_of-nil c.args.pool))
-          (subst (λ (store : Store). LinksStand core store c.new-in-Ok-3.result.items []) (sym (c.new-in-Ok-2.ensures ∙ c.new-in-Ok.ensures))
+          (subst (λ (store : Store). LinksStand core store c.new-in-Ok-3.result.items []) (sym (c.new-in-Ok-2.ensures.store ∙ c.new-in-Ok.ensures))
           (links-none core c.new-in-Ok-3.result.items (held-nil core stands) (idle-nil core stands) c.new-in-Ok-3.ensures.items));
     }
