@@ -11,3 +11,4 @@ pub mod Mapped
 pub mod Described
 pub mod Drivers
 pub mod Runs
+pub mod Calls

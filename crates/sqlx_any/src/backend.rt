@@ -1,8 +1,9 @@
 //! A backend: what a driver has to do so that its connections can stand behind `Any`.
-ghost use Rattle.std.specs.Prelude.{◌≡◌, ◌+◌, ◌-◌, ◌<◌, ◌≤◌, ℕ, Bool, Err, IfErr, IfOk, IsSome, List, Ok, OnErr, OnOk, Option, Result, nat_lt};
+ghost use Rattle.std.specs.Prelude.{◌≡◌, ◌+◌, ◌-◌, ◌<◌, ◌≤◌, ⊤, ℕ, Bool, Err, IfErr, IfOk, IsSome, List, Ok, OnErr, OnOk, Option, Result, nat_lt};
 ghost use Rattle.sqlx_text.specs.declared.error.Error.{Error};
 ghost use Rattle.sqlx_traits.specs.Faults.{FaultCause};
 ghost use Rattle.sqlx_traits.specs.StepList.{StepCauses, Steps, first_of, rows_of};
+ghost use Rattle.sqlx_any.specs.Calls as call;
 ghost use Rattle.sqlx_any.specs.Rows.{RowParts, StatementParts};
 
 use crate::{Any, AnyArguments, AnyConnectOptions, AnyRow, AnyStatement, AnyTypeInfo};
@@ -35,6 +36,12 @@ pub trait AnyConnectionBackend: Faults + Sized {
     /// What a text may give that is or isn't to be kept and has these arguments, and what the backend is after it.
     ghost runs: { Self → List ℕ → Bool → Option AnyArguments → Steps AnyQueryResult RowParts Error → Self → Type 0 };
 
+    /// What a call besides queries may answer, and what the backend is after it; nothing is said where it is left out.
+    ghost does: { call.Call → Self → call.Outcome → Self → Type 0 } = { λ _ _ _ _. ⊤ };
+
+    /// What closing may answer; nothing is said where it is left out.
+    ghost ends: { call.Closing → Self → call.Outcome → Type 0 } = { λ _ _ _. ⊤ };
+
     /// What preparing a text for parameters of these types may give, and what the backend is after it.
     ghost prepares: { Self → List ℕ → List AnyTypeInfo → Result StatementParts Error → Self → Type 0 };
 
@@ -44,17 +51,20 @@ pub trait AnyConnectionBackend: Faults + Sized {
 
     /// Closes the connection, and tells its peer.
     fn close(self) -> Result<(), Error>
-        ensures { IfErr result (λ _. closes self ≡ Bool.false) };
+        ensures closes { IfErr result (λ _. closes self ≡ Bool.false) }
+        ensures ends { ends call.told self result };
 
     /// Closes the connection at once.
     fn close_hard(self) -> Result<(), Error>
-        ensures { IfErr result (λ _. closes self ≡ Bool.false) };
+        ensures closes { IfErr result (λ _. closes self ≡ Bool.false) }
+        ensures ends { ends call.at_once self result };
 
     /// Asks for a sign of life. It leaves the depth.
     fn ping(&mut self) -> Result<(), Error>
         ensures levels { levels self.new ≡ levels self.old }
         ensures rises { Self.faults self.old ≤ Self.faults self.new }
-        ensures cause { IfErr result (λ e. FaultCause (Self.faults self.old) (Self.faults self.new) e) };
+        ensures cause { IfErr result (λ e. FaultCause (Self.faults self.old) (Self.faults self.new) e) }
+        ensures does { does call.ping self.old result self.new };
 
     /// Opens a level: by the statement where one is given, which is refused inside of a transaction,
     /// and else by the driver's own. A refused one leaves the depth.
@@ -64,27 +74,31 @@ pub trait AnyConnectionBackend: Faults + Sized {
         ensures custom_inside { IsSome statement → 0 < levels self.old → (result ≡ Err Error.InvalidSavePointStatement) × (self.new ≡ self.old) }
         ensures only_inside { result ≡ Err Error.InvalidSavePointStatement → IsSome statement × (0 < levels self.old) }
         ensures rises { Self.faults self.old ≤ Self.faults self.new }
-        ensures cause { IfErr result (λ e. FaultCause (Self.faults self.old) (Self.faults self.new) e) };
+        ensures cause { IfErr result (λ e. FaultCause (Self.faults self.old) (Self.faults self.new) e) }
+        ensures does { does (call.begin statement) self.old result self.new };
 
     /// Ends the newest level and keeps what it wrote. A refused one ends it as rolled back.
     fn commit(&mut self, alloc: Global) -> Result<(), Error>
         requires { 0 < levels self.old }
         ensures levels { levels self.new ≡ levels self.old - 1 }
         ensures rises { Self.faults self.old ≤ Self.faults self.new }
-        ensures cause { IfErr result (λ e. FaultCause (Self.faults self.old) (Self.faults self.new) e) };
+        ensures cause { IfErr result (λ e. FaultCause (Self.faults self.old) (Self.faults self.new) e) }
+        ensures does { does call.commit self.old result self.new };
 
     /// Ends the newest level and undoes what it wrote, also where it is refused.
     fn rollback(&mut self, alloc: Global) -> Result<(), Error>
         requires { 0 < levels self.old }
         ensures levels { levels self.new ≡ levels self.old - 1 }
         ensures rises { Self.faults self.old ≤ Self.faults self.new }
-        ensures cause { IfErr result (λ e. FaultCause (Self.faults self.old) (Self.faults self.new) e) };
+        ensures cause { IfErr result (λ e. FaultCause (Self.faults self.old) (Self.faults self.new) e) }
+        ensures does { does call.rollback self.old result self.new };
 
     /// Begins to roll back the newest level, which can't be refused: the level is ended.
     fn start_rollback(&mut self)
         requires { 0 < levels self.old }
         ensures levels { levels self.new ≡ levels self.old - 1 }
-        ensures rises { Self.faults self.old ≤ Self.faults self.new };
+        ensures rises { Self.faults self.old ≤ Self.faults self.new }
+        ensures does { does call.start_rollback self.old (Ok tt) self.new };
 
     /// How many levels are open.
     fn get_transaction_depth(&self) -> usize
@@ -106,19 +120,22 @@ pub trait AnyConnectionBackend: Faults + Sized {
         ensures ok { OnOk result (cached self.new ≡ 0) }
         ensures levels { levels self.new ≡ levels self.old }
         ensures rises { Self.faults self.old ≤ Self.faults self.new }
-        ensures cause { IfErr result (λ e. FaultCause (Self.faults self.old) (Self.faults self.new) e) };
+        ensures cause { IfErr result (λ e. FaultCause (Self.faults self.old) (Self.faults self.new) e) }
+        ensures does { does call.clear_cached_statements self.old result self.new };
 
     /// Gives back memory that isn't needed. It leaves the depth.
     fn shrink_buffers(&mut self)
         ensures levels { levels self.new ≡ levels self.old }
-        ensures rises { Self.faults self.old ≤ Self.faults self.new };
+        ensures rises { Self.faults self.old ≤ Self.faults self.new }
+        ensures does { does call.shrink_buffers self.old (Ok tt) self.new };
 
     /// Sends what waits. It leaves the depth.
     fn flush(&mut self) -> Result<(), Error>
         ensures ok { OnOk result (unflushed self.new ≡ Bool.false) }
         ensures levels { levels self.new ≡ levels self.old }
         ensures rises { Self.faults self.old ≤ Self.faults self.new }
-        ensures cause { IfErr result (λ e. FaultCause (Self.faults self.old) (Self.faults self.new) e) };
+        ensures cause { IfErr result (λ e. FaultCause (Self.faults self.old) (Self.faults self.new) e) }
+        ensures does { does call.flush self.old result self.new };
 
     /// Whether something waits to be flushed.
     fn should_flush(&self) -> bool

@@ -1,5 +1,7 @@
 //! A connection over a backend, which does what it is asked.
-ghost use Rattle.std.specs.Prelude.{◌≡◌};
+ghost use Rattle.std.specs.Prelude.{◌≡◌, ◌≤◌, Bool, IfErr, Ok, OnOk};
+ghost use Rattle.sqlx_traits.specs.Faults.{FaultCause};
+ghost use Rattle.sqlx_any.specs.Calls as call;
 
 use crate::{Any, AnyConnectionBackend};
 use sqlx_text::{Depth, Error};
@@ -63,17 +65,28 @@ impl<B: AnyConnectionBackend> Connection<Any<B>> for AnyConnection<B> {
 
     ghost unflushed = { λ conn. B.unflushed conn.backend };
 
-    fn close(self) -> Result<(), Error> {
+    fn close(self) -> Result<(), Error>
+        ensures closes { IfErr result (λ _. B.closes self.backend ≡ Bool.false) }
+        ensures ends { B.ends call.told self.backend result }
+    {
         let AnyConnection { backend } = self;
         backend.close()
     }
 
-    fn close_hard(self) -> Result<(), Error> {
+    fn close_hard(self) -> Result<(), Error>
+        ensures closes { IfErr result (λ _. B.closes self.backend ≡ Bool.false) }
+        ensures ends { B.ends call.at_once self.backend result }
+    {
         let AnyConnection { backend } = self;
         backend.close_hard()
     }
 
-    fn ping(&mut self) -> Result<(), Error> {
+    fn ping(&mut self) -> Result<(), Error>
+        ensures levels { B.levels self.new.backend ≡ B.levels self.old.backend }
+        ensures rises { B.faults self.old.backend ≤ B.faults self.new.backend }
+        ensures cause { IfErr result (λ e. FaultCause (B.faults self.old.backend) (B.faults self.new.backend) e) }
+        ensures does { B.does call.ping self.old.backend result self.new.backend }
+    {
         self.backend.ping()
     }
 
@@ -81,15 +94,31 @@ impl<B: AnyConnectionBackend> Connection<Any<B>> for AnyConnection<B> {
         self.backend.cached_statements_size()
     }
 
-    fn clear_cached_statements(&mut self) -> Result<(), Error> {
+    fn clear_cached_statements(&mut self) -> Result<(), Error>
+        ensures ok { OnOk result (B.cached self.new.backend ≡ 0) }
+        ensures levels { B.levels self.new.backend ≡ B.levels self.old.backend }
+        ensures rises { B.faults self.old.backend ≤ B.faults self.new.backend }
+        ensures cause { IfErr result (λ e. FaultCause (B.faults self.old.backend) (B.faults self.new.backend) e) }
+        ensures does { B.does call.clear_cached_statements self.old.backend result self.new.backend }
+    {
         self.backend.clear_cached_statements()
     }
 
-    fn shrink_buffers(&mut self) {
+    fn shrink_buffers(&mut self)
+        ensures levels { B.levels self.new.backend ≡ B.levels self.old.backend }
+        ensures rises { B.faults self.old.backend ≤ B.faults self.new.backend }
+        ensures does { B.does call.shrink_buffers self.old.backend (Ok tt) self.new.backend }
+    {
         self.backend.shrink_buffers()
     }
 
-    fn flush(&mut self) -> Result<(), Error> {
+    fn flush(&mut self) -> Result<(), Error>
+        ensures ok { OnOk result (B.unflushed self.new.backend ≡ Bool.false) }
+        ensures levels { B.levels self.new.backend ≡ B.levels self.old.backend }
+        ensures rises { B.faults self.old.backend ≤ B.faults self.new.backend }
+        ensures cause { IfErr result (λ e. FaultCause (B.faults self.old.backend) (B.faults self.new.backend) e) }
+        ensures does { B.does call.flush self.old.backend result self.new.backend }
+    {
         self.backend.flush()
     }
 

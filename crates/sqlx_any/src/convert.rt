@@ -1,5 +1,5 @@
 //! Arguments that are handed on to the database behind a backend.
-ghost use Rattle.std.specs.Prelude.{◌≡◌, ◌∷◌, [], IfOk, MatchOption, OnErr, OnOk, None, length, string_bytes};
+ghost use Rattle.std.specs.Prelude.{◌≡◌, ◌<◌, ◌∷◌, [], IfErr, IfOk, MatchOption, OnErr, OnOk, None, length, string_bytes};
 ghost use Rattle.sqlx_traits.specs.Arguments.{AddsOne};
 ghost use Rattle.sqlx_any.specs.Converted.{Adds, AddsInOrder, AddsValue};
 
@@ -28,6 +28,7 @@ impl AnyArguments {
         Option<Vec<u8>>: Encode<'a, DB>,
         ensures ok { IfOk result (λ args. (none : DB.ArgumentBuffer) × (DB.ArgumentBuffer.count none ≡ 0) × AddsInOrder (record { a_bool = Adds (λ b. b) ⟦<bool as Encode<'a, DB>>⟧.encoded; an_i16 = Adds (λ n. n) ⟦<i16 as Encode<'a, DB>>⟧.encoded; an_i32 = Adds (λ n. n) ⟦<i32 as Encode<'a, DB>>⟧.encoded; an_i64 = Adds (λ n. n) ⟦<i64 as Encode<'a, DB>>⟧.encoded; a_text = Adds string_bytes ⟦<String as Encode<'a, DB>>⟧.encoded; bytes = Adds (λ bytes. bytes.items) ⟦<Vec<u8> as Encode<'a, DB>>⟧.encoded; no_bool = ⟦<Option<bool> as Encode<'a, DB>>⟧.encoded None; no_i16 = ⟦<Option<i16> as Encode<'a, DB>>⟧.encoded None; no_i32 = ⟦<Option<i32> as Encode<'a, DB>>⟧.encoded None; no_i64 = ⟦<Option<i64> as Encode<'a, DB>>⟧.encoded None; no_text = ⟦<Option<String> as Encode<'a, DB>>⟧.encoded None; no_bytes = ⟦<Option<Vec<u8>> as Encode<'a, DB>>⟧.encoded None }) self.values none (DB.Arguments.buffered args)) }
         ensures count { IfOk result (λ args. DB.ArgumentBuffer.count (DB.Arguments.buffered args) ≡ length self.values) }
+        ensures err { IfErr result (λ _. 0 < length self.values) }
     {
         let mut values = VecDeque::from_vec(self.values.into_values());
         let mut args = DB::Arguments::new(alloc);

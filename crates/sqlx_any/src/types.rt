@@ -1,7 +1,8 @@
 //! The Rust types as arguments and as reads of values: truth values, whole numbers, texts, bytes, and
 //! each of them as an option.
-ghost use Rattle.std.specs.Prelude.{◌≡◌, ◌++◌, ◌∷◌, [], OnErr, OnOk, length, take};
+ghost use Rattle.std.specs.Prelude.{◌≡◌, ◌++◌, ◌∷◌, [], Ok, OnErr, OnOk, length, take};
 ghost use Rattle.sqlx_traits.specs.Arguments.{AddsOne};
+ghost use Rattle.sqlx_traits.specs.Reads.{Answers};
 ghost use Rattle.sqlx_any.specs.Kinds.{kind_of, with_null};
 
 mod bool;
@@ -19,6 +20,7 @@ fn put(buf: &mut AnyArgumentBuffer, value: AnyValueKind) -> Result<IsNull, Fault
     ensures ok { OnOk result (buf.new ≡ buf.old ++ value ∷ []) }
     ensures one { OnOk result (AddsOne length take buf.old buf.new) }
     ensures err { OnErr result (buf.new ≡ buf.old) }
+    ensures told { Answers (λ told. told) Fault.OutOfMemory (Ok IsNull.No) result }
 {
     match buf.push(value) {
         Ok(()) => Ok(IsNull::No),
@@ -31,6 +33,7 @@ fn put_null(buf: &mut AnyArgumentBuffer, kind: AnyTypeInfoKind) -> Result<IsNull
     ensures ok { OnOk result (buf.new ≡ with_null kind buf.old) }
     ensures one { OnOk result (AddsOne length take buf.old buf.new) }
     ensures err { OnErr result (buf.new ≡ buf.old) }
+    ensures told { Answers (λ told. told) Fault.OutOfMemory (Ok IsNull.Yes) result }
 {
     match buf.push(AnyValueKind::Null(kind)) {
         Ok(()) => Ok(IsNull::Yes),

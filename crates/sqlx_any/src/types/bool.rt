@@ -1,4 +1,7 @@
 //! Truth values.
+ghost use Rattle.std.specs.Prelude.{◌≡◌, ◌++◌, ◌∷◌, [], Ok, OnErr, OnOk, length, take};
+ghost use Rattle.sqlx_traits.specs.Arguments.{AddsOne};
+ghost use Rattle.sqlx_traits.specs.Reads.{Answers};
 
 use super::{put, unexpected};
 use crate::{Any, AnyArgumentBuffer, AnyConnectionBackend, AnyTypeInfo, AnyValue, AnyValueKind};
@@ -41,11 +44,21 @@ impl<'q, B: AnyConnectionBackend> Encode<'q, Any<B>> for bool {
 
     ghost size = { λ _. 1 };
 
-    fn encode(self, _alloc: Global, buf: &mut AnyArgumentBuffer) -> Result<IsNull, Fault> {
+    fn encode(self, _alloc: Global, buf: &mut AnyArgumentBuffer) -> Result<IsNull, Fault>
+        ensures ok { OnOk result (buf.new ≡ buf.old ++ AnyValueKind.Bool self ∷ []) }
+        ensures one { OnOk result (AddsOne length take buf.old buf.new) }
+        ensures err { OnErr result (buf.new ≡ buf.old) }
+        ensures told { Answers (λ told. told) Fault.OutOfMemory (Ok IsNull.No) result }
+    {
         put(buf, AnyValueKind::Bool(self))
     }
 
-    fn encode_by_ref(&self, _alloc: Global, buf: &mut AnyArgumentBuffer) -> Result<IsNull, Fault> {
+    fn encode_by_ref(&self, _alloc: Global, buf: &mut AnyArgumentBuffer) -> Result<IsNull, Fault>
+        ensures ok { OnOk result (buf.new ≡ buf.old ++ AnyValueKind.Bool self.now ∷ []) }
+        ensures one { OnOk result (AddsOne length take buf.old buf.new) }
+        ensures err { OnErr result (buf.new ≡ buf.old) }
+        ensures told { Answers (λ told. told) Fault.OutOfMemory (Ok IsNull.No) result }
+    {
         put(buf, AnyValueKind::Bool(*self))
     }
 

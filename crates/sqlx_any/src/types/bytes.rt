@@ -1,5 +1,7 @@
 //! Bytes, owned and borrowed.
-ghost use Rattle.std.specs.Prelude.{◌≡◌, codes};
+ghost use Rattle.std.specs.Prelude.{◌≡◌, ◌++◌, ◌∷◌, [], Ok, OnErr, OnOk, codes, length, take};
+ghost use Rattle.sqlx_traits.specs.Arguments.{AddsOne};
+ghost use Rattle.sqlx_traits.specs.Reads.{Answers};
 
 use super::{put, unexpected};
 use crate::{
@@ -50,12 +52,22 @@ impl<'q, B: AnyConnectionBackend> Encode<'q, Any<B>> for &[u8] {
 
     ghost size = { λ bytes. length bytes.now };
 
-    fn encode(self, alloc: Global, buf: &mut AnyArgumentBuffer) -> Result<IsNull, Fault> {
+    fn encode(self, alloc: Global, buf: &mut AnyArgumentBuffer) -> Result<IsNull, Fault>
+        ensures ok { OnOk result (buf.new ≡ buf.old ++ AnyValueKind.Blob self.now ∷ []) }
+        ensures one { OnOk result (AddsOne length take buf.old buf.new) }
+        ensures err { OnErr result (buf.new ≡ buf.old) }
+        ensures told { Answers (λ told. told) Fault.OutOfMemory (Ok IsNull.No) result }
+    {
         let blob = AnyBlob::new(alloc, self)?;
         put(buf, AnyValueKind::Blob(blob))
     }
 
-    fn encode_by_ref(&self, alloc: Global, buf: &mut AnyArgumentBuffer) -> Result<IsNull, Fault> {
+    fn encode_by_ref(&self, alloc: Global, buf: &mut AnyArgumentBuffer) -> Result<IsNull, Fault>
+        ensures ok { OnOk result (buf.new ≡ buf.old ++ AnyValueKind.Blob self.now.now ∷ []) }
+        ensures one { OnOk result (AddsOne length take buf.old buf.new) }
+        ensures err { OnErr result (buf.new ≡ buf.old) }
+        ensures told { Answers (λ told. told) Fault.OutOfMemory (Ok IsNull.No) result }
+    {
         let blob = AnyBlob::new(alloc, *self)?;
         put(buf, AnyValueKind::Blob(blob))
     }
@@ -118,11 +130,21 @@ impl<'q, B: AnyConnectionBackend> Encode<'q, Any<B>> for Vec<u8> {
 
     ghost size = { λ bytes. length bytes.items };
 
-    fn encode(self, _alloc: Global, buf: &mut AnyArgumentBuffer) -> Result<IsNull, Fault> {
+    fn encode(self, _alloc: Global, buf: &mut AnyArgumentBuffer) -> Result<IsNull, Fault>
+        ensures ok { OnOk result (buf.new ≡ buf.old ++ AnyValueKind.Blob self.items ∷ []) }
+        ensures one { OnOk result (AddsOne length take buf.old buf.new) }
+        ensures err { OnErr result (buf.new ≡ buf.old) }
+        ensures told { Answers (λ told. told) Fault.OutOfMemory (Ok IsNull.No) result }
+    {
         put(buf, AnyValueKind::Blob(AnyBlob::from_vec(self)))
     }
 
-    fn encode_by_ref(&self, alloc: Global, buf: &mut AnyArgumentBuffer) -> Result<IsNull, Fault> {
+    fn encode_by_ref(&self, alloc: Global, buf: &mut AnyArgumentBuffer) -> Result<IsNull, Fault>
+        ensures ok { OnOk result (buf.new ≡ buf.old ++ AnyValueKind.Blob self.now.items ∷ []) }
+        ensures one { OnOk result (AddsOne length take buf.old buf.new) }
+        ensures err { OnErr result (buf.new ≡ buf.old) }
+        ensures told { Answers (λ told. told) Fault.OutOfMemory (Ok IsNull.No) result }
+    {
         let blob = AnyBlob::new(alloc, self.as_slice())?;
         put(buf, AnyValueKind::Blob(blob))
     }

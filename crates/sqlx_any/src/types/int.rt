@@ -1,5 +1,7 @@
 //! Whole numbers: each type reads each kind of them, as far as its range goes.
-ghost use Rattle.std.specs.Prelude.{◌≡◌};
+ghost use Rattle.std.specs.Prelude.{◌≡◌, ◌++◌, ◌∷◌, [], Ok, OnErr, OnOk, length, take};
+ghost use Rattle.sqlx_traits.specs.Arguments.{AddsOne};
+ghost use Rattle.sqlx_traits.specs.Reads.{Answers};
 ghost use Rattle.sqlx_any.specs.TypedRead.{read_whole, within};
 
 use super::{put, unexpected};
@@ -67,11 +69,21 @@ impl<'q, B: AnyConnectionBackend> Encode<'q, Any<B>> for i16 {
 
     ghost size = { λ _. 2 };
 
-    fn encode(self, _alloc: Global, buf: &mut AnyArgumentBuffer) -> Result<IsNull, Fault> {
+    fn encode(self, _alloc: Global, buf: &mut AnyArgumentBuffer) -> Result<IsNull, Fault>
+        ensures ok { OnOk result (buf.new ≡ buf.old ++ AnyValueKind.SmallInt self ∷ []) }
+        ensures one { OnOk result (AddsOne length take buf.old buf.new) }
+        ensures err { OnErr result (buf.new ≡ buf.old) }
+        ensures told { Answers (λ told. told) Fault.OutOfMemory (Ok IsNull.No) result }
+    {
         put(buf, AnyValueKind::SmallInt(self))
     }
 
-    fn encode_by_ref(&self, _alloc: Global, buf: &mut AnyArgumentBuffer) -> Result<IsNull, Fault> {
+    fn encode_by_ref(&self, _alloc: Global, buf: &mut AnyArgumentBuffer) -> Result<IsNull, Fault>
+        ensures ok { OnOk result (buf.new ≡ buf.old ++ AnyValueKind.SmallInt self.now ∷ []) }
+        ensures one { OnOk result (AddsOne length take buf.old buf.new) }
+        ensures err { OnErr result (buf.new ≡ buf.old) }
+        ensures told { Answers (λ told. told) Fault.OutOfMemory (Ok IsNull.No) result }
+    {
         put(buf, AnyValueKind::SmallInt(*self))
     }
 
@@ -150,11 +162,21 @@ impl<'q, B: AnyConnectionBackend> Encode<'q, Any<B>> for i32 {
 
     ghost size = { λ _. 4 };
 
-    fn encode(self, _alloc: Global, buf: &mut AnyArgumentBuffer) -> Result<IsNull, Fault> {
+    fn encode(self, _alloc: Global, buf: &mut AnyArgumentBuffer) -> Result<IsNull, Fault>
+        ensures ok { OnOk result (buf.new ≡ buf.old ++ AnyValueKind.Integer self ∷ []) }
+        ensures one { OnOk result (AddsOne length take buf.old buf.new) }
+        ensures err { OnErr result (buf.new ≡ buf.old) }
+        ensures told { Answers (λ told. told) Fault.OutOfMemory (Ok IsNull.No) result }
+    {
         put(buf, AnyValueKind::Integer(self))
     }
 
-    fn encode_by_ref(&self, _alloc: Global, buf: &mut AnyArgumentBuffer) -> Result<IsNull, Fault> {
+    fn encode_by_ref(&self, _alloc: Global, buf: &mut AnyArgumentBuffer) -> Result<IsNull, Fault>
+        ensures ok { OnOk result (buf.new ≡ buf.old ++ AnyValueKind.Integer self.now ∷ []) }
+        ensures one { OnOk result (AddsOne length take buf.old buf.new) }
+        ensures err { OnErr result (buf.new ≡ buf.old) }
+        ensures told { Answers (λ told. told) Fault.OutOfMemory (Ok IsNull.No) result }
+    {
         put(buf, AnyValueKind::Integer(*self))
     }
 
@@ -233,11 +255,21 @@ impl<'q, B: AnyConnectionBackend> Encode<'q, Any<B>> for i64 {
 
     ghost size = { λ _. 8 };
 
-    fn encode(self, _alloc: Global, buf: &mut AnyArgumentBuffer) -> Result<IsNull, Fault> {
+    fn encode(self, _alloc: Global, buf: &mut AnyArgumentBuffer) -> Result<IsNull, Fault>
+        ensures ok { OnOk result (buf.new ≡ buf.old ++ AnyValueKind.BigInt self ∷ []) }
+        ensures one { OnOk result (AddsOne length take buf.old buf.new) }
+        ensures err { OnErr result (buf.new ≡ buf.old) }
+        ensures told { Answers (λ told. told) Fault.OutOfMemory (Ok IsNull.No) result }
+    {
         put(buf, AnyValueKind::BigInt(self))
     }
 
-    fn encode_by_ref(&self, _alloc: Global, buf: &mut AnyArgumentBuffer) -> Result<IsNull, Fault> {
+    fn encode_by_ref(&self, _alloc: Global, buf: &mut AnyArgumentBuffer) -> Result<IsNull, Fault>
+        ensures ok { OnOk result (buf.new ≡ buf.old ++ AnyValueKind.BigInt self.now ∷ []) }
+        ensures one { OnOk result (AddsOne length take buf.old buf.new) }
+        ensures err { OnErr result (buf.new ≡ buf.old) }
+        ensures told { Answers (λ told. told) Fault.OutOfMemory (Ok IsNull.No) result }
+    {
         put(buf, AnyValueKind::BigInt(*self))
     }
 

@@ -1,4 +1,7 @@
 //! Options as arguments: `None` is a null of the kind that the type under it has.
+ghost use Rattle.std.specs.Prelude.{◌≡◌, None, Ok, OnErr, OnOk, length, take};
+ghost use Rattle.sqlx_traits.specs.Arguments.{AddsOne};
+ghost use Rattle.sqlx_traits.specs.Reads.{Answers};
 
 use super::put_null;
 use crate::{Any, AnyArgumentBuffer, AnyConnectionBackend, AnyTypeInfo};
@@ -17,14 +20,24 @@ impl<'q, B: AnyConnectionBackend, T: Encode<'q, Any<B>> + SqlType<Any<B>>> Encod
 
     ghost size = { λ x. elim x [ None ↦ 0 | Some y ↦ T.size y ] };
 
-    fn encode(self, alloc: Global, buf: &mut AnyArgumentBuffer) -> Result<IsNull, Fault> {
+    fn encode(self, alloc: Global, buf: &mut AnyArgumentBuffer) -> Result<IsNull, Fault>
+        ensures ok { OnOk result (buf.new ≡ ⟦<Option<T> as Encode<'q, Any<B>>>⟧.encoded self buf.old) }
+        ensures one { OnOk result (AddsOne length take buf.old buf.new) }
+        ensures err { OnErr result (buf.new ≡ buf.old) }
+        ensures null { self ≡ None → Answers (λ told. told) Fault.OutOfMemory (Ok IsNull.Yes) result }
+    {
         match self {
             Some(value) => value.encode(alloc, buf),
             None => put_null(buf, T::type_info().kind),
         }
     }
 
-    fn encode_by_ref(&self, alloc: Global, buf: &mut AnyArgumentBuffer) -> Result<IsNull, Fault> {
+    fn encode_by_ref(&self, alloc: Global, buf: &mut AnyArgumentBuffer) -> Result<IsNull, Fault>
+        ensures ok { OnOk result (buf.new ≡ ⟦<Option<T> as Encode<'q, Any<B>>>⟧.encoded self.now buf.old) }
+        ensures one { OnOk result (AddsOne length take buf.old buf.new) }
+        ensures err { OnErr result (buf.new ≡ buf.old) }
+        ensures null { self.now ≡ None → Answers (λ told. told) Fault.OutOfMemory (Ok IsNull.Yes) result }
+    {
         match self {
             Some(value) => value.encode_by_ref(alloc, buf),
             None => put_null(buf, T::type_info().kind),

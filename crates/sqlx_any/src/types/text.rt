@@ -1,6 +1,7 @@
 //! Texts, owned and borrowed.
-ghost use Rattle.std.specs.Prelude.{◌≡◌, Ok, codes, string_bytes};
-ghost use Rattle.sqlx_traits.specs.Reads.{Reads};
+ghost use Rattle.std.specs.Prelude.{◌≡◌, ◌++◌, ◌∷◌, [], Ok, OnErr, OnOk, codes, length, string_bytes, take};
+ghost use Rattle.sqlx_traits.specs.Arguments.{AddsOne};
+ghost use Rattle.sqlx_traits.specs.Reads.{Answers, Reads};
 
 use super::{put, unexpected};
 use crate::{Any, AnyArgumentBuffer, AnyConnectionBackend, AnyTypeInfo, AnyValue, AnyValueKind};
@@ -59,12 +60,22 @@ impl<'q, B: AnyConnectionBackend> Encode<'q, Any<B>> for &str {
 
     ghost size = { λ text. length text.now };
 
-    fn encode(self, alloc: Global, buf: &mut AnyArgumentBuffer) -> Result<IsNull, Fault> {
+    fn encode(self, alloc: Global, buf: &mut AnyArgumentBuffer) -> Result<IsNull, Fault>
+        ensures ok { OnOk result (buf.new ≡ buf.old ++ AnyValueKind.Text self.now ∷ []) }
+        ensures one { OnOk result (AddsOne length take buf.old buf.new) }
+        ensures err { OnErr result (buf.new ≡ buf.old) }
+        ensures told { Answers (λ told. told) Fault.OutOfMemory (Ok IsNull.No) result }
+    {
         let text = UStr::new(alloc, self)?;
         put(buf, AnyValueKind::Text(text))
     }
 
-    fn encode_by_ref(&self, alloc: Global, buf: &mut AnyArgumentBuffer) -> Result<IsNull, Fault> {
+    fn encode_by_ref(&self, alloc: Global, buf: &mut AnyArgumentBuffer) -> Result<IsNull, Fault>
+        ensures ok { OnOk result (buf.new ≡ buf.old ++ AnyValueKind.Text self.now.now ∷ []) }
+        ensures one { OnOk result (AddsOne length take buf.old buf.new) }
+        ensures err { OnErr result (buf.new ≡ buf.old) }
+        ensures told { Answers (λ told. told) Fault.OutOfMemory (Ok IsNull.No) result }
+    {
         let text = UStr::new(alloc, *self)?;
         put(buf, AnyValueKind::Text(text))
     }
@@ -128,11 +139,21 @@ impl<'q, B: AnyConnectionBackend> Encode<'q, Any<B>> for String {
 
     ghost size = { λ text. length (string_bytes text) };
 
-    fn encode(self, _alloc: Global, buf: &mut AnyArgumentBuffer) -> Result<IsNull, Fault> {
+    fn encode(self, _alloc: Global, buf: &mut AnyArgumentBuffer) -> Result<IsNull, Fault>
+        ensures ok { OnOk result (buf.new ≡ buf.old ++ AnyValueKind.Text (string_bytes self) ∷ []) }
+        ensures one { OnOk result (AddsOne length take buf.old buf.new) }
+        ensures err { OnErr result (buf.new ≡ buf.old) }
+        ensures told { Answers (λ told. told) Fault.OutOfMemory (Ok IsNull.No) result }
+    {
         put(buf, AnyValueKind::Text(UStr::from_string(self)))
     }
 
-    fn encode_by_ref(&self, alloc: Global, buf: &mut AnyArgumentBuffer) -> Result<IsNull, Fault> {
+    fn encode_by_ref(&self, alloc: Global, buf: &mut AnyArgumentBuffer) -> Result<IsNull, Fault>
+        ensures ok { OnOk result (buf.new ≡ buf.old ++ AnyValueKind.Text (string_bytes self.now) ∷ []) }
+        ensures one { OnOk result (AddsOne length take buf.old buf.new) }
+        ensures err { OnErr result (buf.new ≡ buf.old) }
+        ensures told { Answers (λ told. told) Fault.OutOfMemory (Ok IsNull.No) result }
+    {
         let text = UStr::new(alloc, self.as_str())?;
         put(buf, AnyValueKind::Text(text))
     }
