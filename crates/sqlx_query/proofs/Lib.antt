@@ -3,4 +3,3 @@ pub mod CauseLemmas
 pub mod DraftLemmas
 pub mod PlaceholderLemmas
 pub mod ReadLemmas
-pub mod TestLemmas

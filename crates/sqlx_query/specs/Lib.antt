@@ -3,4 +3,3 @@ pub mod Binding
 pub mod Mapping
 pub mod Growing
 pub mod Builder
-pub mod FromRow

@@ -83,7 +83,8 @@ impl<DB: Database> QueryBuilder<DB> {
     /// Appends what `{}` writes of a value. Want of memory leaves the builder as it was.
     pub fn push_display<T: Display>(&mut self, alloc: Global, value: &T) -> Result<(), OutOfMemory>
         requires { self.old.built ≡ Bool.false }
-        ensures ok { OnOk result (IfSome (T.output value.now) (λ text. Gains DB.ArgumentBuffer.count DB.ArgumentBuffer.first self.old (Piece.Text text ∷ []) self.new)) }
+        ensures ok { OnOk result ((text : _) × IfSome (T.output value.now) (λ written. written ≡ text)
+            × Gains DB.ArgumentBuffer.count DB.ArgumentBuffer.first self.old (Piece.Text text ∷ []) self.new) }
         ensures err { OnErr result (self.new ≡ self.old) }
     {
         let text = value.to_string(alloc)?;

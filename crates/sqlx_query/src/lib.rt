@@ -3,7 +3,6 @@
 
 mod bound_query;
 mod builder;
-mod from_row;
 mod growing_text;
 mod map;
 mod map_stream;
@@ -15,14 +14,11 @@ mod rows_as;
 mod scalars;
 mod separated;
 mod statements;
-#[cfg(test)]
-mod tests;
 mod texts;
 mod tuples;
 
 pub use bound_query::Query;
 pub use builder::QueryBuilder;
-pub use from_row::{FromColumn, FromRow};
 pub use map::Map;
 pub use map_stream::{MapManyStream, MapStream};
 pub use mapper::{Each, Mapped, Mapper, TryEach};
@@ -32,6 +28,7 @@ pub use raw::{RawSql, raw_sql};
 pub use rows_as::{QueryAs, QueryAsManyStream, QueryAsStream};
 pub use scalars::{QueryScalar, QueryScalarManyStream, QueryScalarStream};
 pub use separated::Separated;
+pub use sqlx_from_row::{FromColumn, FromRow};
 pub use statements::{
     StatementQuery, query_statement, query_statement_as, query_statement_as_with,
     query_statement_scalar, query_statement_scalar_with, query_statement_with,

@@ -3,6 +3,7 @@ ghost use Rattle.std.specs.Prelude.{◌≡◌, Ok, Some};
 ghost use Rattle.sqlx_query.specs.Query.{BeginsEmpty, begun};
 
 use crate::{Query, QueryAs, QueryScalar};
+use sqlx_any::{Any, AnyConnectionBackend, AnyStatement};
 use sqlx_traits::{ArgumentList, Arguments, Database, Either, IntoArguments, Statement};
 use std::alloc::Global;
 
@@ -121,5 +122,13 @@ pub trait StatementQuery<DB: Database>: Sized {
         ensures { result.query ≡ begun (DB.Statement.text (itself self.entry.now)) (Some (itself self.entry.now)) (Ok arguments) }
     {
         query_statement_scalar_with::<DB, O, A>(self.as_statement(), arguments)
+    }
+}
+
+impl<B: AnyConnectionBackend> StatementQuery<Any<B>> for AnyStatement {
+    ghost itself = { λ statement. statement };
+
+    fn as_statement(&self) -> &AnyStatement {
+        self
     }
 }
