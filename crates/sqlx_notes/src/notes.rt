@@ -365,7 +365,7 @@ impl Model for Texts {
 
 impl Texts {
     /// Adds a text.
-    #[tactic(auto, using(crate::proofs::ArgumentLemmas::adds_one))]
+    #[tactic(auto, using(sqlx_traits::proofs::ArgumentLemmas::adds_one))]
     fn put(&mut self, text: UStr) -> Result<(), OutOfMemory>
         ensures ok { OnOk result (self.new ≡ self.old ++ text ∷ []) }
         ensures one { OnOk result (AddsOne length take self.old self.new) }
@@ -444,8 +444,14 @@ impl Arguments<Notes> for NoteArguments {
 
 impl<'q> Encode<'q, Notes> for &str {
     ghost use Rattle.std.specs.Prelude.{◌++◌, ◌∷◌, [], None, length};
+    ghost use Rattle.sqlx_traits.specs.Arguments.{IsWantOfMemory};
+    ghost use Rattle.sqlx_traits.specs.declared.encode.IsNull.TheVariants.{No};
 
     ghost encoded = { λ text list. list ++ text.now ∷ [] };
+
+    ghost null = { λ _. No };
+
+    ghost refuses = { λ _. IsWantOfMemory };
 
     ghost produced = { λ _. None };
 

@@ -75,7 +75,7 @@ impl Shelf {
         })
     }
 
-    #[tactic(auto, using(crate::proofs::StepLemmas::causes_of_items))]
+    #[tactic(auto, using(sqlx_traits::proofs::StepLemmas::causes_of_items))]
     fn hand_out(&mut self, alloc: Global) -> FetchMany<Notes>
         ensures rises { self.old.faults ≤ self.new.faults }
         ensures causes { (arguments : Result (Option NoteArguments) Fault) → StepCauses self.old.faults self.new.faults arguments result }

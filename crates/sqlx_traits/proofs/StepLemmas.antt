@@ -1,5 +1,5 @@
 -- Step lists: the errors of a filtered list are those of the list.
-use Rattle.std.proofs.Common.{ℕ, List, [], ◌∷◌, Result, Ok, Err, IfErr, rules}
+use Rattle.std.proofs.Common.{ℕ, List, [], ◌∷◌, ◌++◌, map, Result, Ok, Err, IfErr, rules}
 use Rattle.either.specs.declared.Either.TheVariants.{Left, Right}
 use Rattle.sqlx_text.specs.declared.error.Error.{Error}
 use Rattle.sqlx_text.specs.declared.fault.Fault.{Fault}
@@ -29,3 +29,9 @@ cause_of_first_error before now arguments (Err e ∷ rest) made causes = causes.
 pub cause_of_all : {T A : Type 0} (before now : ℕ) (arguments : Result A Fault) (list : List (Result T Error))
     → StepCauses before now arguments list → IfErr (all_of list) (λ e. StepCause before now arguments e)
 cause_of_all before now arguments list causes = cause_of_first_error before now arguments list (values_of list) causes
+
+-- items that are no errors need no cause
+pub causes_of_items : {T A : Type 0} (before now : ℕ) (arguments : Result A Fault) (items : List T) (rest : List (Result T Error))
+    → StepCauses before now arguments rest → StepCauses before now arguments (map Ok items ++ rest)
+causes_of_items before now arguments [] rest causes = causes
+causes_of_items before now arguments (x ∷ xs) rest causes = causes_of_items before now arguments xs rest causes

@@ -1,5 +1,5 @@
 //! The arguments of a statement, in the order in which they were added.
-ghost use Rattle.std.specs.Prelude.{◌≡◌, ◌+◌, ◌++◌, ◌∷◌, [], ◌≤◌, ℕ, List, OnErr, OnOk, codes, min, string_bytes};
+ghost use Rattle.std.specs.Prelude.{◌≡◌, ◌+◌, ◌++◌, ◌∷◌, [], ◌≤◌, ℕ, IfErr, List, OnErr, OnOk, codes, min, string_bytes};
 ghost use Rattle.std.specs.Borrow.{Lends, sem};
 ghost use Rattle.sqlx_traits.specs.Arguments.{AddsOne};
 
@@ -81,6 +81,7 @@ pub fn add<'t, DB: Database, T: Encode<'t, DB> + SqlType<DB>>(
     ensures ok { OnOk result (DB.Arguments.buffered args.new ≡ T.encoded value (DB.Arguments.buffered args.old)) }
     ensures one { OnOk result (AddsOne DB.ArgumentBuffer.count DB.ArgumentBuffer.first (DB.Arguments.buffered args.old) (DB.Arguments.buffered args.new)) }
     ensures err { OnErr result (args.new ≡ args.old) }
+    ensures refused { IfErr result (T.refuses value) }
 {
     match value.encode(alloc, args.buffer()) {
         Ok(_is_null) => Ok(()),
