@@ -1,4 +1,3 @@
-pub mod ArgumentLemmas
 pub mod ReadBack
 pub mod NamesLemmas
 pub mod FormsLemmas

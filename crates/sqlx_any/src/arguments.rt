@@ -48,7 +48,7 @@ impl AnyArgumentBuffer {
     }
 
     /// Adds an argument behind those that are there. A refusal leaves them as they were.
-    #[tactic(auto, using(crate::proofs::ArgumentLemmas::adds_one))]
+    #[tactic(auto, using(sqlx_traits::proofs::ArgumentLemmas::adds_one))]
     pub fn push(&mut self, value: AnyValueKind) -> Result<(), OutOfMemory>
         ensures ok { OnOk result (self.new ≡ self.old ++ value ∷ []) }
         ensures one { OnOk result (AddsOne length take self.old self.new) }

@@ -1,7 +1,7 @@
 //! Arguments that are handed on to the database behind a backend.
-ghost use Rattle.std.specs.Prelude.{◌≡◌, ◌<◌, ◌∷◌, [], IfErr, IfOk, MatchOption, OnErr, OnOk, None, length, string_bytes};
-ghost use Rattle.sqlx_traits.specs.Arguments.{AddsOne};
-ghost use Rattle.sqlx_any.specs.Converted.{Adds, AddsInOrder, AddsValue};
+ghost use Rattle.std.specs.Prelude.{◌≡◌, ◌⊎◌, ◌∷◌, [], IfErr, IfOk, MatchOption, OnErr, OnOk, None, length, string_bytes};
+ghost use Rattle.sqlx_traits.specs.Arguments.{AddsOne, IsWantOfMemory};
+ghost use Rattle.sqlx_any.specs.Converted.{Adds, AddsInOrder, AddsValue, Refuses, RefusesOne, RefusesValue};
 
 use crate::{AnyArguments, AnyValueKind};
 use sqlx_text::{AnyTypeInfoKind, Fault, UStr};
@@ -28,7 +28,7 @@ impl AnyArguments {
         Option<Vec<u8>>: Encode<'a, DB>,
         ensures ok { IfOk result (λ args. (none : DB.ArgumentBuffer) × (DB.ArgumentBuffer.count none ≡ 0) × AddsInOrder (record { a_bool = Adds (λ b. b) ⟦<bool as Encode<'a, DB>>⟧.encoded; an_i16 = Adds (λ n. n) ⟦<i16 as Encode<'a, DB>>⟧.encoded; an_i32 = Adds (λ n. n) ⟦<i32 as Encode<'a, DB>>⟧.encoded; an_i64 = Adds (λ n. n) ⟦<i64 as Encode<'a, DB>>⟧.encoded; a_text = Adds string_bytes ⟦<String as Encode<'a, DB>>⟧.encoded; bytes = Adds (λ bytes. bytes.items) ⟦<Vec<u8> as Encode<'a, DB>>⟧.encoded; no_bool = ⟦<Option<bool> as Encode<'a, DB>>⟧.encoded None; no_i16 = ⟦<Option<i16> as Encode<'a, DB>>⟧.encoded None; no_i32 = ⟦<Option<i32> as Encode<'a, DB>>⟧.encoded None; no_i64 = ⟦<Option<i64> as Encode<'a, DB>>⟧.encoded None; no_text = ⟦<Option<String> as Encode<'a, DB>>⟧.encoded None; no_bytes = ⟦<Option<Vec<u8>> as Encode<'a, DB>>⟧.encoded None }) self.values none (DB.Arguments.buffered args)) }
         ensures count { IfOk result (λ args. DB.ArgumentBuffer.count (DB.Arguments.buffered args) ≡ length self.values) }
-        ensures err { IfErr result (λ _. 0 < length self.values) }
+        ensures refused { IfErr result (λ fault. RefusesOne (record { a_bool = ⟦<bool as Encode<'a, DB>>⟧.refuses; an_i16 = ⟦<i16 as Encode<'a, DB>>⟧.refuses; an_i32 = ⟦<i32 as Encode<'a, DB>>⟧.refuses; an_i64 = ⟦<i64 as Encode<'a, DB>>⟧.refuses; a_text = Refuses string_bytes ⟦<String as Encode<'a, DB>>⟧.refuses; bytes = Refuses (λ bytes. bytes.items) ⟦<Vec<u8> as Encode<'a, DB>>⟧.refuses; no_bool = ⟦<Option<bool> as Encode<'a, DB>>⟧.refuses None; no_i16 = ⟦<Option<i16> as Encode<'a, DB>>⟧.refuses None; no_i32 = ⟦<Option<i32> as Encode<'a, DB>>⟧.refuses None; no_i64 = ⟦<Option<i64> as Encode<'a, DB>>⟧.refuses None; no_text = ⟦<Option<String> as Encode<'a, DB>>⟧.refuses None; no_bytes = ⟦<Option<Vec<u8>> as Encode<'a, DB>>⟧.refuses None }) self.values fault) }
     {
         let mut values = VecDeque::from_vec(self.values.into_values());
         let mut args = DB::Arguments::new(alloc);
@@ -72,6 +72,7 @@ where
     ensures ok { OnOk result (AddsValue (record { a_bool = Adds (λ b. b) ⟦<bool as Encode<'a, DB>>⟧.encoded; an_i16 = Adds (λ n. n) ⟦<i16 as Encode<'a, DB>>⟧.encoded; an_i32 = Adds (λ n. n) ⟦<i32 as Encode<'a, DB>>⟧.encoded; an_i64 = Adds (λ n. n) ⟦<i64 as Encode<'a, DB>>⟧.encoded; a_text = Adds string_bytes ⟦<String as Encode<'a, DB>>⟧.encoded; bytes = Adds (λ bytes. bytes.items) ⟦<Vec<u8> as Encode<'a, DB>>⟧.encoded; no_bool = ⟦<Option<bool> as Encode<'a, DB>>⟧.encoded None; no_i16 = ⟦<Option<i16> as Encode<'a, DB>>⟧.encoded None; no_i32 = ⟦<Option<i32> as Encode<'a, DB>>⟧.encoded None; no_i64 = ⟦<Option<i64> as Encode<'a, DB>>⟧.encoded None; no_text = ⟦<Option<String> as Encode<'a, DB>>⟧.encoded None; no_bytes = ⟦<Option<Vec<u8>> as Encode<'a, DB>>⟧.encoded None }) value (DB.Arguments.buffered args.old) (DB.Arguments.buffered args.new)) }
     ensures one { OnOk result (AddsOne DB.ArgumentBuffer.count DB.ArgumentBuffer.first (DB.Arguments.buffered args.old) (DB.Arguments.buffered args.new)) }
     ensures err { OnErr result (args.new ≡ args.old) }
+    ensures refused { IfErr result (λ fault. RefusesValue (record { a_bool = ⟦<bool as Encode<'a, DB>>⟧.refuses; an_i16 = ⟦<i16 as Encode<'a, DB>>⟧.refuses; an_i32 = ⟦<i32 as Encode<'a, DB>>⟧.refuses; an_i64 = ⟦<i64 as Encode<'a, DB>>⟧.refuses; a_text = Refuses string_bytes ⟦<String as Encode<'a, DB>>⟧.refuses; bytes = Refuses (λ bytes. bytes.items) ⟦<Vec<u8> as Encode<'a, DB>>⟧.refuses; no_bool = ⟦<Option<bool> as Encode<'a, DB>>⟧.refuses None; no_i16 = ⟦<Option<i16> as Encode<'a, DB>>⟧.refuses None; no_i32 = ⟦<Option<i32> as Encode<'a, DB>>⟧.refuses None; no_i64 = ⟦<Option<i64> as Encode<'a, DB>>⟧.refuses None; no_text = ⟦<Option<String> as Encode<'a, DB>>⟧.refuses None; no_bytes = ⟦<Option<Vec<u8>> as Encode<'a, DB>>⟧.refuses None }) value fault) }
 {
     match value {
         AnyValueKind::Null(kind) => match kind {
@@ -104,6 +105,7 @@ where
     ensures ok { OnOk result (Adds string_bytes ⟦<String as Encode<'a, DB>>⟧.encoded text (DB.Arguments.buffered args.old) (DB.Arguments.buffered args.new)) }
     ensures one { OnOk result (AddsOne DB.ArgumentBuffer.count DB.ArgumentBuffer.first (DB.Arguments.buffered args.old) (DB.Arguments.buffered args.new)) }
     ensures err { OnErr result (args.new ≡ args.old) }
+    ensures refused { IfErr result (λ fault. Refuses string_bytes ⟦<String as Encode<'a, DB>>⟧.refuses text fault ⊎ IsWantOfMemory fault) }
 {
     match text.as_str().to_string(alloc) {
         Ok(text) => add::<DB, String>(alloc, args, text),

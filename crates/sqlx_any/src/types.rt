@@ -1,8 +1,7 @@
 //! The Rust types as arguments and as reads of values: truth values, whole numbers, texts, bytes, and
 //! each of them as an option.
-ghost use Rattle.std.specs.Prelude.{◌≡◌, ◌++◌, ◌∷◌, [], Ok, OnErr, OnOk, length, take};
-ghost use Rattle.sqlx_traits.specs.Arguments.{AddsOne};
-ghost use Rattle.sqlx_traits.specs.Reads.{Answers};
+ghost use Rattle.std.specs.Prelude.{◌≡◌, ◌++◌, ◌∷◌, [], IfErr, IfOk, OnErr, OnOk, length, take};
+ghost use Rattle.sqlx_traits.specs.Arguments.{AddsOne, IsWantOfMemory};
 ghost use Rattle.sqlx_any.specs.Kinds.{kind_of, with_null};
 
 mod bool;
@@ -20,7 +19,8 @@ fn put(buf: &mut AnyArgumentBuffer, value: AnyValueKind) -> Result<IsNull, Fault
     ensures ok { OnOk result (buf.new ≡ buf.old ++ value ∷ []) }
     ensures one { OnOk result (AddsOne length take buf.old buf.new) }
     ensures err { OnErr result (buf.new ≡ buf.old) }
-    ensures told { Answers (λ told. told) Fault.OutOfMemory (Ok IsNull.No) result }
+    ensures told { IfOk result (λ told. told ≡ IsNull.No) }
+    ensures refused { IfErr result (λ fault. IsWantOfMemory fault) }
 {
     match buf.push(value) {
         Ok(()) => Ok(IsNull::No),
@@ -33,7 +33,8 @@ fn put_null(buf: &mut AnyArgumentBuffer, kind: AnyTypeInfoKind) -> Result<IsNull
     ensures ok { OnOk result (buf.new ≡ with_null kind buf.old) }
     ensures one { OnOk result (AddsOne length take buf.old buf.new) }
     ensures err { OnErr result (buf.new ≡ buf.old) }
-    ensures told { Answers (λ told. told) Fault.OutOfMemory (Ok IsNull.Yes) result }
+    ensures told { IfOk result (λ told. told ≡ IsNull.Yes) }
+    ensures refused { IfErr result (λ fault. IsWantOfMemory fault) }
 {
     match buf.push(AnyValueKind::Null(kind)) {
         Ok(()) => Ok(IsNull::Yes),

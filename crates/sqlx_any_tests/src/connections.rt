@@ -1,8 +1,9 @@
 //! What a connection asks of its backend, besides queries.
 ghost use Rattle.std.specs.Prelude.{◌≡◌, IfOk};
 
-use crate::told::{is_given, says, shown};
+use crate::told::{says, shown};
 use sqlx_any::*;
+use sqlx_given::answers::works;
 use sqlx_given::backend::Given;
 use sqlx_text::{Depth, Error, OutOfMemory, SqlStr};
 use std::alloc::Global;
@@ -110,12 +111,12 @@ fn name_is(alloc: Global, name: &str) -> Result<bool, Error> {
 
 fn closes(alloc: Global) -> Result<bool, Error> {
     let conn = open(alloc)?;
-    Ok(is_given(conn.close()))
+    Ok(works(conn.close()))
 }
 
 fn closes_hard(alloc: Global) -> Result<bool, Error> {
     let conn = open(alloc)?;
-    Ok(is_given(conn.close_hard()))
+    Ok(works(conn.close_hard()))
 }
 
 fn backend_refuses(alloc: Global) -> Result<bool, Error> {

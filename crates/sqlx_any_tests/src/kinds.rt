@@ -1,7 +1,8 @@
 //! Which Rust types read a value of each kind, as an option and whatever its type too.
 
-use crate::told::{is_given, says, shown};
+use crate::told::{says, shown};
 use sqlx_any::*;
+use sqlx_given::answers::works;
 use sqlx_given::backend::Given;
 use sqlx_given::cells;
 use sqlx_text::{AnyTypeInfoKind, Error, OutOfMemory, UStr};
@@ -17,35 +18,35 @@ fn name(line: &mut String, reads: bool, name: &str) -> Result<(), OutOfMemory> {
 }
 
 fn bool_reads(alloc: Global, row: &AnyRow) -> bool {
-    is_given(typed_reads::bool_of_row::<Given, usize>(alloc, row, 0))
+    works(typed_reads::bool_of_row::<Given, usize>(alloc, row, 0))
 }
 
 fn i16_reads(alloc: Global, row: &AnyRow) -> bool {
-    is_given(typed_reads::i16_of_row::<Given, usize>(alloc, row, 0))
+    works(typed_reads::i16_of_row::<Given, usize>(alloc, row, 0))
 }
 
 fn i32_reads(alloc: Global, row: &AnyRow) -> bool {
-    is_given(typed_reads::i32_of_row::<Given, usize>(alloc, row, 0))
+    works(typed_reads::i32_of_row::<Given, usize>(alloc, row, 0))
 }
 
 fn i64_reads(alloc: Global, row: &AnyRow) -> bool {
-    is_given(typed_reads::i64_of_row::<Given, usize>(alloc, row, 0))
+    works(typed_reads::i64_of_row::<Given, usize>(alloc, row, 0))
 }
 
 fn str_reads(alloc: Global, row: &AnyRow) -> bool {
-    is_given(typed_reads::str_of_row::<Given, usize>(alloc, row, 0))
+    works(typed_reads::str_of_row::<Given, usize>(alloc, row, 0))
 }
 
 fn string_reads(alloc: Global, row: &AnyRow) -> bool {
-    is_given(typed_reads::string_of_row::<Given, usize>(alloc, row, 0))
+    works(typed_reads::string_of_row::<Given, usize>(alloc, row, 0))
 }
 
 fn slice_reads(alloc: Global, row: &AnyRow) -> bool {
-    is_given(typed_reads::slice_of_row::<Given, usize>(alloc, row, 0))
+    works(typed_reads::slice_of_row::<Given, usize>(alloc, row, 0))
 }
 
 fn vec_reads(alloc: Global, row: &AnyRow) -> bool {
-    is_given(typed_reads::vec_of_row::<Given, usize>(alloc, row, 0))
+    works(typed_reads::vec_of_row::<Given, usize>(alloc, row, 0))
 }
 
 fn numbers(alloc: Global, row: &AnyRow, line: &mut String) -> Result<(), OutOfMemory> {

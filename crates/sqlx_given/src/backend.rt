@@ -81,7 +81,7 @@ impl Given {
         })
     }
 
-    #[tactic(auto, using(crate::proofs::StepLemmas::causes_of_items))]
+    #[tactic(auto, using(sqlx_traits::proofs::StepLemmas::causes_of_items))]
     fn hand_out(&mut self, alloc: Global) -> FetchMany<Any<Given>>
         ensures rises { self.old.faults ≤ self.new.faults }
         ensures causes { (arguments : Result (Option AnyArguments) Fault) → StepCauses self.old.faults self.new.faults arguments result }

@@ -1,8 +1,4 @@
 //! Truth values.
-ghost use Rattle.std.specs.Prelude.{◌≡◌, ◌++◌, ◌∷◌, [], Ok, OnErr, OnOk, length, take};
-ghost use Rattle.sqlx_traits.specs.Arguments.{AddsOne};
-ghost use Rattle.sqlx_traits.specs.Reads.{Answers};
-
 use super::{put, unexpected};
 use crate::{Any, AnyArgumentBuffer, AnyConnectionBackend, AnyTypeInfo, AnyValue, AnyValueKind};
 use sqlx_text::{AnyTypeInfoKind, Fault};
@@ -37,28 +33,24 @@ impl<B: AnyConnectionBackend> SqlType<Any<B>> for bool {
 impl<'q, B: AnyConnectionBackend> Encode<'q, Any<B>> for bool {
     ghost use Rattle.std.specs.Prelude.{◌++◌, ◌∷◌, [], None};
     ghost use Rattle.sqlx_any.specs.declared.value.AnyValueKind.TheVariants as value;
+    ghost use Rattle.sqlx_traits.specs.Arguments.{IsWantOfMemory};
+    ghost use Rattle.sqlx_traits.specs.declared.encode.IsNull.TheVariants.{No};
 
     ghost encoded = { λ b list. list ++ value.Bool b ∷ [] };
+
+    ghost null = { λ _. No };
+
+    ghost refuses = { λ _. IsWantOfMemory };
 
     ghost produced = { λ _. None };
 
     ghost size = { λ _. 1 };
 
-    fn encode(self, _alloc: Global, buf: &mut AnyArgumentBuffer) -> Result<IsNull, Fault>
-        ensures ok { OnOk result (buf.new ≡ buf.old ++ AnyValueKind.Bool self ∷ []) }
-        ensures one { OnOk result (AddsOne length take buf.old buf.new) }
-        ensures err { OnErr result (buf.new ≡ buf.old) }
-        ensures told { Answers (λ told. told) Fault.OutOfMemory (Ok IsNull.No) result }
-    {
+    fn encode(self, _alloc: Global, buf: &mut AnyArgumentBuffer) -> Result<IsNull, Fault> {
         put(buf, AnyValueKind::Bool(self))
     }
 
-    fn encode_by_ref(&self, _alloc: Global, buf: &mut AnyArgumentBuffer) -> Result<IsNull, Fault>
-        ensures ok { OnOk result (buf.new ≡ buf.old ++ AnyValueKind.Bool self.now ∷ []) }
-        ensures one { OnOk result (AddsOne length take buf.old buf.new) }
-        ensures err { OnErr result (buf.new ≡ buf.old) }
-        ensures told { Answers (λ told. told) Fault.OutOfMemory (Ok IsNull.No) result }
-    {
+    fn encode_by_ref(&self, _alloc: Global, buf: &mut AnyArgumentBuffer) -> Result<IsNull, Fault> {
         put(buf, AnyValueKind::Bool(*self))
     }
 

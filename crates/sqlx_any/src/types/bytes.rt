@@ -1,7 +1,5 @@
 //! Bytes, owned and borrowed.
-ghost use Rattle.std.specs.Prelude.{◌≡◌, ◌++◌, ◌∷◌, [], Ok, OnErr, OnOk, codes, length, take};
-ghost use Rattle.sqlx_traits.specs.Arguments.{AddsOne};
-ghost use Rattle.sqlx_traits.specs.Reads.{Answers};
+ghost use Rattle.std.specs.Prelude.{◌≡◌, codes};
 
 use super::{put, unexpected};
 use crate::{
@@ -45,29 +43,25 @@ impl<'s, B: AnyConnectionBackend> SqlType<Any<B>> for &'s [u8] {
 impl<'q, B: AnyConnectionBackend> Encode<'q, Any<B>> for &[u8] {
     ghost use Rattle.std.specs.Prelude.{◌++◌, ◌∷◌, [], None, length};
     ghost use Rattle.sqlx_any.specs.declared.value.AnyValueKind.TheVariants.{Blob};
+    ghost use Rattle.sqlx_traits.specs.Arguments.{IsWantOfMemory};
+    ghost use Rattle.sqlx_traits.specs.declared.encode.IsNull.TheVariants.{No};
 
     ghost encoded = { λ bytes list. list ++ Blob bytes.now ∷ [] };
+
+    ghost null = { λ _. No };
+
+    ghost refuses = { λ _. IsWantOfMemory };
 
     ghost produced = { λ _. None };
 
     ghost size = { λ bytes. length bytes.now };
 
-    fn encode(self, alloc: Global, buf: &mut AnyArgumentBuffer) -> Result<IsNull, Fault>
-        ensures ok { OnOk result (buf.new ≡ buf.old ++ AnyValueKind.Blob self.now ∷ []) }
-        ensures one { OnOk result (AddsOne length take buf.old buf.new) }
-        ensures err { OnErr result (buf.new ≡ buf.old) }
-        ensures told { Answers (λ told. told) Fault.OutOfMemory (Ok IsNull.No) result }
-    {
+    fn encode(self, alloc: Global, buf: &mut AnyArgumentBuffer) -> Result<IsNull, Fault> {
         let blob = AnyBlob::new(alloc, self)?;
         put(buf, AnyValueKind::Blob(blob))
     }
 
-    fn encode_by_ref(&self, alloc: Global, buf: &mut AnyArgumentBuffer) -> Result<IsNull, Fault>
-        ensures ok { OnOk result (buf.new ≡ buf.old ++ AnyValueKind.Blob self.now.now ∷ []) }
-        ensures one { OnOk result (AddsOne length take buf.old buf.new) }
-        ensures err { OnErr result (buf.new ≡ buf.old) }
-        ensures told { Answers (λ told. told) Fault.OutOfMemory (Ok IsNull.No) result }
-    {
+    fn encode_by_ref(&self, alloc: Global, buf: &mut AnyArgumentBuffer) -> Result<IsNull, Fault> {
         let blob = AnyBlob::new(alloc, *self)?;
         put(buf, AnyValueKind::Blob(blob))
     }
@@ -123,28 +117,24 @@ impl<B: AnyConnectionBackend> SqlType<Any<B>> for Vec<u8> {
 impl<'q, B: AnyConnectionBackend> Encode<'q, Any<B>> for Vec<u8> {
     ghost use Rattle.std.specs.Prelude.{◌++◌, ◌∷◌, [], None, length};
     ghost use Rattle.sqlx_any.specs.declared.value.AnyValueKind.TheVariants.{Blob};
+    ghost use Rattle.sqlx_traits.specs.Arguments.{IsWantOfMemory};
+    ghost use Rattle.sqlx_traits.specs.declared.encode.IsNull.TheVariants.{No};
 
     ghost encoded = { λ bytes list. list ++ Blob bytes.items ∷ [] };
+
+    ghost null = { λ _. No };
+
+    ghost refuses = { λ _. IsWantOfMemory };
 
     ghost produced = { λ _. None };
 
     ghost size = { λ bytes. length bytes.items };
 
-    fn encode(self, _alloc: Global, buf: &mut AnyArgumentBuffer) -> Result<IsNull, Fault>
-        ensures ok { OnOk result (buf.new ≡ buf.old ++ AnyValueKind.Blob self.items ∷ []) }
-        ensures one { OnOk result (AddsOne length take buf.old buf.new) }
-        ensures err { OnErr result (buf.new ≡ buf.old) }
-        ensures told { Answers (λ told. told) Fault.OutOfMemory (Ok IsNull.No) result }
-    {
+    fn encode(self, _alloc: Global, buf: &mut AnyArgumentBuffer) -> Result<IsNull, Fault> {
         put(buf, AnyValueKind::Blob(AnyBlob::from_vec(self)))
     }
 
-    fn encode_by_ref(&self, alloc: Global, buf: &mut AnyArgumentBuffer) -> Result<IsNull, Fault>
-        ensures ok { OnOk result (buf.new ≡ buf.old ++ AnyValueKind.Blob self.now.items ∷ []) }
-        ensures one { OnOk result (AddsOne length take buf.old buf.new) }
-        ensures err { OnErr result (buf.new ≡ buf.old) }
-        ensures told { Answers (λ told. told) Fault.OutOfMemory (Ok IsNull.No) result }
-    {
+    fn encode_by_ref(&self, alloc: Global, buf: &mut AnyArgumentBuffer) -> Result<IsNull, Fault> {
         let blob = AnyBlob::new(alloc, self.as_slice())?;
         put(buf, AnyValueKind::Blob(blob))
     }

@@ -1,7 +1,5 @@
 //! Whole numbers: each type reads each kind of them, as far as its range goes.
-ghost use Rattle.std.specs.Prelude.{◌≡◌, ◌++◌, ◌∷◌, [], Ok, OnErr, OnOk, length, take};
-ghost use Rattle.sqlx_traits.specs.Arguments.{AddsOne};
-ghost use Rattle.sqlx_traits.specs.Reads.{Answers};
+ghost use Rattle.std.specs.Prelude.{◌≡◌};
 ghost use Rattle.sqlx_any.specs.TypedRead.{read_whole, within};
 
 use super::{put, unexpected};
@@ -62,28 +60,24 @@ impl<B: AnyConnectionBackend> SqlType<Any<B>> for i16 {
 impl<'q, B: AnyConnectionBackend> Encode<'q, Any<B>> for i16 {
     ghost use Rattle.std.specs.Prelude.{◌++◌, ◌∷◌, [], None};
     ghost use Rattle.sqlx_any.specs.declared.value.AnyValueKind.TheVariants.{SmallInt};
+    ghost use Rattle.sqlx_traits.specs.Arguments.{IsWantOfMemory};
+    ghost use Rattle.sqlx_traits.specs.declared.encode.IsNull.TheVariants.{No};
 
     ghost encoded = { λ n list. list ++ SmallInt n ∷ [] };
+
+    ghost null = { λ _. No };
+
+    ghost refuses = { λ _. IsWantOfMemory };
 
     ghost produced = { λ _. None };
 
     ghost size = { λ _. 2 };
 
-    fn encode(self, _alloc: Global, buf: &mut AnyArgumentBuffer) -> Result<IsNull, Fault>
-        ensures ok { OnOk result (buf.new ≡ buf.old ++ AnyValueKind.SmallInt self ∷ []) }
-        ensures one { OnOk result (AddsOne length take buf.old buf.new) }
-        ensures err { OnErr result (buf.new ≡ buf.old) }
-        ensures told { Answers (λ told. told) Fault.OutOfMemory (Ok IsNull.No) result }
-    {
+    fn encode(self, _alloc: Global, buf: &mut AnyArgumentBuffer) -> Result<IsNull, Fault> {
         put(buf, AnyValueKind::SmallInt(self))
     }
 
-    fn encode_by_ref(&self, _alloc: Global, buf: &mut AnyArgumentBuffer) -> Result<IsNull, Fault>
-        ensures ok { OnOk result (buf.new ≡ buf.old ++ AnyValueKind.SmallInt self.now ∷ []) }
-        ensures one { OnOk result (AddsOne length take buf.old buf.new) }
-        ensures err { OnErr result (buf.new ≡ buf.old) }
-        ensures told { Answers (λ told. told) Fault.OutOfMemory (Ok IsNull.No) result }
-    {
+    fn encode_by_ref(&self, _alloc: Global, buf: &mut AnyArgumentBuffer) -> Result<IsNull, Fault> {
         put(buf, AnyValueKind::SmallInt(*self))
     }
 
@@ -155,28 +149,24 @@ impl<B: AnyConnectionBackend> SqlType<Any<B>> for i32 {
 impl<'q, B: AnyConnectionBackend> Encode<'q, Any<B>> for i32 {
     ghost use Rattle.std.specs.Prelude.{◌++◌, ◌∷◌, [], None};
     ghost use Rattle.sqlx_any.specs.declared.value.AnyValueKind.TheVariants.{Integer};
+    ghost use Rattle.sqlx_traits.specs.Arguments.{IsWantOfMemory};
+    ghost use Rattle.sqlx_traits.specs.declared.encode.IsNull.TheVariants.{No};
 
     ghost encoded = { λ n list. list ++ Integer n ∷ [] };
+
+    ghost null = { λ _. No };
+
+    ghost refuses = { λ _. IsWantOfMemory };
 
     ghost produced = { λ _. None };
 
     ghost size = { λ _. 4 };
 
-    fn encode(self, _alloc: Global, buf: &mut AnyArgumentBuffer) -> Result<IsNull, Fault>
-        ensures ok { OnOk result (buf.new ≡ buf.old ++ AnyValueKind.Integer self ∷ []) }
-        ensures one { OnOk result (AddsOne length take buf.old buf.new) }
-        ensures err { OnErr result (buf.new ≡ buf.old) }
-        ensures told { Answers (λ told. told) Fault.OutOfMemory (Ok IsNull.No) result }
-    {
+    fn encode(self, _alloc: Global, buf: &mut AnyArgumentBuffer) -> Result<IsNull, Fault> {
         put(buf, AnyValueKind::Integer(self))
     }
 
-    fn encode_by_ref(&self, _alloc: Global, buf: &mut AnyArgumentBuffer) -> Result<IsNull, Fault>
-        ensures ok { OnOk result (buf.new ≡ buf.old ++ AnyValueKind.Integer self.now ∷ []) }
-        ensures one { OnOk result (AddsOne length take buf.old buf.new) }
-        ensures err { OnErr result (buf.new ≡ buf.old) }
-        ensures told { Answers (λ told. told) Fault.OutOfMemory (Ok IsNull.No) result }
-    {
+    fn encode_by_ref(&self, _alloc: Global, buf: &mut AnyArgumentBuffer) -> Result<IsNull, Fault> {
         put(buf, AnyValueKind::Integer(*self))
     }
 
@@ -248,28 +238,24 @@ impl<B: AnyConnectionBackend> SqlType<Any<B>> for i64 {
 impl<'q, B: AnyConnectionBackend> Encode<'q, Any<B>> for i64 {
     ghost use Rattle.std.specs.Prelude.{◌++◌, ◌∷◌, [], None};
     ghost use Rattle.sqlx_any.specs.declared.value.AnyValueKind.TheVariants.{BigInt};
+    ghost use Rattle.sqlx_traits.specs.Arguments.{IsWantOfMemory};
+    ghost use Rattle.sqlx_traits.specs.declared.encode.IsNull.TheVariants.{No};
 
     ghost encoded = { λ n list. list ++ BigInt n ∷ [] };
+
+    ghost null = { λ _. No };
+
+    ghost refuses = { λ _. IsWantOfMemory };
 
     ghost produced = { λ _. None };
 
     ghost size = { λ _. 8 };
 
-    fn encode(self, _alloc: Global, buf: &mut AnyArgumentBuffer) -> Result<IsNull, Fault>
-        ensures ok { OnOk result (buf.new ≡ buf.old ++ AnyValueKind.BigInt self ∷ []) }
-        ensures one { OnOk result (AddsOne length take buf.old buf.new) }
-        ensures err { OnErr result (buf.new ≡ buf.old) }
-        ensures told { Answers (λ told. told) Fault.OutOfMemory (Ok IsNull.No) result }
-    {
+    fn encode(self, _alloc: Global, buf: &mut AnyArgumentBuffer) -> Result<IsNull, Fault> {
         put(buf, AnyValueKind::BigInt(self))
     }
 
-    fn encode_by_ref(&self, _alloc: Global, buf: &mut AnyArgumentBuffer) -> Result<IsNull, Fault>
-        ensures ok { OnOk result (buf.new ≡ buf.old ++ AnyValueKind.BigInt self.now ∷ []) }
-        ensures one { OnOk result (AddsOne length take buf.old buf.new) }
-        ensures err { OnErr result (buf.new ≡ buf.old) }
-        ensures told { Answers (λ told. told) Fault.OutOfMemory (Ok IsNull.No) result }
-    {
+    fn encode_by_ref(&self, _alloc: Global, buf: &mut AnyArgumentBuffer) -> Result<IsNull, Fault> {
         put(buf, AnyValueKind::BigInt(*self))
     }
 

@@ -1,7 +1,6 @@
 //! Texts, owned and borrowed.
-ghost use Rattle.std.specs.Prelude.{◌≡◌, ◌++◌, ◌∷◌, [], Ok, OnErr, OnOk, codes, length, string_bytes, take};
-ghost use Rattle.sqlx_traits.specs.Arguments.{AddsOne};
-ghost use Rattle.sqlx_traits.specs.Reads.{Answers, Reads};
+ghost use Rattle.std.specs.Prelude.{◌≡◌, Ok, codes, string_bytes};
+ghost use Rattle.sqlx_traits.specs.Reads.{Reads};
 
 use super::{put, unexpected};
 use crate::{Any, AnyArgumentBuffer, AnyConnectionBackend, AnyTypeInfo, AnyValue, AnyValueKind};
@@ -53,29 +52,25 @@ impl<'s, B: AnyConnectionBackend> SqlType<Any<B>> for &'s str {
 impl<'q, B: AnyConnectionBackend> Encode<'q, Any<B>> for &str {
     ghost use Rattle.std.specs.Prelude.{◌++◌, ◌∷◌, [], None, length};
     ghost use Rattle.sqlx_any.specs.declared.value.AnyValueKind.TheVariants.{Text};
+    ghost use Rattle.sqlx_traits.specs.Arguments.{IsWantOfMemory};
+    ghost use Rattle.sqlx_traits.specs.declared.encode.IsNull.TheVariants.{No};
 
     ghost encoded = { λ text list. list ++ Text text.now ∷ [] };
+
+    ghost null = { λ _. No };
+
+    ghost refuses = { λ _. IsWantOfMemory };
 
     ghost produced = { λ _. None };
 
     ghost size = { λ text. length text.now };
 
-    fn encode(self, alloc: Global, buf: &mut AnyArgumentBuffer) -> Result<IsNull, Fault>
-        ensures ok { OnOk result (buf.new ≡ buf.old ++ AnyValueKind.Text self.now ∷ []) }
-        ensures one { OnOk result (AddsOne length take buf.old buf.new) }
-        ensures err { OnErr result (buf.new ≡ buf.old) }
-        ensures told { Answers (λ told. told) Fault.OutOfMemory (Ok IsNull.No) result }
-    {
+    fn encode(self, alloc: Global, buf: &mut AnyArgumentBuffer) -> Result<IsNull, Fault> {
         let text = UStr::new(alloc, self)?;
         put(buf, AnyValueKind::Text(text))
     }
 
-    fn encode_by_ref(&self, alloc: Global, buf: &mut AnyArgumentBuffer) -> Result<IsNull, Fault>
-        ensures ok { OnOk result (buf.new ≡ buf.old ++ AnyValueKind.Text self.now.now ∷ []) }
-        ensures one { OnOk result (AddsOne length take buf.old buf.new) }
-        ensures err { OnErr result (buf.new ≡ buf.old) }
-        ensures told { Answers (λ told. told) Fault.OutOfMemory (Ok IsNull.No) result }
-    {
+    fn encode_by_ref(&self, alloc: Global, buf: &mut AnyArgumentBuffer) -> Result<IsNull, Fault> {
         let text = UStr::new(alloc, *self)?;
         put(buf, AnyValueKind::Text(text))
     }
@@ -132,28 +127,24 @@ impl<B: AnyConnectionBackend> SqlType<Any<B>> for String {
 impl<'q, B: AnyConnectionBackend> Encode<'q, Any<B>> for String {
     ghost use Rattle.std.specs.Prelude.{◌++◌, ◌∷◌, [], None, length, string_bytes};
     ghost use Rattle.sqlx_any.specs.declared.value.AnyValueKind.TheVariants.{Text};
+    ghost use Rattle.sqlx_traits.specs.Arguments.{IsWantOfMemory};
+    ghost use Rattle.sqlx_traits.specs.declared.encode.IsNull.TheVariants.{No};
 
     ghost encoded = { λ text list. list ++ Text (string_bytes text) ∷ [] };
+
+    ghost null = { λ _. No };
+
+    ghost refuses = { λ _. IsWantOfMemory };
 
     ghost produced = { λ _. None };
 
     ghost size = { λ text. length (string_bytes text) };
 
-    fn encode(self, _alloc: Global, buf: &mut AnyArgumentBuffer) -> Result<IsNull, Fault>
-        ensures ok { OnOk result (buf.new ≡ buf.old ++ AnyValueKind.Text (string_bytes self) ∷ []) }
-        ensures one { OnOk result (AddsOne length take buf.old buf.new) }
-        ensures err { OnErr result (buf.new ≡ buf.old) }
-        ensures told { Answers (λ told. told) Fault.OutOfMemory (Ok IsNull.No) result }
-    {
+    fn encode(self, _alloc: Global, buf: &mut AnyArgumentBuffer) -> Result<IsNull, Fault> {
         put(buf, AnyValueKind::Text(UStr::from_string(self)))
     }
 
-    fn encode_by_ref(&self, alloc: Global, buf: &mut AnyArgumentBuffer) -> Result<IsNull, Fault>
-        ensures ok { OnOk result (buf.new ≡ buf.old ++ AnyValueKind.Text (string_bytes self.now) ∷ []) }
-        ensures one { OnOk result (AddsOne length take buf.old buf.new) }
-        ensures err { OnErr result (buf.new ≡ buf.old) }
-        ensures told { Answers (λ told. told) Fault.OutOfMemory (Ok IsNull.No) result }
-    {
+    fn encode_by_ref(&self, alloc: Global, buf: &mut AnyArgumentBuffer) -> Result<IsNull, Fault> {
         let text = UStr::new(alloc, self.as_str())?;
         put(buf, AnyValueKind::Text(text))
     }

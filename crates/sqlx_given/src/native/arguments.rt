@@ -30,7 +30,7 @@ impl NativeList {
     }
 
     /// Adds a value.
-    #[tactic(auto, using(crate::proofs::ArgumentLemmas::adds_one))]
+    #[tactic(auto, using(sqlx_traits::proofs::ArgumentLemmas::adds_one))]
     pub fn put(&mut self, value: NativeValue) -> Result<(), OutOfMemory>
         ensures ok { OnOk result (self.new ≡ self.old ++ value ∷ []) }
         ensures one { OnOk result (AddsOne length take self.old self.new) }

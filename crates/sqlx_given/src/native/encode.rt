@@ -1,6 +1,6 @@
 //! What the native database takes as arguments. It takes no truth values, but their nulls.
-ghost use Rattle.std.specs.Prelude.{◌≡◌, ◌++◌, ◌∷◌, [], OnErr, OnOk, length, take};
-ghost use Rattle.sqlx_traits.specs.Arguments.{AddsOne};
+ghost use Rattle.std.specs.Prelude.{◌≡◌, ◌++◌, ◌∷◌, [], IfErr, IfOk, OnErr, OnOk, length, take};
+ghost use Rattle.sqlx_traits.specs.Arguments.{AddsOne, IsWantOfMemory};
 ghost use Rattle.sqlx_given.specs.Native.{held, null_of};
 
 use super::{Native, NativeList, NativeType, NativeValue};
@@ -12,7 +12,9 @@ use std::alloc::Global;
 fn put(buf: &mut NativeList, holds: AnyValueKind) -> Result<IsNull, Fault>
     ensures ok { OnOk result (buf.new ≡ buf.old ++ held holds ∷ []) }
     ensures one { OnOk result (AddsOne length take buf.old buf.new) }
+    ensures told { IfOk result (λ told. told ≡ IsNull.No) }
     ensures err { OnErr result (buf.new ≡ buf.old) }
+    ensures refused { IfErr result (λ fault. IsWantOfMemory fault) }
 {
     let kind = Some(holds.kind());
     match buf.put(NativeValue { kind, holds }) {
@@ -25,7 +27,9 @@ fn put(buf: &mut NativeList, holds: AnyValueKind) -> Result<IsNull, Fault>
 fn put_null(buf: &mut NativeList, kind: Option<AnyTypeInfoKind>) -> Result<IsNull, Fault>
     ensures ok { OnOk result (buf.new ≡ buf.old ++ null_of kind ∷ []) }
     ensures one { OnOk result (AddsOne length take buf.old buf.new) }
+    ensures told { IfOk result (λ told. told ≡ IsNull.Yes) }
     ensures err { OnErr result (buf.new ≡ buf.old) }
+    ensures refused { IfErr result (λ fault. IsWantOfMemory fault) }
 {
     let holds = AnyValueKind::Null(AnyTypeInfoKind::Null);
     match buf.put(NativeValue { kind, holds }) {
@@ -35,9 +39,15 @@ fn put_null(buf: &mut NativeList, kind: Option<AnyTypeInfoKind>) -> Result<IsNul
 }
 
 impl<'q> Encode<'q, Native> for bool {
-    ghost use Rattle.std.specs.Prelude.{None};
+    ghost use Rattle.std.specs.Prelude.{◌≡◌, None};
+    ghost use Rattle.sqlx_text.specs.declared.fault.Fault.TheVariants.{OutOfRange};
+    ghost use Rattle.sqlx_traits.specs.declared.encode.IsNull.TheVariants.{No};
 
     ghost encoded = { λ _ list. list };
+
+    ghost null = { λ _. No };
+
+    ghost refuses = { λ _ fault. fault ≡ OutOfRange };
 
     ghost produced = { λ _. None };
 
@@ -87,10 +97,16 @@ impl SqlType<Native> for bool {
 
 impl<'q> Encode<'q, Native> for i16 {
     ghost use Rattle.std.specs.Prelude.{◌++◌, ◌∷◌, [], None};
+    ghost use Rattle.sqlx_traits.specs.Arguments.{IsWantOfMemory};
+    ghost use Rattle.sqlx_traits.specs.declared.encode.IsNull.TheVariants.{No};
     ghost use Rattle.sqlx_any.specs.declared.value.AnyValueKind.TheVariants as value;
     ghost use Rattle.sqlx_given.specs.Native.{held};
 
     ghost encoded = { λ n list. list ++ held (value.SmallInt n) ∷ [] };
+
+    ghost null = { λ _. No };
+
+    ghost refuses = { λ _. IsWantOfMemory };
 
     ghost produced = { λ _. None };
 
@@ -140,10 +156,16 @@ impl SqlType<Native> for i16 {
 
 impl<'q> Encode<'q, Native> for i32 {
     ghost use Rattle.std.specs.Prelude.{◌++◌, ◌∷◌, [], None};
+    ghost use Rattle.sqlx_traits.specs.Arguments.{IsWantOfMemory};
+    ghost use Rattle.sqlx_traits.specs.declared.encode.IsNull.TheVariants.{No};
     ghost use Rattle.sqlx_any.specs.declared.value.AnyValueKind.TheVariants as value;
     ghost use Rattle.sqlx_given.specs.Native.{held};
 
     ghost encoded = { λ n list. list ++ held (value.Integer n) ∷ [] };
+
+    ghost null = { λ _. No };
+
+    ghost refuses = { λ _. IsWantOfMemory };
 
     ghost produced = { λ _. None };
 
@@ -193,10 +215,16 @@ impl SqlType<Native> for i32 {
 
 impl<'q> Encode<'q, Native> for i64 {
     ghost use Rattle.std.specs.Prelude.{◌++◌, ◌∷◌, [], None};
+    ghost use Rattle.sqlx_traits.specs.Arguments.{IsWantOfMemory};
+    ghost use Rattle.sqlx_traits.specs.declared.encode.IsNull.TheVariants.{No};
     ghost use Rattle.sqlx_any.specs.declared.value.AnyValueKind.TheVariants as value;
     ghost use Rattle.sqlx_given.specs.Native.{held};
 
     ghost encoded = { λ n list. list ++ held (value.BigInt n) ∷ [] };
+
+    ghost null = { λ _. No };
+
+    ghost refuses = { λ _. IsWantOfMemory };
 
     ghost produced = { λ _. None };
 
@@ -246,10 +274,16 @@ impl SqlType<Native> for i64 {
 
 impl<'q> Encode<'q, Native> for String {
     ghost use Rattle.std.specs.Prelude.{◌++◌, ◌∷◌, [], None, string_bytes};
+    ghost use Rattle.sqlx_traits.specs.Arguments.{IsWantOfMemory};
+    ghost use Rattle.sqlx_traits.specs.declared.encode.IsNull.TheVariants.{No};
     ghost use Rattle.sqlx_any.specs.declared.value.AnyValueKind.TheVariants as value;
     ghost use Rattle.sqlx_given.specs.Native.{held};
 
     ghost encoded = { λ text list. list ++ held (value.Text (string_bytes text)) ∷ [] };
+
+    ghost null = { λ _. No };
+
+    ghost refuses = { λ _. IsWantOfMemory };
 
     ghost produced = { λ _. None };
 
@@ -300,10 +334,16 @@ impl SqlType<Native> for String {
 
 impl<'q> Encode<'q, Native> for Vec<u8> {
     ghost use Rattle.std.specs.Prelude.{◌++◌, ◌∷◌, [], None};
+    ghost use Rattle.sqlx_traits.specs.Arguments.{IsWantOfMemory};
+    ghost use Rattle.sqlx_traits.specs.declared.encode.IsNull.TheVariants.{No};
     ghost use Rattle.sqlx_any.specs.declared.value.AnyValueKind.TheVariants as value;
     ghost use Rattle.sqlx_given.specs.Native.{held};
 
     ghost encoded = { λ bytes list. list ++ held (value.Blob bytes.items) ∷ [] };
+
+    ghost null = { λ _. No };
+
+    ghost refuses = { λ _. IsWantOfMemory };
 
     ghost produced = { λ _. None };
 
@@ -354,9 +394,15 @@ impl SqlType<Native> for Vec<u8> {
 
 impl<'q, T: Encode<'q, Native> + SqlType<Native>> Encode<'q, Native> for Option<T> {
     ghost use Rattle.std.specs.Prelude.{◌++◌, ◌∷◌, [], None, Some};
+    ghost use Rattle.sqlx_traits.specs.Arguments.{IsWantOfMemory};
+    ghost use Rattle.sqlx_traits.specs.declared.encode.IsNull.TheVariants.{Yes};
     ghost use Rattle.sqlx_given.specs.Native.{null_of};
 
     ghost encoded = { λ x list. elim x [ None ↦ list ++ null_of T.own_type.kind ∷ [] | Some y ↦ T.encoded y list ] };
+
+    ghost null = { λ x. elim x [ None ↦ Yes | Some y ↦ T.null y ] };
+
+    ghost refuses = { λ x fault. elim x [ None ↦ IsWantOfMemory fault | Some y ↦ T.refuses y fault ] };
 
     ghost produced = { λ _. None };
 
