@@ -1,8 +1,7 @@
 //! For tests of queries: connections that give steps by letters, what their backend was handed, values
-//! that can't be bound, and what answers come to.
+//! that can't be bound, and what refusals say.
 #![tactic(auto)]
 
-pub mod answers;
 pub mod handed;
 pub mod pairs;
 pub mod refusals;

@@ -10,9 +10,15 @@ use std::alloc::Global;
 pub struct Unfit;
 
 impl<'q> Encode<'q, Any<Given>> for Unfit {
-    ghost use Rattle.std.specs.Prelude.{None};
+    ghost use Rattle.std.specs.Prelude.{◌≡◌, None};
+    ghost use Rattle.sqlx_text.specs.declared.fault.Fault.TheVariants.{OutOfRange};
+    ghost use Rattle.sqlx_traits.specs.declared.encode.IsNull.TheVariants.{No};
 
     ghost encoded = { λ _ list. list };
+
+    ghost null = { λ _. No };
+
+    ghost refuses = { λ _ fault. fault ≡ OutOfRange };
 
     ghost produced = { λ _. None };
 

@@ -2,10 +2,10 @@
 ghost use Rattle.std.specs.Prelude.{◌≡◌, Bool, IfOk};
 
 use sqlx_any::{Any, AnyArguments};
-use sqlx_asked::answers::{held, is, refuses, took};
 use sqlx_asked::handed::{changed, numbered, opened, was_handed};
 use sqlx_asked::pairs::{HalfPairs, Pairs};
 use sqlx_asked::unfit::Unfit;
+use sqlx_given::answers::{held, is, refuses, took};
 use sqlx_given::backend::Given;
 use sqlx_query::{QueryBuilder, Separated, placeholders_are_arguments};
 use sqlx_text::{Error, OutOfMemory};

@@ -1,5 +1,6 @@
 -- Statements that are built piece by piece.
 use Rattle.std.specs.Prelude.{◌≡◌, ℕ, ◌+◌, ◌≤◌, Bool, true, false, List, [], ◌∷◌, ◌++◌, codes, take}
+use Rattle.sqlx_text.specs.declared.fault.Fault.{Fault}
 use Rattle.sqlx_traits.specs.Arguments.{AddsOne}
 
 -- a piece of a statement: a text, or a bound value, as its placeholder and what it makes of the arguments
@@ -111,6 +112,10 @@ abbrev pub GainsTuples : {L W T : Type 0} → (L → ℕ) → (ℕ → L → L) 
 GainsTuples {L} {W} {T} count first drained writes w around before now =
     (items : List T) × (written : List (List (Piece L))) × (last : W)
     × drained items × WritesEach writes w items written last × Gains count first before (around (tuples_of written)) now
+
+-- a writer, after some of the tuples, may refuse one with the fault
+abbrev pub RefusesTuple : {W T : Type 0} → (W → T → Fault → Type 0) → Fault → Type 0
+RefusesTuple {W} {T} refuses fault = (w : W) × (item : T) × refuses w item fault
 
 -- a draft that gains pieces has one argument more for each placeholder among them
 abbrev pub CountsPlaceholders : {L : Type 0} → (L → ℕ) → (ℕ → L → L) → Type 0

@@ -77,7 +77,7 @@ impl<'q, DB: Database> Query<'q, DB, DB::Arguments> {
     /// Adds an argument. A value that can't be encoded is told when the query runs, as `Encode`; after it nothing is added.
     pub fn bind<'t, T: Encode<'t, DB> + SqlType<DB> + Drop>(self, alloc: Global, value: T) -> Self
         ensures rest { result ≡ record self.entry { arguments = result.arguments } }
-        ensures arguments { Binds DB.ArgumentBuffer.count DB.ArgumentBuffer.first DB.Arguments.buffered (T.encoded value) self.entry.arguments result.arguments }
+        ensures arguments { Binds DB.ArgumentBuffer.count DB.ArgumentBuffer.first DB.Arguments.buffered (T.encoded value) (T.refuses value) self.entry.arguments result.arguments }
     {
         Query {
             statement: self.statement,
@@ -95,7 +95,8 @@ impl<'q, DB: Database> Query<'q, DB, DB::Arguments> {
         ensures rest { self.new ≡ record self.old { arguments = self.new.arguments } }
         ensures ok { OnOk result (Bound DB.ArgumentBuffer.count DB.ArgumentBuffer.first DB.Arguments.buffered (T.encoded value) self.old.arguments self.new.arguments) }
         ensures err { OnErr result (self.new ≡ self.old) }
-        ensures refused { ¬ CanBind self.old.arguments → result ≡ Err after_a_fault }
+        ensures refused { IfErr result (λ fault. CanBind self.old.arguments → T.refuses value fault) }
+        ensures after { ¬ CanBind self.old.arguments → result ≡ Err after_a_fault }
     {
         match &mut self.arguments {
             Ok(Some(arguments)) => add::<DB, T>(alloc, arguments, value),
@@ -112,7 +113,7 @@ fn bound<'t, DB: Database, T: Encode<'t, DB> + SqlType<DB> + Drop>(
     arguments: Result<Option<DB::Arguments>, Fault>,
     value: T,
 ) -> Result<Option<DB::Arguments>, Fault>
-    ensures { Binds DB.ArgumentBuffer.count DB.ArgumentBuffer.first DB.Arguments.buffered (T.encoded value) arguments result }
+    ensures { Binds DB.ArgumentBuffer.count DB.ArgumentBuffer.first DB.Arguments.buffered (T.encoded value) (T.refuses value) arguments result }
 {
     match arguments {
         Ok(Some(arguments)) => added::<DB, T>(alloc, arguments, value),
@@ -126,7 +127,7 @@ fn added<'t, DB: Database, T: Encode<'t, DB> + SqlType<DB>>(
     arguments: DB::Arguments,
     value: T,
 ) -> Result<Option<DB::Arguments>, Fault>
-    ensures { AddsOrFails DB.ArgumentBuffer.count DB.ArgumentBuffer.first DB.Arguments.buffered (T.encoded value) arguments result }
+    ensures { AddsOrFails DB.ArgumentBuffer.count DB.ArgumentBuffer.first DB.Arguments.buffered (T.encoded value) (T.refuses value) arguments result }
 {
     let mut arguments = arguments;
     let number = arguments.len() as u128 + 1;
@@ -141,7 +142,7 @@ fn added<'t, DB: Database, T: Encode<'t, DB> + SqlType<DB>>(
 
 // The fault of an argument that can't be encoded, with its number.
 fn unencoded(alloc: Global, number: u128, fault: Fault) -> Fault
-    ensures { IsUnencoded number result }
+    ensures { IsUnencoded (λ why. why ≡ fault) number result }
 {
     match fault {
         Fault::OutOfMemory => Fault::OutOfMemory,

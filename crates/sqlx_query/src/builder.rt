@@ -1,10 +1,11 @@
 //! Statements that are built piece by piece: texts, and values that are bound to placeholders.
-ghost use Rattle.std.specs.Prelude.{◌≡◌, ◌≤◌, ◌∷◌, ◌++◌, [], Bool, IfOk, IfSome, List, OnErr, OnOk, codes, length, string_bytes, take, None, Ok};
+ghost use Rattle.std.specs.Prelude.{◌≡◌, ◌≤◌, ◌∷◌, ◌++◌, [], Bool, IfErr, IfOk, IfSome, List, OnErr, OnOk, codes, length, string_bytes, take, None, Ok};
 ghost use Rattle.std.specs.Iterator.{Drains, IsFinite};
 ghost use Rattle.std.specs.Str.{IsUtf8};
 ghost use Rattle.sqlx_text.specs.declared.fault.Fault.{Fault};
 ghost use Rattle.sqlx_traits.specs.Arguments.{AddsOne};
 ghost use Rattle.sqlx_query.specs.Query as asked;
+ghost use Rattle.sqlx_query.specs.Binding.{OrWantOfMemory};
 ghost use Rattle.sqlx_query.specs.Builder.{Gains, IsPlaceholder, Piece, begun, cut_to, with_piece};
 
 use crate::growing_text::GrowingText;
@@ -102,6 +103,7 @@ impl<DB: Database> QueryBuilder<DB> {
             × IsPlaceholder DB.Arguments.buffered DB.Arguments.placeholder self.new.arguments placeholder
             × Gains DB.ArgumentBuffer.count DB.ArgumentBuffer.first self.old (Piece.Bound placeholder (T.encoded value) ∷ []) self.new) }
         ensures err { OnErr result (self.new ≡ self.old) }
+        ensures refused { IfErr result (OrWantOfMemory (T.refuses value)) }
     {
         self.bind(alloc, value)
     }
@@ -234,6 +236,7 @@ impl<DB: Database> QueryBuilder<DB> {
             × (self.new ≡ with_piece self.old (Piece.Bound placeholder (T.encoded value)))) }
         ensures one { OnOk result (AddsOne DB.ArgumentBuffer.count DB.ArgumentBuffer.first self.old.arguments self.new.arguments) }
         ensures err { OnErr result (self.new ≡ self.old) }
+        ensures refused { IfErr result (OrWantOfMemory (T.refuses value)) }
     {
         let before = self.arguments.len();
         add::<DB, T>(alloc, &mut self.arguments, value)?;

@@ -38,7 +38,7 @@ impl<'q, DB: Database, O> QueryScalar<'q, DB, O, DB::Arguments> {
     /// Adds an argument, as [`Query::bind`] does.
     pub fn bind<'t, T: Encode<'t, DB> + SqlType<DB> + Drop>(self, alloc: Global, value: T) -> Self
         ensures rest { result.query ≡ record self.entry.query { arguments = result.query.arguments } }
-        ensures arguments { Binds DB.ArgumentBuffer.count DB.ArgumentBuffer.first DB.Arguments.buffered (T.encoded value) self.entry.query.arguments result.query.arguments }
+        ensures arguments { Binds DB.ArgumentBuffer.count DB.ArgumentBuffer.first DB.Arguments.buffered (T.encoded value) (T.refuses value) self.entry.query.arguments result.query.arguments }
     {
         QueryScalar::new(self.query.bind(alloc, value))
     }

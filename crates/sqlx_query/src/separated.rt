@@ -1,6 +1,7 @@
 //! Lists whose entries are appended to a statement with a separator between them.
-ghost use Rattle.std.specs.Prelude.{◌≡◌, ◌∷◌, [], Bool, OnErr, OnOk};
+ghost use Rattle.std.specs.Prelude.{◌≡◌, ◌∷◌, [], Bool, IfErr, OnErr, OnOk};
 ghost use Rattle.sqlx_text.specs.declared.fault.Fault.{Fault};
+ghost use Rattle.sqlx_query.specs.Binding.{OrWantOfMemory};
 ghost use Rattle.sqlx_query.specs.Builder.{Gains, IsPlaceholder, Piece, entry, with_piece};
 
 use crate::QueryBuilder;
@@ -60,6 +61,7 @@ impl<'qb, DB: Database> Separated<'qb, DB> {
             × IsPlaceholder DB.Arguments.buffered DB.Arguments.placeholder self.new.builder.now.arguments placeholder
             × Gains DB.ArgumentBuffer.count DB.ArgumentBuffer.first self.old.builder.now (entry self.old.has_piece self.old.separator.now (Piece.Bound placeholder (T.encoded value))) self.new.builder.now)) }
         ensures err { OnErr result ((self.new.has_piece ≡ self.old.has_piece) × (self.new.builder.now ≡ self.old.builder.now)) }
+        ensures refused { IfErr result (OrWantOfMemory (T.refuses value)) }
     {
         let mark = self.builder.mark();
         self.begin_entry()?;
@@ -87,6 +89,7 @@ impl<'qb, DB: Database> Separated<'qb, DB> {
             × IsPlaceholder DB.Arguments.buffered DB.Arguments.placeholder self.new.builder.now.arguments placeholder
             × Gains DB.ArgumentBuffer.count DB.ArgumentBuffer.first self.old.builder.now (Piece.Bound placeholder (T.encoded value) ∷ []) self.new.builder.now) }
         ensures err { OnErr result (self.new.builder.now ≡ self.old.builder.now) }
+        ensures refused { IfErr result (OrWantOfMemory (T.refuses value)) }
     {
         self.builder.bind(alloc, value)
     }

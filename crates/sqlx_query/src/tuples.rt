@@ -1,7 +1,8 @@
 //! Lists of tuples in parentheses, for `VALUES` and `IN`, written by a `PushTuple`.
-ghost use Rattle.std.specs.Prelude.{◌≡◌, ◌∷◌, ◌++◌, [], Bool, List, OnErr, OnOk, codes};
+ghost use Rattle.std.specs.Prelude.{◌≡◌, ◌∷◌, ◌++◌, [], Bool, IfErr, List, OnErr, OnOk, codes};
 ghost use Rattle.std.specs.Iterator.{Drains, IsFinite};
-ghost use Rattle.sqlx_query.specs.Builder.{Extends, Gains, GainsTuples, Piece, entry, tuple, with_pieces};
+ghost use Rattle.sqlx_query.specs.Binding.{OrWantOfMemory};
+ghost use Rattle.sqlx_query.specs.Builder.{Extends, Gains, GainsTuples, Piece, RefusesTuple, entry, tuple, with_pieces};
 
 use crate::{PushTuple, QueryBuilder, Separated};
 use sqlx_text::{Fault, OutOfMemory};
@@ -24,6 +25,7 @@ impl<DB: Database> QueryBuilder<DB> {
         ensures ok { OnOk result (GainsTuples DB.ArgumentBuffer.count DB.ArgumentBuffer.first (Drains I.next_gives tuples) F.writes push_tuple
             (λ list. Piece.Text (codes "VALUES ") ∷ list) self.old self.new) }
         ensures err { OnErr result (self.new ≡ self.old) }
+        ensures refused { IfErr result (OrWantOfMemory (RefusesTuple F.refuses)) }
     {
         let mark = self.mark();
         match self.write_values(alloc, tuples, push_tuple) {
@@ -48,6 +50,7 @@ impl<DB: Database> QueryBuilder<DB> {
         ensures ok { OnOk result (GainsTuples DB.ArgumentBuffer.count DB.ArgumentBuffer.first (Drains I.next_gives tuples) F.writes push_tuple
             (λ list. Piece.Text (codes " (") ∷ (list ++ Piece.Text (codes ") ") ∷ [])) self.old self.new) }
         ensures err { OnErr result (self.new ≡ self.old) }
+        ensures refused { IfErr result (OrWantOfMemory (RefusesTuple F.refuses)) }
     {
         let mark = self.mark();
         match self.write_group(alloc, tuples, push_tuple) {
@@ -71,6 +74,7 @@ impl<DB: Database> QueryBuilder<DB> {
         ensures appends { Extends DB.ArgumentBuffer.count DB.ArgumentBuffer.first self.old self.new }
         ensures ok { OnOk result (GainsTuples DB.ArgumentBuffer.count DB.ArgumentBuffer.first (Drains I.next_gives tuples) F.writes push_tuple
             (λ list. Piece.Text (codes "VALUES ") ∷ list) self.old self.new) }
+        ensures refused { IfErr result (OrWantOfMemory (RefusesTuple F.refuses)) }
     {
         self.append("VALUES ")?;
         self.write_tuples(alloc, tuples, push_tuple)?;
@@ -88,6 +92,7 @@ impl<DB: Database> QueryBuilder<DB> {
         ensures appends { Extends DB.ArgumentBuffer.count DB.ArgumentBuffer.first self.old self.new }
         ensures ok { OnOk result (GainsTuples DB.ArgumentBuffer.count DB.ArgumentBuffer.first (Drains I.next_gives tuples) F.writes push_tuple
             (λ list. Piece.Text (codes " (") ∷ (list ++ Piece.Text (codes ") ") ∷ [])) self.old self.new) }
+        ensures refused { IfErr result (OrWantOfMemory (RefusesTuple F.refuses)) }
     {
         self.append(" (")?;
         self.write_tuples(alloc, tuples, push_tuple)?;
@@ -106,6 +111,7 @@ impl<DB: Database> QueryBuilder<DB> {
         ensures appends { Extends DB.ArgumentBuffer.count DB.ArgumentBuffer.first self.old self.new }
         ensures ok { OnOk result (GainsTuples DB.ArgumentBuffer.count DB.ArgumentBuffer.first (Drains I.next_gives tuples) F.writes push_tuple
             (λ list. list) self.old self.new) }
+        ensures refused { IfErr result (OrWantOfMemory (RefusesTuple F.refuses)) }
     {
         let mut later = false;
         for item in tuples {
@@ -126,6 +132,7 @@ impl<DB: Database> QueryBuilder<DB> {
         ensures ok { OnOk result ((pieces : List (Piece DB.ArgumentBuffer))
             × F.writes push_tuple.old item pieces push_tuple.new
             × Gains DB.ArgumentBuffer.count DB.ArgumentBuffer.first self.old (tuple later pieces) self.new) }
+        ensures refused { IfErr result (OrWantOfMemory (F.refuses push_tuple.old item)) }
     {
         self.open_tuple(alloc, later)?;
         self.fill_tuple(alloc, push_tuple, item)?;
@@ -156,6 +163,7 @@ impl<DB: Database> QueryBuilder<DB> {
         ensures ok { OnOk result ((pieces : List (Piece DB.ArgumentBuffer))
             × F.writes push_tuple.old item pieces push_tuple.new
             × Gains DB.ArgumentBuffer.count DB.ArgumentBuffer.first self.old pieces self.new) }
+        ensures refused { IfErr result (F.refuses push_tuple.old item) }
     {
         let mut row = Separated {
             builder: self,

@@ -1,9 +1,9 @@
 //! The seven running calls of a raw text.
 
 use sqlx_any::Any;
-use sqlx_asked::answers::{comes, comes_as_result, count, given, held, is, is_none, says};
 use sqlx_asked::handed::{GivenConnection, changed, number, opened, was_handed_raw};
 use sqlx_asked::refusals::NO_ROW;
+use sqlx_given::answers::{comes, comes_as_result, count, given, held, is, is_none, says};
 use sqlx_given::backend::Given;
 use sqlx_query::{RawSql, raw_sql};
 use sqlx_text::{Error, OutOfMemory};

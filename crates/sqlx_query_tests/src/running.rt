@@ -1,9 +1,9 @@
 //! The seven running calls of a query, and its arguments.
 
 use sqlx_any::{Any, AnyArguments, AnyRow};
-use sqlx_asked::answers::{comes, comes_as_result, count, given, held, is, is_none, says, took};
 use sqlx_asked::handed::{GivenConnection, changed, number, numbered, opened, was_handed};
 use sqlx_asked::refusals::NO_ROW;
+use sqlx_given::answers::{comes, comes_as_result, count, given, held, is, is_none, says, took};
 use sqlx_given::backend::Given;
 use sqlx_query::{Query, query, query_with, query_with_result};
 use sqlx_text::{Error, Fault, OutOfMemory};
