@@ -11,6 +11,7 @@ use Rattle.sqlx_script.specs.Words.{is_blank, words_of, ends_well, lines_of, lon
 use Rattle.sqlx_script.specs.Numbers.{◌>>=◌, is_number, has_leading_zero, number_in, value, plain_value, minus_value, limit_nanos, millis, nanos, exactly}
 use Rattle.sqlx_script.specs.Letters.{plus_or_minus, hook_letter, after_connect_letter, connect_letter, statement_letter, sign, statement, poll_answers, give_answers, switches}
 use Rattle.sqlx_script.specs.Rows.{row, ended, words0, words1, words2, words3, words4, words5}
+use Rattle.sqlx_script.proofs.Rows.{bound}
 use Rattle.sqlx_script.specs.Laws.{is_plain, is_script_byte}
 use Rattle.sqlx_script.specs.Grammar.{step_of, event_words, pool_words, event_of, pool_of, whole, Reading, reading_at, reading_from, Script, script_after, script_lines, IsScript}
 use Rattle.sqlx_script.specs.declared.answers.HookAnswer.{HookAnswer}
@@ -52,13 +53,6 @@ text_plain (b ∷ text) h = elim (cases_Bool (is_blank b)) [
       let parts = onto_plain b (slice_split is_blank text) split in
       and_from (is_plain b) (plain text) parts.0 (text_plain text parts.1)
 ]
-
--- ---- steps
-
--- what was made of a value was made of one that is there
-bound : {A B : Type 0} (o : Option A) (f : A → Option B) (y : B) → (o >>= f) ≡ Some y → (x : A) × (o ≡ Some x) × (f x ≡ Some y)
-bound (Some x) f y h = (x, refl, h)
-bound None f y h = cc
 
 -- ---- the kinds of words
 
@@ -330,7 +324,7 @@ whole_ok f line r tame h = elim (cases_Bool (ends_well line)) [
 
 event_ok : (line : List ℕ) (e : Event) → event_of line ≡ Some e → ok line ≡ true
 unfolding event_of
-event_ok line e h = let read = bound (whole event_words line) _ e h in whole_ok event_words line read.0 event_plain read.1
+event_ok line e h = whole_ok event_words line e event_plain h
 
 pool_ok : (line : List ℕ) (p : PoolLine) → pool_of line ≡ Some p → ok line ≡ true
 unfolding pool_of

@@ -5,7 +5,6 @@ use Rattle.sqlx_script.specs.Words.{lines_of, ends_well, words_of}
 use Rattle.sqlx_script.specs.Numbers.{◌>>=◌, number_in, millis, nanos, name_number, key, opens, value, limit_nanos, any, exactly}
 use Rattle.sqlx_script.specs.Letters.{sign, statement, poll_answers, give_answers, switches}
 use Rattle.sqlx_script.specs.Rows.{row, ended, words0, words1, words2, words3, words4, words5}
-use Rattle.sqlx_script.specs.Built.{is_built}
 use Rattle.sqlx_script.specs.declared.pool_line.PoolLine.{PoolLine}
 use Rattle.sqlx_script.specs.declared.step.Event.{Event}
 use Rattle.sqlx_script.specs.declared.step.Step.{Step}
@@ -68,9 +67,9 @@ pool_words =
 abbrev pub whole : {R : Type 0} → (List (List ℕ) → Option R) → List ℕ → Option R
 whole f line = if ends_well line then f (words_of line) else None
 
--- the event of a line, if it is one that is played
+-- the event of a line after the first
 unfoldable pub event_of : List ℕ → Option Event
-event_of line = whole event_words line >>= λ event. if is_built event.step then Some event else None
+event_of line = whole event_words line
 
 -- what a first line says
 unfoldable pub pool_of : List ℕ → Option PoolLine

@@ -2,9 +2,8 @@
 ghost use Rattle.std.specs.Prelude.{◌≡◌, ◌≤◌, IfSome, true};
 ghost use Rattle.sqlx_script.specs.Built.{is_built};
 ghost use Rattle.std.specs.Str.{bytes_eq};
-ghost use Rattle.sqlx_script.specs.Grammar.{step_of, event_of, pool_of, event_words, pool_words, whole};
+ghost use Rattle.sqlx_script.specs.Grammar.{step_of, event_of, pool_of};
 
-use crate::built::is_built;
 use crate::fields;
 use crate::numbers::NANOS;
 use crate::pool_line::PoolLine;
@@ -69,10 +68,11 @@ fn step(name: &[u8], words: &mut Words<'_>) -> Option<Step>
     }
 }
 
-// The event of a line, played or not.
-#[tactic(auto, using(crate::proofs::Rows::reads), unfolding(crate::specs::Grammar::event_words))]
-fn whole_event(line: &[u8]) -> Option<Event>
-    ensures { result ≡ whole event_words line.now }
+/// What a line after the first says, if it is an event.
+#[tactic(auto, using(crate::proofs::Rows::reads, crate::proofs::FewOpens::step_few), unfolding(crate::specs::Grammar::event_of, crate::specs::Grammar::event_words))]
+pub fn read_event(line: &[u8]) -> Option<Event>
+    ensures says { result ≡ event_of line.now }
+    ensures built { IfSome result (λ event. is_built event.step ≡ true) }
 {
     let mut words = Words::of_line(line)?;
     let name = words.next()?;
@@ -84,24 +84,10 @@ fn whole_event(line: &[u8]) -> Option<Event>
     })
 }
 
-/// What a line after the first says, if it is an event that is played.
-#[tactic(auto, unfolding(crate::specs::Grammar::event_of))]
-pub fn read_event(line: &[u8]) -> Option<Event>
-    ensures says { result ≡ event_of line.now }
-    ensures built { IfSome result (λ event. is_built event.step ≡ true) }
-{
-    let event = whole_event(line)?;
-    if is_built(&event.step) {
-        Some(event)
-    } else {
-        None
-    }
-}
-
-// What a first line says, played or not.
-#[tactic(auto, using(crate::proofs::Rows::reads), unfolding(crate::specs::Grammar::pool_words))]
-fn whole_pool_line(line: &[u8]) -> Option<PoolLine>
-    ensures says { result ≡ whole pool_words line.now }
+/// What a first line says.
+#[tactic(auto, using(crate::proofs::Rows::reads), unfolding(crate::specs::Grammar::pool_of, crate::specs::Grammar::pool_words))]
+pub fn read_pool_line(line: &[u8]) -> Option<PoolLine>
+    ensures says { result ≡ pool_of line.now }
     ensures some { IfSome result (λ pool. 1 ≤ pool.max) }
 {
     let mut words = Words::of_line(line)?;
@@ -123,13 +109,4 @@ fn whole_pool_line(line: &[u8]) -> Option<PoolLine>
         before_acquire: on.before_acquire,
         after_release: on.after_release,
     })
-}
-
-/// What a first line says.
-#[tactic(auto, unfolding(crate::specs::Grammar::pool_of))]
-pub fn read_pool_line(line: &[u8]) -> Option<PoolLine>
-    ensures says { result ≡ pool_of line.now }
-    ensures some { IfSome result (λ pool. 1 ≤ pool.max) }
-{
-    whole_pool_line(line)
 }
