@@ -1,11 +1,11 @@
 -- An event tells no more connects than a line may tell of.
-use Rattle.std.proofs.Common.{◌≡◌, ℕ, ◌==◌, ◌&&◌, Bool, true, false, not, cond, List, [], ◌∷◌, Option, Some, None, length, codes, refl, nat_lt, nat_le, arith}
+use Rattle.std.proofs.Common.{◌≡◌, ℕ, Bool, true, false, cond, List, [], ◌∷◌, Option, Some, codes, refl, arith}
 use Rattle.std.specs.Str.{bytes_eq}
 use Rattle.std.proofs.lemmas.Bool.Decides.{nat_tests}
 use Rattle.sqlx_script.specs.Numbers.{number_in, opens}
 use Rattle.sqlx_script.specs.Rows.{row, ended, words0, words1, words2, words3, words4, words5}
 use Rattle.sqlx_script.specs.Built.{is_few, is_built}
-use Rattle.sqlx_script.specs.Grammar.{step_of}
+use Rattle.sqlx_script.specs.Grammar.{statement_of, step_of}
 use Rattle.sqlx_script.specs.declared.step.Step.{Step}
 use Rattle.sqlx_script.specs.declared.step.Step.TheVariants.{Ask, Poll, Cancel, Try, Give, End, Detach, Leak, Reap, Min, CloseState, Begin, Custom, Put, Del, Get, Commit, Rollback, GiveUp, Close}
 use Rattle.sqlx_script.proofs.Rows.{bound}
@@ -80,6 +80,19 @@ choose : (b : Bool) (here others : Option Step) (step : Step) → cond b here ot
 choose true here others step h few rest = few h
 choose false here others step h few rest = rest h
 
+statement_few : (name : List ℕ) → Few (statement_of name)
+unfolding statement_of
+statement_few name fields step h =
+    choose (bytes_eq name (codes "begin")) _ _ step h (none3 _ _ _ Begin (λ _ _ _. refl) fields step) (λ h1.
+    choose (bytes_eq name (codes "custom")) _ _ step h1 (none4 _ _ _ _ Custom (λ _ _ _ _. refl) fields step) (λ h2.
+    choose (bytes_eq name (codes "put")) _ _ step h2 (none5 _ _ _ _ _ Put (λ _ _ _ _ _. refl) fields step) (λ h3.
+    choose (bytes_eq name (codes "del")) _ _ step h3 (none4 _ _ _ _ Del (λ _ _ _ _. refl) fields step) (λ h4.
+    choose (bytes_eq name (codes "get")) _ _ step h4 (none4 _ _ _ _ Get (λ _ _ _ _. refl) fields step) (λ h5.
+    choose (bytes_eq name (codes "commit")) _ _ step h5 (none3 _ _ _ Commit (λ _ _ _. refl) fields step) (λ h6.
+    choose (bytes_eq name (codes "rollback")) _ _ step h6 (none3 _ _ _ Rollback (λ _ _ _. refl) fields step) (λ h7.
+    choose (bytes_eq name (codes "giveup")) _ _ step h7 (none2 _ _ GiveUp (λ _ _. refl) fields step) (λ h8.
+    cc))))))))
+
 -- the step of a name and its fields tells few
 pub step_few : (name : List ℕ) → Few (step_of name)
 unfolding step_of
@@ -95,13 +108,5 @@ step_few name fields step h =
     choose (bytes_eq name (codes "reap")) _ _ step h8 (last1 Reap (λ _ h. h) fields step) (λ h9.
     choose (bytes_eq name (codes "min")) _ _ step h9 (last1 Min (λ _ h. h) fields step) (λ h10.
     choose (bytes_eq name (codes "closed")) _ _ step h10 (none0 CloseState refl fields step) (λ h11.
-    choose (bytes_eq name (codes "begin")) _ _ step h11 (none3 _ _ _ Begin (λ _ _ _. refl) fields step) (λ h12.
-    choose (bytes_eq name (codes "custom")) _ _ step h12 (none4 _ _ _ _ Custom (λ _ _ _ _. refl) fields step) (λ h13.
-    choose (bytes_eq name (codes "put")) _ _ step h13 (none5 _ _ _ _ _ Put (λ _ _ _ _ _. refl) fields step) (λ h14.
-    choose (bytes_eq name (codes "del")) _ _ step h14 (none4 _ _ _ _ Del (λ _ _ _ _. refl) fields step) (λ h15.
-    choose (bytes_eq name (codes "get")) _ _ step h15 (none4 _ _ _ _ Get (λ _ _ _ _. refl) fields step) (λ h16.
-    choose (bytes_eq name (codes "commit")) _ _ step h16 (none3 _ _ _ Commit (λ _ _ _. refl) fields step) (λ h17.
-    choose (bytes_eq name (codes "rollback")) _ _ step h17 (none3 _ _ _ Rollback (λ _ _ _. refl) fields step) (λ h18.
-    choose (bytes_eq name (codes "giveup")) _ _ step h18 (none2 _ _ GiveUp (λ _ _. refl) fields step) (λ h19.
-    choose (bytes_eq name (codes "close")) _ _ step h19 (none0 Close refl fields step) (λ h20.
-    cc))))))))))))))))))))
+    choose (bytes_eq name (codes "close")) _ _ step h11 (none0 Close refl fields step) (λ h12.
+    statement_few name fields step h12))))))))))))

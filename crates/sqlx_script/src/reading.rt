@@ -2,7 +2,7 @@
 ghost use Rattle.std.specs.Prelude.{◌≡◌, ◌≤◌, IfSome, true};
 ghost use Rattle.sqlx_script.specs.Built.{is_built};
 ghost use Rattle.std.specs.Str.{bytes_eq};
-ghost use Rattle.sqlx_script.specs.Grammar.{step_of, event_of, pool_of};
+ghost use Rattle.sqlx_script.specs.Grammar.{statement_of, step_of, event_of, limits_after, pool_of};
 
 use crate::fields;
 use crate::numbers::NANOS;
@@ -16,6 +16,32 @@ fn is(word: &[u8], text: &[u8]) -> bool
     ensures { result ≡ bytes_eq word.now text.now }
 {
     word == text
+}
+
+// What follows the moment, for the name of a statement.
+#[tactic(auto, unfolding(crate::specs::Grammar::statement_of))]
+fn statement(name: &[u8], words: &mut Words<'_>) -> Option<Step>
+    ensures { result ≡ statement_of name.now words.old }
+{
+    if is(name, b"begin") {
+        fields::begin(words)
+    } else if is(name, b"custom") {
+        fields::custom(words)
+    } else if is(name, b"put") {
+        fields::put(words)
+    } else if is(name, b"del") {
+        fields::del(words)
+    } else if is(name, b"get") {
+        fields::get(words)
+    } else if is(name, b"commit") {
+        fields::commit(words)
+    } else if is(name, b"rollback") {
+        fields::rollback(words)
+    } else if is(name, b"giveup") {
+        fields::give_up(words)
+    } else {
+        None
+    }
 }
 
 // What follows the moment.
@@ -45,26 +71,10 @@ fn step(name: &[u8], words: &mut Words<'_>) -> Option<Step>
         fields::min(words)
     } else if is(name, b"closed") {
         fields::close_state(words)
-    } else if is(name, b"begin") {
-        fields::begin(words)
-    } else if is(name, b"custom") {
-        fields::custom(words)
-    } else if is(name, b"put") {
-        fields::put(words)
-    } else if is(name, b"del") {
-        fields::del(words)
-    } else if is(name, b"get") {
-        fields::get(words)
-    } else if is(name, b"commit") {
-        fields::commit(words)
-    } else if is(name, b"rollback") {
-        fields::rollback(words)
-    } else if is(name, b"giveup") {
-        fields::give_up(words)
     } else if is(name, b"close") {
         fields::close(words)
     } else {
-        None
+        statement(name, words)
     }
 }
 
@@ -84,6 +94,28 @@ pub fn read_event(line: &[u8]) -> Option<Event>
     })
 }
 
+// How old connections may grow, what is asked of them, and these maximum, minimum and nanoseconds to wait.
+#[tactic(auto, using(crate::proofs::Rows::reads), unfolding(crate::specs::Grammar::limits_after))]
+fn limits(words: &mut Words<'_>, max: u32, min: u32, timeout: u64) -> Option<PoolLine>
+    ensures says { result ≡ limits_after max min timeout words.old }
+    ensures max { IfSome result (λ pool. pool.max ≡ max) }
+{
+    let lifetime = words.limit_nanos()?;
+    let idle = words.limit_nanos()?;
+    let on = words.switches()?;
+    words.finish(PoolLine {
+        max,
+        min,
+        timeout,
+        lifetime,
+        idle,
+        test_before_acquire: on.test_before_acquire,
+        after_connect: on.after_connect,
+        before_acquire: on.before_acquire,
+        after_release: on.after_release,
+    })
+}
+
 /// What a first line says.
 #[tactic(auto, using(crate::proofs::Rows::reads), unfolding(crate::specs::Grammar::pool_of, crate::specs::Grammar::pool_words))]
 pub fn read_pool_line(line: &[u8]) -> Option<PoolLine>
@@ -95,18 +127,5 @@ pub fn read_pool_line(line: &[u8]) -> Option<PoolLine>
     let max = words.number(1, 65_536)?;
     let min = words.opens()?;
     let timeout = words.millis()?;
-    let lifetime = words.limit_nanos()?;
-    let idle = words.limit_nanos()?;
-    let on = words.switches()?;
-    words.finish(PoolLine {
-        max: max as u32,
-        min,
-        timeout: timeout * NANOS,
-        lifetime,
-        idle,
-        test_before_acquire: on.test_before_acquire,
-        after_connect: on.after_connect,
-        before_acquire: on.before_acquire,
-        after_release: on.after_release,
-    })
+    limits(&mut words, max as u32, min, timeout * NANOS)
 }
