@@ -8,7 +8,8 @@ use Rattle.sqlx_pool_core.specs.declared.ticket.Phase.TheVariants as phase
 use Rattle.sqlx_pool_core.specs.declared.steps.Idle.{Idle}
 use Rattle.sqlx_pool_core.specs.Core.{Core, has_gone, size, gone, is_out}
 use Rattle.sqlx_pool_core.specs.Sound.{IsSound, IsRising, number_of, tests, holds, rests, places_of, is_tested}
-use Rattle.sqlx_pool_core.proofs.Counting.{one, count-push, count-cons, rising-push}
+use Rattle.sqlx_log.proofs.Counting.{one, count-push, count-cons}
+use Rattle.sqlx_pool_core.proofs.Counting.{rising-push}
 use Rattle.sqlx_pool_core.proofs.Found.{rising-bound}
 
 -- a new ticket waits

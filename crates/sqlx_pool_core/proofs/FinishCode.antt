@@ -12,7 +12,8 @@ use Rattle.sqlx_pool_core.specs.Edits.{with_ticket, without_ticket, to_connect, 
 use Rattle.sqlx_pool_core.specs.Place.{IsAmong}
 use Rattle.sqlx_pool_core.specs.PollSteps.{tested_at, wait_of}
 use Rattle.sqlx_pool_core.proofs.PollCode.{among, changed-const}
-use Rattle.sqlx_pool_core.proofs.Counting.{one, count-ended}
+use Rattle.sqlx_log.proofs.Counting.{one}
+use Rattle.sqlx_pool_core.proofs.Counting.{count-ended}
 use Rattle.sqlx_pool_core.proofs.Soundness.{sound-served_tested, sound-served_new, sound-goes_on}
 
 tested_here : (c d : ℕ) (kept created : Moment) → (b : Bool) → (c == d) ≡ b → c ≡ d → (if b then Some kept else None) ≡ Some created → phase.Testing d kept ≡ phase.Testing c created

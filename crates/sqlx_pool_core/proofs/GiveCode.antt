@@ -7,7 +7,7 @@ use Rattle.sqlx_pool_core.specs.declared.steps.Idle.{Idle}
 use Rattle.sqlx_pool_core.specs.Core.{Core, loan_of, is_held_by}
 use Rattle.sqlx_pool_core.specs.Sound.{IsSound, tests, holds, rests, places_of}
 use Rattle.sqlx_pool_core.specs.Edits.{without_loan, is_another_loan}
-use Rattle.sqlx_pool_core.proofs.Counting.{one, count-filter, count-push, count-cons}
+use Rattle.sqlx_log.proofs.Counting.{one, count-filter, count-push, count-cons}
 use Rattle.sqlx_pool_core.proofs.Soundness.{one-le}
 
 -- ---- what a look-up finds

@@ -2,13 +2,14 @@
 use Rattle.std.proofs.Common.{◌≡◌, ℕ, suc, ◌+◌, ◌-◌, ◌<◌, ◌≤◌, List, [], ◌∷◌, ◌++◌, length, refl, ap, sym, ◌∙◌, arith, find, get_or, slice_index_or, Bool, true, false, not, cond, ltb, count_by, Option, Some, None, IfSome, OnSome, IsSome, inl, inr, length-append}
 use Rattle.std.specs.List.{position_or_len, remove}
 use Rattle.std.proofs.lemmas.Bool.Decides.{eqb_tells}
+use Rattle.sqlx_pool_core.specs.Limits.{limits_of}
 use Rattle.sqlx_pool_core.specs.declared.steps.Idle.{Idle}
 use Rattle.sqlx_pool_core.specs.Core.{Core}
 use Rattle.sqlx_pool_core.specs.Sound.{IsSound, rests}
 use Rattle.sqlx_pool_core.specs.Edits.{without_idle, is_another_idle}
 use Rattle.sqlx_pool_core.specs.KeepingSteps.{is_reaped_at, without_first, reaped}
-use Rattle.sqlx_pool_core.proofs.ListFacts.{found_counts, filter_none, length-filter_not, count_by-cons, same_number}
-use Rattle.sqlx_pool_core.proofs.Counting.{one, count-filter, count-push}
+use Rattle.sqlx_log.proofs.ListFacts.{found_counts, filter_none, length-filter_not, count_by-cons, same_number}
+use Rattle.sqlx_log.proofs.Counting.{one, count-filter, count-push}
 use Rattle.sqlx_pool_core.proofs.Soundness.{one-le}
 
 -- ---- the first that passes a test

@@ -4,7 +4,7 @@ use Rattle.std.proofs.lemmas.Bool.Decides.{eqb_tells}
 use Rattle.sqlx_pool_core.specs.declared.ticket.Ticket.{Ticket}
 use Rattle.sqlx_pool_core.specs.declared.ticket.Phase.{Phase}
 use Rattle.sqlx_pool_core.specs.declared.ticket.Phase.TheVariants as phase
-use Rattle.sqlx_pool_core.specs.declared.turn.Turn.TheVariants as turn
+use Rattle.sqlx_log.specs.declared.turn.Turn.TheVariants as turn
 use Rattle.sqlx_pool_core.specs.declared.steps.Idle.{Idle}
 use Rattle.sqlx_pool_core.specs.declared.steps.Start.TheVariants as start
 use Rattle.sqlx_pool_core.specs.Core.{Core, ticket_of, is_of}
