@@ -1,5 +1,5 @@
 -- Counts of tickets after one of them changed or ended.
-use Rattle.std.proofs.Common.{◌≡◌, ℕ, ◌+◌, ◌<◌, ◌≤◌, List, [], ◌∷◌, ◌++◌, length, refl, ap, sym, ◌∙◌, arith, map, filter, Bool, true, false, cond, count_by, if◌then◌else◌, length-append}
+use Rattle.std.proofs.Common.{◌≡◌, ℕ, ◌+◌, ◌<◌, ◌≤◌, List, [], ◌∷◌, ◌++◌, ap, sym, ◌∙◌, arith, map, filter, Bool, true, false, count_by, if◌then◌else◌}
 use Rattle.std.proofs.lemmas.List.{map-append}
 use Rattle.sqlx_log.proofs.Counting.{one, count-append, count-among}
 use Rattle.sqlx_pool_core.specs.declared.ticket.Ticket.{Ticket}

@@ -15,7 +15,7 @@ use Rattle.sqlx_pool_core.specs.Sound.{holds, rests}
 use Rattle.sqlx_pool_core.specs.Makes.{Makes}
 use Rattle.sqlx_log.specs.Born.{IsBorn}
 use Rattle.sqlx_pool_core.specs.StandsFor.{StandsFor}
-use Rattle.sqlx_log.specs.FairLog.{is_owned, is_idle, is_live, is_ticket, is_left_ticket_of, is_first, opens_it, Unless, serves, first_of_marks, IsFair, rests as rests_at}
+use Rattle.sqlx_log.specs.FairLog.{is_owned, is_idle, is_live, is_ticket, is_left_ticket_of, is_first, opens_it, Unless, serves, first_of_marks, rests as rests_at}
 use Rattle.sqlx_log.proofs.FairLaws.{fair-append}
 use Rattle.sqlx_log.proofs.ViewSteps.{IsFairMark}
 use Rattle.sqlx_log.proofs.ListFacts.{found_passes, found_any, list_any-map, none_any, same_number}

@@ -1,5 +1,5 @@
 -- A core's value goes on standing for the marks, one more mark at a time.
-use Rattle.std.proofs.Common.{◌≡◌, ℕ, ◌≤◌, true, false, ◌||◌, List, [], ◌∷◌, ◌++◌, map, filter, All, refl, sym, ap, ◌∙◌, append-nil, map-id, arith}
+use Rattle.std.proofs.Common.{◌≡◌, ℕ, ◌≤◌, false, ◌||◌, List, [], ◌∷◌, ◌++◌, map, All, sym, ap, ◌∙◌, arith}
 use Rattle.std.proofs.lemmas.List.Elements.{All-push, All-weaker}
 use Rattle.sqlx_log.specs.declared.mark.Mark.{Mark}
 use Rattle.sqlx_log.specs.declared.mark.Mark.TheVariants.{Asked, Left, Taken, Reaped, Opened, Lent, Kept, Closed, Detached, Leaked, Ended, Shut}
@@ -15,7 +15,6 @@ use Rattle.sqlx_log.specs.View.{stands_after, tickets_after, leaked_after}
 use Rattle.sqlx_pool_core.specs.Core.{Core, asking, loan, resting}
 use Rattle.sqlx_log.specs.Born.{IsNamedBelow, IsBorn}
 use Rattle.sqlx_pool_core.specs.StandsFor.{StandsFor, IsTestedBorn}
-use Rattle.sqlx_log.proofs.ListFacts.{filter_all}
 use Rattle.sqlx_log.proofs.Pushed.{loans_of-push, idle_of-push, tickets_of-push, leaked_of-push, shut-push, next_ticket-push, next_conn-push, IsBorn-push}
 
 -- ---- what the core keeps of births

@@ -17,7 +17,7 @@ mod ticket;
 pub use options::PoolOptions;
 pub use outside::{Outside, PoolConnectionMetadata};
 pub use pool_core::PoolCore;
+pub use sqlx_log::{Mark, laws};
 pub use steps::{
     AfterConnect, AfterTest, CloseState, Given, Idle, Lent, Openings, Polled, Start, Tried, Verdict,
 };
-pub use sqlx_log::{Mark, laws};
