@@ -4,7 +4,7 @@ ghost use Rattle.std.specs.Prelude.{◌≡◌, ℕ, min, Bool, true, false, [], 
 ghost use Rattle.sqlx_pool_core.specs.Outside.{Connected, RefusedTransiently};
 ghost use Rattle.sqlx_pool_core.specs.KeepingSteps.{lacks};
 
-use crate::*;
+use sqlx_pool_core::*;
 use sqlx_text::{Error, IoFault, Moment};
 use std::alloc::Global;
 use std::process::Abort;

@@ -2,7 +2,7 @@ use Rattle.std.proofs.Common.{◌++◌, [], ◌∷◌, true, replicate, ap, Bool
 use Rattle.sqlx_pool_core.specs.Outside.{Connected, RefusedTransiently}
 use Rattle.sqlx_pool_core.specs.KeepingSteps.{lacks}
 use Rattle.sqlx_pool_core.proofs.ToldTries.{opens-accepted}
-use Rattle.sqlx_pool_core.proofs.minimum_tests.fill.Goals as goal
+use Rattle.tests_pool.proofs.minimum.fill.Goals as goal
 
 pub returns-clause-opened : goal.returns-clause-opened
 returns-clause-opened c =

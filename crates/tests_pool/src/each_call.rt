@@ -2,7 +2,7 @@
 
 ghost use Rattle.std.specs.Prelude.{ℕ, None, true};
 
-use crate::*;
+use sqlx_pool_core::*;
 use sqlx_text::{Error, Moment};
 use std::alloc::Global;
 use std::process::Abort;
