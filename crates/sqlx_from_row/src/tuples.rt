@@ -29,8 +29,8 @@ fn with_2<A, B>(all: (A,), last: B) -> (A, B)
 impl<DB: Database, A: FromColumn<DB>, B: FromColumn<DB>> FromRow<DB> for (A, B) {
     ghost use Rattle.sqlx_from_row.specs.FromRow.{Gives, Then};
 
-    ghost made = { λ row. Then (⟦<(A,) as FromRow<DB>>⟧.made row) λ all. Then (B.column 1 row) λ last.
-        Gives (all.0, last) };
+    ghost made = { λ row. Then (⟦<(A,) as FromRow<DB>>⟧.made row) λ t. Then (B.column 1 row) λ x.
+        Gives (t.0, x) };
 
     fn from_row(alloc: Global, row: &DB::Row) -> Result<Self, Error> {
         match <(A,) as FromRow<DB>>::from_row(alloc, row) {
@@ -54,8 +54,8 @@ impl<DB: Database, A: FromColumn<DB>, B: FromColumn<DB>, C: FromColumn<DB>> From
     for (A, B, C) {
     ghost use Rattle.sqlx_from_row.specs.FromRow.{Gives, Then};
 
-    ghost made = { λ row. Then (⟦<(A, B) as FromRow<DB>>⟧.made row) λ all. Then (C.column 2 row) λ last.
-        Gives (all.0, all.1, last) };
+    ghost made = { λ row. Then (⟦<(A, B) as FromRow<DB>>⟧.made row) λ t. Then (C.column 2 row) λ x.
+        Gives (t.0, t.1, x) };
 
     fn from_row(alloc: Global, row: &DB::Row) -> Result<Self, Error> {
         match <(A, B) as FromRow<DB>>::from_row(alloc, row) {
@@ -84,8 +84,8 @@ impl<
 > FromRow<DB> for (A, B, C, D) {
     ghost use Rattle.sqlx_from_row.specs.FromRow.{Gives, Then};
 
-    ghost made = { λ row. Then (⟦<(A, B, C) as FromRow<DB>>⟧.made row) λ all. Then (D.column 3 row) λ last.
-        Gives (all.0, all.1, all.2, last) };
+    ghost made = { λ row. Then (⟦<(A, B, C) as FromRow<DB>>⟧.made row) λ t. Then (D.column 3 row) λ x.
+        Gives (t.0, t.1, t.2, x) };
 
     fn from_row(alloc: Global, row: &DB::Row) -> Result<Self, Error> {
         match <(A, B, C) as FromRow<DB>>::from_row(alloc, row) {
@@ -115,8 +115,8 @@ impl<
 > FromRow<DB> for (A, B, C, D, E) {
     ghost use Rattle.sqlx_from_row.specs.FromRow.{Gives, Then};
 
-    ghost made = { λ row. Then (⟦<(A, B, C, D) as FromRow<DB>>⟧.made row) λ all. Then (E.column 4 row) λ last.
-        Gives (all.0, all.1, all.2, all.3, last) };
+    ghost made = { λ row. Then (⟦<(A, B, C, D) as FromRow<DB>>⟧.made row) λ t. Then (E.column 4 row) λ x.
+        Gives (t.0, t.1, t.2, t.3, x) };
 
     fn from_row(alloc: Global, row: &DB::Row) -> Result<Self, Error> {
         match <(A, B, C, D) as FromRow<DB>>::from_row(alloc, row) {
@@ -147,8 +147,8 @@ impl<
 > FromRow<DB> for (A, B, C, D, E, F) {
     ghost use Rattle.sqlx_from_row.specs.FromRow.{Gives, Then};
 
-    ghost made = { λ row. Then (⟦<(A, B, C, D, E) as FromRow<DB>>⟧.made row) λ all. Then (F.column 5 row) λ last.
-        Gives (all.0, all.1, all.2, all.3, all.4, last) };
+    ghost made = { λ row. Then (⟦<(A, B, C, D, E) as FromRow<DB>>⟧.made row) λ t. Then (F.column 5 row) λ x.
+        Gives (t.0, t.1, t.2, t.3, t.4, x) };
 
     fn from_row(alloc: Global, row: &DB::Row) -> Result<Self, Error> {
         match <(A, B, C, D, E) as FromRow<DB>>::from_row(alloc, row) {
@@ -180,8 +180,8 @@ impl<
 > FromRow<DB> for (A, B, C, D, E, F, G) {
     ghost use Rattle.sqlx_from_row.specs.FromRow.{Gives, Then};
 
-    ghost made = { λ row. Then (⟦<(A, B, C, D, E, F) as FromRow<DB>>⟧.made row) λ all. Then (G.column 6 row) λ last.
-        Gives (all.0, all.1, all.2, all.3, all.4, all.5, last) };
+    ghost made = { λ row. Then (⟦<(A, B, C, D, E, F) as FromRow<DB>>⟧.made row) λ t. Then (G.column 6 row) λ x.
+        Gives (t.0, t.1, t.2, t.3, t.4, t.5, x) };
 
     fn from_row(alloc: Global, row: &DB::Row) -> Result<Self, Error> {
         match <(A, B, C, D, E, F) as FromRow<DB>>::from_row(alloc, row) {
@@ -214,8 +214,8 @@ impl<
 > FromRow<DB> for (A, B, C, D, E, F, G, H) {
     ghost use Rattle.sqlx_from_row.specs.FromRow.{Gives, Then};
 
-    ghost made = { λ row. Then (⟦<(A, B, C, D, E, F, G) as FromRow<DB>>⟧.made row) λ all. Then (H.column 7 row) λ last.
-        Gives (all.0, all.1, all.2, all.3, all.4, all.5, all.6, last) };
+    ghost made = { λ row. Then (⟦<(A, B, C, D, E, F, G) as FromRow<DB>>⟧.made row) λ t. Then (H.column 7 row) λ x.
+        Gives (t.0, t.1, t.2, t.3, t.4, t.5, t.6, x) };
 
     fn from_row(alloc: Global, row: &DB::Row) -> Result<Self, Error> {
         match <(A, B, C, D, E, F, G) as FromRow<DB>>::from_row(alloc, row) {
@@ -252,8 +252,8 @@ impl<
 > FromRow<DB> for (A, B, C, D, E, F, G, H, I) {
     ghost use Rattle.sqlx_from_row.specs.FromRow.{Gives, Then};
 
-    ghost made = { λ row. Then (⟦<(A, B, C, D, E, F, G, H) as FromRow<DB>>⟧.made row) λ all. Then (I.column 8 row) λ last.
-        Gives (all.0, all.1, all.2, all.3, all.4, all.5, all.6, all.7, last) };
+    ghost made = { λ row. Then (⟦<(A, B, C, D, E, F, G, H) as FromRow<DB>>⟧.made row) λ t. Then (I.column 8 row) λ x.
+        Gives (t.0, t.1, t.2, t.3, t.4, t.5, t.6, t.7, x) };
 
     fn from_row(alloc: Global, row: &DB::Row) -> Result<Self, Error> {
         match <(A, B, C, D, E, F, G, H) as FromRow<DB>>::from_row(alloc, row) {
@@ -293,8 +293,8 @@ impl<
 > FromRow<DB> for (A, B, C, D, E, F, G, H, I, J) {
     ghost use Rattle.sqlx_from_row.specs.FromRow.{Gives, Then};
 
-    ghost made = { λ row. Then (⟦<(A, B, C, D, E, F, G, H, I) as FromRow<DB>>⟧.made row) λ all. Then (J.column 9 row) λ last.
-        Gives (all.0, all.1, all.2, all.3, all.4, all.5, all.6, all.7, all.8, last) };
+    ghost made = { λ row. Then (⟦<(A, B, C, D, E, F, G, H, I) as FromRow<DB>>⟧.made row) λ t. Then (J.column 9 row) λ x.
+        Gives (t.0, t.1, t.2, t.3, t.4, t.5, t.6, t.7, t.8, x) };
 
     fn from_row(alloc: Global, row: &DB::Row) -> Result<Self, Error> {
         match <(A, B, C, D, E, F, G, H, I) as FromRow<DB>>::from_row(alloc, row) {
@@ -335,8 +335,8 @@ impl<
 > FromRow<DB> for (A, B, C, D, E, F, G, H, I, J, K) {
     ghost use Rattle.sqlx_from_row.specs.FromRow.{Gives, Then};
 
-    ghost made = { λ row. Then (⟦<(A, B, C, D, E, F, G, H, I, J) as FromRow<DB>>⟧.made row) λ all. Then (K.column 10 row) λ last.
-        Gives (all.0, all.1, all.2, all.3, all.4, all.5, all.6, all.7, all.8, all.9, last) };
+    ghost made = { λ row. Then (⟦<(A, B, C, D, E, F, G, H, I, J) as FromRow<DB>>⟧.made row) λ t. Then (K.column 10 row) λ x.
+        Gives (t.0, t.1, t.2, t.3, t.4, t.5, t.6, t.7, t.8, t.9, x) };
 
     fn from_row(alloc: Global, row: &DB::Row) -> Result<Self, Error> {
         match <(A, B, C, D, E, F, G, H, I, J) as FromRow<DB>>::from_row(alloc, row) {
@@ -378,8 +378,8 @@ impl<
 > FromRow<DB> for (A, B, C, D, E, F, G, H, I, J, K, L) {
     ghost use Rattle.sqlx_from_row.specs.FromRow.{Gives, Then};
 
-    ghost made = { λ row. Then (⟦<(A, B, C, D, E, F, G, H, I, J, K) as FromRow<DB>>⟧.made row) λ all. Then (L.column 11 row) λ last.
-        Gives (all.0, all.1, all.2, all.3, all.4, all.5, all.6, all.7, all.8, all.9, all.10, last) };
+    ghost made = { λ row. Then (⟦<(A, B, C, D, E, F, G, H, I, J, K) as FromRow<DB>>⟧.made row) λ t. Then (L.column 11 row) λ x.
+        Gives (t.0, t.1, t.2, t.3, t.4, t.5, t.6, t.7, t.8, t.9, t.10, x) };
 
     fn from_row(alloc: Global, row: &DB::Row) -> Result<Self, Error> {
         match <(A, B, C, D, E, F, G, H, I, J, K) as FromRow<DB>>::from_row(alloc, row) {
@@ -422,8 +422,8 @@ impl<
 > FromRow<DB> for (A, B, C, D, E, F, G, H, I, J, K, L, M) {
     ghost use Rattle.sqlx_from_row.specs.FromRow.{Gives, Then};
 
-    ghost made = { λ row. Then (⟦<(A, B, C, D, E, F, G, H, I, J, K, L) as FromRow<DB>>⟧.made row) λ all. Then (M.column 12 row) λ last.
-        Gives (all.0, (all.1, (all.2, (all.3, (all.4, (all.5, (all.6, (all.7, (all.8, (all.9, (all.10, (all.11, (last, record {}))))))))))))) };
+    ghost made = { λ row. Then (⟦<(A, B, C, D, E, F, G, H, I, J, K, L) as FromRow<DB>>⟧.made row) λ t. Then (M.column 12 row) λ x.
+        Gives (t.0, (t.1, (t.2, (t.3, (t.4, (t.5, (t.6, (t.7, (t.8, (t.9, (t.10, (t.11, (x, record {}))))))))))))) };
 
     fn from_row(alloc: Global, row: &DB::Row) -> Result<Self, Error> {
         match <(A, B, C, D, E, F, G, H, I, J, K, L) as FromRow<DB>>::from_row(alloc, row) {
@@ -441,7 +441,7 @@ fn with_14<A, B, C, D, E, F, G, H, I, J, K, L, M, N>(
     all: (A, B, C, D, E, F, G, H, I, J, K, L, M),
     last: N,
 ) -> (A, B, C, D, E, F, G, H, I, J, K, L, M, N)
-    ensures { result ≡ past_four (past_four (past_four (past (λ none last. (last, record {}))))) all last }
+    ensures { result ≡ past_four (past_four (past_four (past (λ _ x. (x, record {}))))) all last }
 {
     (
         all.0, all.1, all.2, all.3, all.4, all.5, all.6, all.7, all.8, all.9, all.10, all.11,
@@ -469,8 +469,8 @@ impl<
     ghost use Rattle.sqlx_from_row.specs.FromRow.{Gives, Then};
     ghost use Rattle.sqlx_from_row.specs.Tuples.{past, past_four};
 
-    ghost made = { λ row. Then (⟦<(A, B, C, D, E, F, G, H, I, J, K, L, M) as FromRow<DB>>⟧.made row) λ all. Then (N.column 13 row) λ last.
-        Gives (past_four (past_four (past_four (past (λ none last. (last, record {}))))) all last) };
+    ghost made = { λ row. Then (⟦<(A, B, C, D, E, F, G, H, I, J, K, L, M) as FromRow<DB>>⟧.made row) λ t. Then (N.column 13 row) λ x.
+        Gives (past_four (past_four (past_four (past (λ _ x. (x, record {}))))) t x) };
 
     fn from_row(alloc: Global, row: &DB::Row) -> Result<Self, Error> {
         match <(A, B, C, D, E, F, G, H, I, J, K, L, M) as FromRow<DB>>::from_row(alloc, row) {
@@ -488,7 +488,7 @@ fn with_15<A, B, C, D, E, F, G, H, I, J, K, L, M, N, O>(
     all: (A, B, C, D, E, F, G, H, I, J, K, L, M, N),
     last: O,
 ) -> (A, B, C, D, E, F, G, H, I, J, K, L, M, N, O)
-    ensures { result ≡ past_four (past_four (past_four (past (past (λ none last. (last, record {})))))) all last }
+    ensures { result ≡ past_four (past_four (past_four (past (past (λ _ x. (x, record {})))))) all last }
 {
     (
         all.0, all.1, all.2, all.3, all.4, all.5, all.6, all.7, all.8, all.9, all.10, all.11,
@@ -517,8 +517,8 @@ impl<
     ghost use Rattle.sqlx_from_row.specs.FromRow.{Gives, Then};
     ghost use Rattle.sqlx_from_row.specs.Tuples.{past, past_four};
 
-    ghost made = { λ row. Then (⟦<(A, B, C, D, E, F, G, H, I, J, K, L, M, N) as FromRow<DB>>⟧.made row) λ all. Then (O.column 14 row) λ last.
-        Gives (past_four (past_four (past_four (past (past (λ none last. (last, record {})))))) all last) };
+    ghost made = { λ row. Then (⟦<(A, B, C, D, E, F, G, H, I, J, K, L, M, N) as FromRow<DB>>⟧.made row) λ t. Then (O.column 14 row) λ x.
+        Gives (past_four (past_four (past_four (past (past (λ _ x. (x, record {})))))) t x) };
 
     fn from_row(alloc: Global, row: &DB::Row) -> Result<Self, Error> {
         match <(A, B, C, D, E, F, G, H, I, J, K, L, M, N) as FromRow<DB>>::from_row(alloc, row) {
@@ -536,7 +536,7 @@ fn with_16<A, B, C, D, E, F, G, H, I, J, K, L, M, N, O, P>(
     all: (A, B, C, D, E, F, G, H, I, J, K, L, M, N, O),
     last: P,
 ) -> (A, B, C, D, E, F, G, H, I, J, K, L, M, N, O, P)
-    ensures { result ≡ past_four (past_four (past_four (past (past (past (λ none last. (last, record {}))))))) all last }
+    ensures { result ≡ past_four (past_four (past_four (past (past (past (λ _ x. (x, record {}))))))) all last }
 {
     (
         all.0, all.1, all.2, all.3, all.4, all.5, all.6, all.7, all.8, all.9, all.10, all.11,
@@ -566,8 +566,8 @@ impl<
     ghost use Rattle.sqlx_from_row.specs.FromRow.{Gives, Then};
     ghost use Rattle.sqlx_from_row.specs.Tuples.{past, past_four};
 
-    ghost made = { λ row. Then (⟦<(A, B, C, D, E, F, G, H, I, J, K, L, M, N, O) as FromRow<DB>>⟧.made row) λ all. Then (P.column 15 row) λ last.
-        Gives (past_four (past_four (past_four (past (past (past (λ none last. (last, record {}))))))) all last) };
+    ghost made = { λ row. Then (⟦<(A, B, C, D, E, F, G, H, I, J, K, L, M, N, O) as FromRow<DB>>⟧.made row) λ t. Then (P.column 15 row) λ x.
+        Gives (past_four (past_four (past_four (past (past (past (λ _ x. (x, record {}))))))) t x) };
 
     fn from_row(alloc: Global, row: &DB::Row) -> Result<Self, Error> {
         match <(A, B, C, D, E, F, G, H, I, J, K, L, M, N, O) as FromRow<DB>>::from_row(alloc, row) {
