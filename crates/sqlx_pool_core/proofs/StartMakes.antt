@@ -1,6 +1,6 @@
 -- What the first step of a poll makes of a core that stands for the marks.
 use Rattle.std.proofs.Common.{◌≡◌, ℕ, suc, ◌^◌, ◌<◌, Bool, true, false, cond, not, ◌&&◌, ◌==◌, nat_le, nat_lt, List, [], ◌∷◌, ◌++◌, map, drop, length, All, Option, Some, None, option_map, refl, sym, ap, ap₂, ◌∙◌, subst, arith}
-use Rattle.std.proofs.lemmas.Bool.{leb-false, ltb-true, and_parts}
+use Rattle.std.proofs.lemmas.Bool.{ltb-true, and_parts}
 use Rattle.std.proofs.lemmas.List.Elements.{All-head}
 use Rattle.sqlx_log.specs.declared.mark.Mark.{Mark}
 use Rattle.sqlx_log.specs.declared.mark.Mark.TheVariants.{Left, Taken, Ended}
@@ -28,7 +28,7 @@ use Rattle.sqlx_log.proofs.ListFacts.{found_passes}
 use Rattle.sqlx_pool_core.proofs.Stands.{stands-beside, stands-alike, IsIdleBorn, IsTicketBorn}
 use Rattle.sqlx_pool_core.proofs.EachMark.{Leaves, stands-left, stands-ended, stands-taken, changed_born}
 use Rattle.sqlx_pool_core.proofs.TurnAtMarks.{free-places, before-asking}
-use Rattle.sqlx_pool_core.proofs.Known.{ticket-below, ticket-number, ticket-is_only, ticket-changed, alike-changed, gone-changed, gone-ended_le, gone-left_le, idle-first}
+use Rattle.sqlx_pool_core.proofs.Known.{ticket-below, ticket-is_only, ticket-changed, alike-changed, gone-changed, gone-ended_le, gone-left_le, idle-first}
 use Rattle.sqlx_pool_core.specs.Makes.{Makes}
 use Rattle.sqlx_pool_core.proofs.Fair.{makes-none, makes-one, makes-more, open-stands, within-stands, ticket-any, fair-ended, fair-taken}
 

@@ -1,12 +1,10 @@
 -- The counts and the turn of a core are those of the marks that it stands for.
-use Rattle.std.proofs.Common.{◌≡◌, ℕ, ◌+◌, ◌-◌, Bool, true, false, cond, not, ◌==◌, List, [], ◌∷◌, map, length, take_while, option_map, Option, Some, None, nat_le, nat_lt, ◌&&◌, refl, sym, ap, ◌∙◌, arith}
+use Rattle.std.proofs.Common.{◌≡◌, ℕ, ◌+◌, ◌-◌, Bool, true, false, cond, not, ◌==◌, List, [], ◌∷◌, map, length, take_while, option_map, Option, Some, None, nat_le, nat_lt, refl, sym, ap, ◌∙◌, arith}
 use Rattle.std.specs.List.{list_any}
 use Rattle.std.proofs.lemmas.Bool.{eqb-true, and_parts}
 use Rattle.std.proofs.lemmas.List.Sums.{take_while-cons}
 use Rattle.sqlx_log.specs.declared.mark.Mark.{Mark}
 use Rattle.sqlx_pool_core.specs.declared.ticket.Ticket.{Ticket}
-use Rattle.sqlx_pool_core.specs.declared.ticket.Phase.{Phase}
-use Rattle.sqlx_pool_core.specs.declared.ticket.Phase.TheVariants as phase
 use Rattle.sqlx_log.specs.declared.turn.Turn.{Turn}
 use Rattle.sqlx_log.specs.declared.turn.Turn.TheVariants as turned
 use Rattle.sqlx_log.specs.Marks.{PendingTicket, tickets_of, loans_of, idle_of, leaked_of, is_shut, next_conn}
