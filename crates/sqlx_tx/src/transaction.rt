@@ -73,7 +73,7 @@ impl<DB: Database, H: Hold<DB>> Transaction<DB, H> {
         ensures rises { DB.Connection.faults (H.held self) ≤ DB.Connection.faults (H.held result.0) }
         ensures cause { IfErr result.1 (FaultCause (DB.Connection.faults (H.held self)) (DB.Connection.faults (H.held result.0))) }
     {
-        let mut holder = self.into_holder();
+        let mut holder = self.take_apart();
         let answer = DB::TransactionManager::commit(alloc, holder.conn_mut());
         (holder, answer)
     }
@@ -87,7 +87,7 @@ impl<DB: Database, H: Hold<DB>> Transaction<DB, H> {
         ensures rises { DB.Connection.faults (H.held self) ≤ DB.Connection.faults (H.held result.0) }
         ensures cause { IfErr result.1 (FaultCause (DB.Connection.faults (H.held self)) (DB.Connection.faults (H.held result.0))) }
     {
-        let mut holder = self.into_holder();
+        let mut holder = self.take_apart();
         let answer = DB::TransactionManager::rollback(alloc, holder.conn_mut());
         (holder, answer)
     }
@@ -100,7 +100,7 @@ impl<DB: Database, H: Hold<DB>> Transaction<DB, H> {
         ensures does { DB.TransactionManager.does call.start_rollback (H.held self) (Ok tt) (H.held result) }
         ensures rises { DB.Connection.faults (H.held self) ≤ DB.Connection.faults (H.held result) }
     {
-        let mut holder = self.into_holder();
+        let mut holder = self.take_apart();
         DB::TransactionManager::start_rollback(holder.conn_mut());
         holder
     }
@@ -110,7 +110,7 @@ impl<DB: Database, H: Hold<DB>> Transaction<DB, H> {
         requires { 0 < DB.Connection.levels (H.held self) }
         ensures { result ≡ self }
     {
-        self.into_holder()
+        self.take_apart()
     }
 
     /// Takes up a level that is open, as one that was kept open.
@@ -124,7 +124,16 @@ impl<DB: Database, H: Hold<DB>> Transaction<DB, H> {
         }
     }
 
-    fn into_holder(self) -> H
+    /// Hands back what holds the connection where no level is open any more, as after a text that ended all of them.
+    pub fn into_holder(self) -> H
+        requires { DB.Connection.levels (H.held self) ≡ 0 }
+        ensures { result ≡ self }
+    {
+        let Transaction { holder, of: _ } = self;
+        holder
+    }
+
+    fn take_apart(self) -> H
         ensures { result ≡ self }
     {
         let Transaction { holder, of: _ } = self;
