@@ -106,6 +106,15 @@ WritesEach writes w xs ps last = ⊥
 abbrev pub Gains : {L : Type 0} → (L → ℕ) → (ℕ → L → L) → Draft L → List (Piece L) → Draft L → Type 0
 Gains count first before ps now = AddsOneEach count first before.arguments ps × (now ≡ with_pieces before ps)
 
+-- a piece that stands alone
+abbrev pub alone : {L : Type 0} → Piece L → List (Piece L)
+alone p = p ∷ []
+
+-- the second draft gains a bound value, at the placeholder that the driver writes for it, and what stands around it
+abbrev pub GainsBound : {A L : Type 0} → (A → L) → (A → List ℕ) → (L → ℕ) → (ℕ → L → L) → (Piece L → List (Piece L)) → (L → L) → Draft L → Draft L → Type 0
+GainsBound buffered placeholder count first around adds before now =
+    (text : List ℕ) × IsPlaceholder buffered placeholder now.arguments text × Gains count first before (around (Bound text adds)) now
+
 -- the second draft is the first with the tuples that the writer may write for the drained items, and what stands around them
 abbrev pub GainsTuples : {L W T : Type 0} → (L → ℕ) → (ℕ → L → L) → (List T → Type 0) → (W → T → List (Piece L) → W → Type 0) → W
     → (List (Piece L) → List (Piece L)) → Draft L → Draft L → Type 0

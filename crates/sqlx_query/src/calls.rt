@@ -2,7 +2,7 @@
 ghost use Rattle.std.specs.Prelude.{◌≡◌, IfOk, None, Ok};
 ghost use Rattle.sqlx_query.specs.Query.{BeginsEmpty, begun};
 
-use crate::{Query, QueryAs, QueryScalar};
+use crate::{Query, QueryAs, QueryScalar, RawSql, ReadQuery};
 use sqlx_text::{Fault, OutOfMemory, SqlSafeStr};
 use sqlx_traits::{Arguments, Database, Either, IntoArguments};
 use std::alloc::Global;
@@ -14,8 +14,10 @@ pub fn query<'q, DB: Database, S: SqlSafeStr>(
 ) -> Result<Query<'q, DB, DB::Arguments>, OutOfMemory>
     ensures { IfOk result (λ query. BeginsEmpty (λ args. DB.ArgumentBuffer.count (DB.Arguments.buffered args)) (S.text sql) None query) }
 {
-    let sql = sql.into_sql_str(alloc)?;
-    Ok(Query::new(Either::Left(sql), Ok(DB::Arguments::new(alloc))))
+    match sql.into_sql_str(alloc) {
+        Ok(sql) => Ok(Query::new(Either::Left(sql), Ok(DB::Arguments::new(alloc)))),
+        Err(want) => Err(want),
+    }
 }
 
 /// A query of a text with these arguments.
@@ -53,8 +55,10 @@ pub fn query_as<'q, DB: Database, O, S: SqlSafeStr>(
 ) -> Result<QueryAs<'q, DB, O, DB::Arguments>, OutOfMemory>
     ensures { IfOk result (λ made. BeginsEmpty (λ args. DB.ArgumentBuffer.count (DB.Arguments.buffered args)) (S.text sql) None made.query) }
 {
-    let query = query::<DB, S>(alloc, sql)?;
-    Ok(QueryAs::new(query))
+    match query::<DB, S>(alloc, sql) {
+        Ok(query) => Ok(ReadQuery::new(query)),
+        Err(want) => Err(want),
+    }
 }
 
 /// A query of a text for values that are made of its rows, with these arguments.
@@ -65,8 +69,10 @@ pub fn query_as_with<'q, DB: Database, O, S: SqlSafeStr, A: IntoArguments<DB> + 
 ) -> Result<QueryAs<'q, DB, O, A>, OutOfMemory>
     ensures { IfOk result (λ made. made.query ≡ begun (S.text sql) None (Ok arguments)) }
 {
-    let query = query_with(alloc, sql, arguments)?;
-    Ok(QueryAs::new(query))
+    match query_with(alloc, sql, arguments) {
+        Ok(query) => Ok(ReadQuery::new(query)),
+        Err(want) => Err(want),
+    }
 }
 
 /// A query of a text for values that are made of its rows, with these arguments, or with why they can't be had.
@@ -77,8 +83,10 @@ pub fn query_as_with_result<'q, DB: Database, O, S: SqlSafeStr, A: IntoArguments
 ) -> Result<QueryAs<'q, DB, O, A>, OutOfMemory>
     ensures { IfOk result (λ made. made.query ≡ begun (S.text sql) None arguments) }
 {
-    let query = query_with_result(alloc, sql, arguments)?;
-    Ok(QueryAs::new(query))
+    match query_with_result(alloc, sql, arguments) {
+        Ok(query) => Ok(ReadQuery::new(query)),
+        Err(want) => Err(want),
+    }
 }
 
 /// A query of a text for the first column of its rows, to which arguments are still to be bound.
@@ -88,8 +96,10 @@ pub fn query_scalar<'q, DB: Database, O, S: SqlSafeStr>(
 ) -> Result<QueryScalar<'q, DB, O, DB::Arguments>, OutOfMemory>
     ensures { IfOk result (λ made. BeginsEmpty (λ args. DB.ArgumentBuffer.count (DB.Arguments.buffered args)) (S.text sql) None made.query) }
 {
-    let query = query::<DB, S>(alloc, sql)?;
-    Ok(QueryScalar::new(query))
+    match query::<DB, S>(alloc, sql) {
+        Ok(query) => Ok(ReadQuery::new(query)),
+        Err(want) => Err(want),
+    }
 }
 
 /// A query of a text for the first column of its rows, with these arguments.
@@ -100,8 +110,10 @@ pub fn query_scalar_with<'q, DB: Database, O, S: SqlSafeStr, A: IntoArguments<DB
 ) -> Result<QueryScalar<'q, DB, O, A>, OutOfMemory>
     ensures { IfOk result (λ made. made.query ≡ begun (S.text sql) None (Ok arguments)) }
 {
-    let query = query_with(alloc, sql, arguments)?;
-    Ok(QueryScalar::new(query))
+    match query_with(alloc, sql, arguments) {
+        Ok(query) => Ok(ReadQuery::new(query)),
+        Err(want) => Err(want),
+    }
 }
 
 /// A query of a text for the first column of its rows, with these arguments, or with why they can't be had.
@@ -112,6 +124,18 @@ pub fn query_scalar_with_result<'q, DB: Database, O, S: SqlSafeStr, A: IntoArgum
 ) -> Result<QueryScalar<'q, DB, O, A>, OutOfMemory>
     ensures { IfOk result (λ made. made.query ≡ begun (S.text sql) None arguments) }
 {
-    let query = query_with_result(alloc, sql, arguments)?;
-    Ok(QueryScalar::new(query))
+    match query_with_result(alloc, sql, arguments) {
+        Ok(query) => Ok(ReadQuery::new(query)),
+        Err(want) => Err(want),
+    }
+}
+
+/// Statements that are run as they stand.
+pub fn raw_sql<S: SqlSafeStr>(alloc: Global, sql: S) -> Result<RawSql, OutOfMemory>
+    ensures { IfOk result (λ raw. raw ≡ S.text sql) }
+{
+    match sql.into_sql_str(alloc) {
+        Ok(sql) => Ok(RawSql::new(sql)),
+        Err(want) => Err(want),
+    }
 }

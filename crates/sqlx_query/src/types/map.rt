@@ -130,7 +130,7 @@ impl<'q, DB: Database, F: Mapper<DB::Row>, A: IntoArguments<DB> + Drop> Map<'q, 
         ensures rises { E.faults executor.old ≤ E.faults executor.new }
         ensures cause { IfErr result (λ e. RefusedBy F.maps e ⊎ StepCause (E.faults executor.old) (E.faults executor.new) (turned A.becomes self.entry.query.arguments) e) }
     {
-        self.fetch(alloc, executor).collect()
+        self.fetch(alloc, executor).all_rows()
     }
 
     /// Runs it and gives its first mapped row, or the error or refusal in its place, and `RowNotFound` where it has none.
@@ -145,11 +145,7 @@ impl<'q, DB: Database, F: Mapper<DB::Row>, A: IntoArguments<DB> + Drop> Map<'q, 
         ensures rises { E.faults executor.old ≤ E.faults executor.new }
         ensures cause { IfErr result (λ e. RefusedBy F.maps e ⊎ ((e ≡ Error.RowNotFound) ⊎ StepCause (E.faults executor.old) (E.faults executor.new) (turned A.becomes self.entry.query.arguments) e)) }
     {
-        let mut mapper = self.mapper;
-        match executor.fetch_one(alloc, self.query) {
-            Ok(row) => mapper.call(row),
-            Err(error) => Err(error),
-        }
+        map_one(self.mapper, executor.fetch_one(alloc, self.query))
     }
 
     /// Runs it and gives its first mapped row, or the error or refusal in its place, or `None` where it has none.
@@ -164,21 +160,40 @@ impl<'q, DB: Database, F: Mapper<DB::Row>, A: IntoArguments<DB> + Drop> Map<'q, 
         ensures rises { E.faults executor.old ≤ E.faults executor.new }
         ensures cause { IfErr result (λ e. RefusedBy F.maps e ⊎ StepCause (E.faults executor.old) (E.faults executor.new) (turned A.becomes self.entry.query.arguments) e) }
     {
-        let mut mapper = self.mapper;
-        match executor.fetch_optional(alloc, self.query) {
-            Ok(Some(row)) => match mapper.call(row) {
-                Ok(made) => Ok(Some(made)),
-                Err(error) => Err(error),
-            },
-            Ok(None) => Ok(None),
+        map_optional(self.mapper, executor.fetch_optional(alloc, self.query))
+    }
+}
+
+// A row that is mapped, or the error in its place.
+fn map_one<R, F: Mapper<R>>(mut mapper: F, row: Result<R, Error>) -> Result<F::Out, Error>
+    requires { F.ready mapper }
+    ensures { ReadsOne (made_by F.maps mapper) row result }
+{
+    match row {
+        Ok(row) => mapper.call(row),
+        Err(error) => Err(error),
+    }
+}
+
+// A row that is mapped if it is there, or the error in its place.
+fn map_optional<R, F: Mapper<R>>(
+    mut mapper: F,
+    row: Result<Option<R>, Error>,
+) -> Result<Option<F::Out>, Error>
+    requires { F.ready mapper }
+    ensures { ReadsOptional (made_by F.maps mapper) row result }
+{
+    match row {
+        Ok(Some(row)) => match mapper.call(row) {
+            Ok(made) => Ok(Some(made)),
             Err(error) => Err(error),
-        }
+        },
+        Ok(None) => Ok(None),
+        Err(error) => Err(error),
     }
 }
 
 impl<'q, DB: Database, F: Drop, A: IntoArguments<DB> + Drop> Execute<DB> for Map<'q, DB, F, A> {
-    ghost use Rattle.sqlx_query.specs.Query.{turned};
-
     ghost text = { λ map. map.query.text };
 
     ghost prepared = { λ map. map.query.prepared };

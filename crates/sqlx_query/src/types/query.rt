@@ -3,8 +3,8 @@ ghost use Rattle.std.specs.Prelude.{◌≡◌, ◌≤◌, ◌⊎◌, ◌++◌, I
 ghost use Rattle.sqlx_text.specs.declared.error.Error.{Error};
 ghost use Rattle.sqlx_traits.specs.Reads.{Answers};
 ghost use Rattle.sqlx_traits.specs.StepList.{Ran, StepCause, StepCauses, all_of, combined, first_of, one_or, results_of, rows_of};
-ghost use Rattle.sqlx_query.specs.Binding.{AddsOrFails, Binds, Bound, CanBind, IsUnencoded, after_a_fault};
-ghost use Rattle.sqlx_query.specs.Query.{begun, handed_over, statement_of, text_of, turned};
+ghost use Rattle.sqlx_query.specs.Binding.{AddsOrFails, Binds, Bound, CanBind, IsUnencoded, fault_after_a_fault};
+ghost use Rattle.sqlx_query.specs.Query.{begun, given_arguments, handed_over, statement_of, text_of, turned};
 
 use either::Either;
 use sqlx_text::{Error, Fault, OutOfMemory, SqlStr, UStr};
@@ -45,15 +45,21 @@ impl<'q, DB: Database, A> Query<'q, DB, A> {
     ) -> Self
         ensures { result ≡ begun (text_of DB.Statement.text statement.entry) (statement_of statement.entry) arguments }
     {
-        let arguments = match arguments {
-            Ok(arguments) => Ok(Some(arguments)),
-            Err(fault) => Err(fault),
-        };
         Query {
             statement,
-            arguments,
+            arguments: given(arguments),
             persistent: true,
         }
+    }
+}
+
+// Arguments that are there, or why they can't be had.
+fn given<A>(arguments: Result<A, Fault>) -> Result<Option<A>, Fault>
+    ensures { result ≡ given_arguments arguments }
+{
+    match arguments {
+        Ok(arguments) => Ok(Some(arguments)),
+        Err(fault) => Err(fault),
     }
 }
 
@@ -96,15 +102,20 @@ impl<'q, DB: Database> Query<'q, DB, DB::Arguments> {
         ensures ok { OnOk result (Bound DB.ArgumentBuffer.count DB.ArgumentBuffer.first DB.Arguments.buffered (T.encoded value) self.old.arguments self.new.arguments) }
         ensures err { OnErr result (self.new ≡ self.old) }
         ensures refused { IfErr result (λ fault. CanBind self.old.arguments → T.refuses value fault) }
-        ensures after { ¬ CanBind self.old.arguments → result ≡ Err after_a_fault }
+        ensures after { ¬ CanBind self.old.arguments → result ≡ Err fault_after_a_fault }
     {
         match &mut self.arguments {
             Ok(Some(arguments)) => add::<DB, T>(alloc, arguments, value),
-            _ => Err(Fault::Text(UStr::from_static(
-                "A previous call to Query::bind produced an error",
-            ))),
+            _ => Err(after_a_fault()),
         }
     }
+}
+
+// The fault of a value that comes after one that couldn't be bound.
+fn after_a_fault() -> Fault
+    ensures { result ≡ fault_after_a_fault }
+{
+    Fault::Text(UStr::from_static("A previous call to Query::bind produced an error"))
 }
 
 // The arguments with a value, or why it can't be encoded.
@@ -167,8 +178,6 @@ fn numbered(alloc: Global, number: u128, fault: &Fault) -> Result<String, OutOfM
 }
 
 impl<'q, DB: Database, A: IntoArguments<DB> + Drop> Execute<DB> for Query<'q, DB, A> {
-    ghost use Rattle.sqlx_query.specs.Query.{turned};
-
     ghost text = { λ query. query.text };
 
     ghost prepared = { λ query. query.prepared };
@@ -198,15 +207,24 @@ impl<'q, DB: Database, A: IntoArguments<DB> + Drop> Execute<DB> for Query<'q, DB
     }
 
     fn take_arguments(&mut self) -> Result<Option<DB::Arguments>, Fault> {
-        match mem::replace(&mut self.arguments, Ok(None)) {
-            Ok(Some(arguments)) => Ok(Some(arguments.into_arguments())),
-            Ok(None) => Ok(None),
-            Err(fault) => Err(fault),
-        }
+        turn::<DB, A>(mem::replace(&mut self.arguments, Ok(None)))
     }
 
     fn persistent(&self) -> bool {
         self.persistent
+    }
+}
+
+// The arguments as the driver takes them, or why they can't be had.
+fn turn<DB: Database, A: IntoArguments<DB>>(
+    arguments: Result<Option<A>, Fault>,
+) -> Result<Option<DB::Arguments>, Fault>
+    ensures { result ≡ turned A.becomes arguments }
+{
+    match arguments {
+        Ok(Some(arguments)) => Ok(Some(arguments.into_arguments())),
+        Ok(None) => Ok(None),
+        Err(fault) => Err(fault),
     }
 }
 

@@ -1,11 +1,11 @@
 //! A text of one or more statements, run as it stands.
-ghost use Rattle.std.specs.Prelude.{◌≡◌, ◌≤◌, ◌⊎◌, IfErr, IfOk};
+ghost use Rattle.std.specs.Prelude.{◌≡◌, ◌≤◌, ◌⊎◌, IfErr};
 ghost use Rattle.sqlx_text.specs.declared.error.Error.{Error};
 ghost use Rattle.sqlx_traits.specs.Reads.{Answers};
 ghost use Rattle.sqlx_traits.specs.StepList.{Ran, StepCause, StepCauses, all_of, combined, first_of, one_or, results_of, rows_of};
 ghost use Rattle.sqlx_query.specs.Query.{handed_raw, no_arguments};
 
-use sqlx_text::{Error, Fault, OutOfMemory, SqlSafeStr, SqlStr};
+use sqlx_text::{Error, Fault, OutOfMemory, SqlStr};
 use sqlx_traits::{Database, Execute, ExecuteMany, Executor, Fetch, FetchMany, QueryResult, Row};
 use std::alloc::Global;
 use std::marker::Model;
@@ -24,12 +24,12 @@ impl Model for RawSql {
     ghost view = { λ raw. raw.sql };
 }
 
-/// Statements that are run as they stand.
-pub fn raw_sql<S: SqlSafeStr>(alloc: Global, sql: S) -> Result<RawSql, OutOfMemory>
-    ensures { IfOk result (λ raw. raw ≡ S.text sql) }
-{
-    let sql = sql.into_sql_str(alloc)?;
-    Ok(RawSql { sql })
+impl RawSql {
+    pub(crate) fn new(sql: SqlStr) -> Self
+        ensures { result ≡ sql }
+    {
+        RawSql { sql }
+    }
 }
 
 impl<DB: Database> Execute<DB> for RawSql {
