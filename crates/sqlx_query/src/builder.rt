@@ -6,13 +6,13 @@ ghost use Rattle.sqlx_text.specs.declared.fault.Fault.{Fault};
 ghost use Rattle.sqlx_traits.specs.Arguments.{AddsOne};
 ghost use Rattle.sqlx_query.specs.Query as asked;
 ghost use Rattle.sqlx_query.specs.Binding.{OrWantOfMemory};
-ghost use Rattle.sqlx_query.specs.Builder.{Gains, GainsBound, IsPlaceholder, Piece, alone, begun, cut_to, with_piece};
+ghost use Rattle.sqlx_query.specs.Builder.{Gains, GainsBound, Piece, alone, begun, cut_to, with_piece};
 
 use crate::growing_text::GrowingText;
 use crate::{Query, QueryAs, QueryScalar, ReadQuery, Separated};
 use either::Either;
 use sqlx_text::{AssertSqlSafe, Fault, OutOfMemory, SqlSafeStr, SqlStr};
-use sqlx_traits::{ArgumentList, Arguments, Database, Encode, IntoArguments, SqlType, add};
+use sqlx_traits::{ArgumentList, Arguments, Database, Encode, IntoArguments, SqlType};
 use std::alloc::Global;
 use std::fmt::Display;
 use std::marker::Model;
@@ -146,7 +146,7 @@ impl<DB: Database> QueryBuilder<DB> {
     ) -> Result<&mut Self, Fault>
         requires { self.old.built ≡ Bool.false }
         ensures same { IfOk result (λ b. b.ghost_name ≡ self.entry.ghost_name) }
-        ensures ok { IfOk result (λ b. GainsBound DB.Arguments.buffered DB.Arguments.placeholder DB.ArgumentBuffer.count DB.ArgumentBuffer.first
+        ensures ok { IfOk result (λ b. GainsBound DB.Arguments.placeholder DB.ArgumentBuffer.count DB.ArgumentBuffer.first
             alone (T.encoded value) self.old b.now) }
         ensures unbuilt { IfOk result (λ b. b.now.built ≡ Bool.false) }
         ensures refused { IfErr result (OrWantOfMemory (T.refuses value)) }
@@ -164,7 +164,7 @@ impl<DB: Database> QueryBuilder<DB> {
         value: T,
     ) -> Result<(), Fault>
         requires { self.old.built ≡ Bool.false }
-        ensures ok { OnOk result (GainsBound DB.Arguments.buffered DB.Arguments.placeholder DB.ArgumentBuffer.count DB.ArgumentBuffer.first
+        ensures ok { OnOk result (GainsBound DB.Arguments.placeholder DB.ArgumentBuffer.count DB.ArgumentBuffer.first
             alone (T.encoded value) self.old self.new) }
         ensures err { OnErr result (self.new ≡ self.old) }
         ensures refused { IfErr result (OrWantOfMemory (T.refuses value)) }
@@ -305,15 +305,14 @@ impl<DB: Database> QueryBuilder<DB> {
         alloc: Global,
         value: T,
     ) -> Result<(), Fault>
-        ensures ok { OnOk result ((placeholder : _)
-            × IsPlaceholder DB.Arguments.buffered DB.Arguments.placeholder self.new.arguments placeholder
-            × (self.new ≡ with_piece self.old (Piece.Bound placeholder (T.encoded value)))) }
+        ensures ok { OnOk result (self.new ≡ with_piece self.old
+            (Piece.Bound (DB.Arguments.placeholder (DB.ArgumentBuffer.count self.new.arguments)) (T.encoded value))) }
         ensures one { OnOk result (AddsOne DB.ArgumentBuffer.count DB.ArgumentBuffer.first self.old.arguments self.new.arguments) }
         ensures err { OnErr result (self.new ≡ self.old) }
         ensures refused { IfErr result (OrWantOfMemory (T.refuses value)) }
     {
         let before = self.arguments.len();
-        match add::<DB, T>(alloc, &mut self.arguments, value) {
+        match self.arguments.add(alloc, value) {
             Ok(()) => match self.append_placeholder(alloc) {
                 Ok(()) => Ok(()),
                 Err(_want) => {
@@ -327,9 +326,8 @@ impl<DB: Database> QueryBuilder<DB> {
 
     // The placeholder of the last argument that was added.
     fn append_placeholder(&mut self, alloc: Global) -> Result<(), OutOfMemory>
-        ensures ok { OnOk result ((placeholder : _)
-            × IsPlaceholder DB.Arguments.buffered DB.Arguments.placeholder self.old.arguments placeholder
-            × (self.new ≡ with_piece self.old (Piece.Text placeholder))) }
+        ensures ok { OnOk result (self.new ≡ with_piece self.old
+            (Piece.Text (DB.Arguments.placeholder (DB.ArgumentBuffer.count self.old.arguments)))) }
         ensures err { OnErr result (self.new ≡ self.old) }
     {
         let mut placeholder = String::new(alloc);

@@ -60,7 +60,7 @@ impl<'qb, DB: Database> Separated<'qb, DB> {
     ) -> Result<(), Fault>
         ensures same { (self.new.builder.ghost_name ≡ self.old.builder.ghost_name) × (self.new.separator ≡ self.old.separator) }
         ensures begun { OnOk result (self.new.has_piece ≡ Bool.true) }
-        ensures ok { OnOk result (GainsBound DB.Arguments.buffered DB.Arguments.placeholder DB.ArgumentBuffer.count DB.ArgumentBuffer.first
+        ensures ok { OnOk result (GainsBound DB.Arguments.placeholder DB.ArgumentBuffer.count DB.ArgumentBuffer.first
             (entry self.old.has_piece self.old.separator.now) (T.encoded value) self.old.builder.now self.new.builder.now) }
         ensures err { OnErr result ((self.new.has_piece ≡ self.old.has_piece) × (self.new.builder.now ≡ self.old.builder.now)) }
         ensures refused { IfErr result (OrWantOfMemory (T.refuses value)) }
@@ -92,7 +92,7 @@ impl<'qb, DB: Database> Separated<'qb, DB> {
     ) -> Result<(), Fault>
         ensures same { (self.new.builder.ghost_name ≡ self.old.builder.ghost_name) × (self.new.separator ≡ self.old.separator) }
         ensures list { self.new.has_piece ≡ self.old.has_piece }
-        ensures ok { OnOk result (GainsBound DB.Arguments.buffered DB.Arguments.placeholder DB.ArgumentBuffer.count DB.ArgumentBuffer.first
+        ensures ok { OnOk result (GainsBound DB.Arguments.placeholder DB.ArgumentBuffer.count DB.ArgumentBuffer.first
             alone (T.encoded value) self.old.builder.now self.new.builder.now) }
         ensures err { OnErr result (self.new.builder.now ≡ self.old.builder.now) }
         ensures refused { IfErr result (OrWantOfMemory (T.refuses value)) }

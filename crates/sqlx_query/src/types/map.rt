@@ -1,7 +1,7 @@
 //! A query whose rows are mapped.
-ghost use Rattle.std.specs.Prelude.{◌≡◌, ◌≤◌, ◌⊎◌, IfErr};
+ghost use Rattle.std.specs.Prelude.{◌≡◌, ◌≤◌, ◌⊎◌, ◌∷◌, [], Err, IfErr};
 ghost use Rattle.sqlx_text.specs.declared.error.Error.{Error};
-ghost use Rattle.sqlx_traits.specs.StepList.{Ran, StepCause, StepCauses, first_of, one_or, rows_of};
+ghost use Rattle.sqlx_traits.specs.StepList.{Ran, RunsNothing, StepCause, StepCauses, first_of, one_or, rows_of};
 ghost use Rattle.sqlx_query.specs.Query.{handed_over, turned};
 ghost use Rattle.sqlx_query.specs.Mapping.{MapsAll, ReadsOne, ReadsOptional, RefusedBy, made_by};
 
@@ -91,6 +91,7 @@ impl<'q, DB: Database, F: Mapper<DB::Row>, A: IntoArguments<DB> + Drop> Map<'q, 
     pub fn fetch<E: Executor<DB>>(self, alloc: Global, executor: &mut E) -> MapStream<DB, F>
         ensures rows { Ran E.runs executor.old (handed_over A.becomes self.entry.query) executor.new (λ list. result.rows ≡ rows_of list) }
         ensures mapper { result.mapper ≡ self.entry.mapper }
+        ensures unencoded { IfErr (turned A.becomes self.entry.query.arguments) (RunsNothing executor.old executor.new (λ e. result.rows ≡ Err e ∷ [])) }
         ensures rises { E.faults executor.old ≤ E.faults executor.new }
         ensures causes { StepCauses (E.faults executor.old) (E.faults executor.new) (turned A.becomes self.entry.query.arguments) result.rows }
     {
@@ -109,6 +110,7 @@ impl<'q, DB: Database, F: Mapper<DB::Row>, A: IntoArguments<DB> + Drop> Map<'q, 
     ) -> MapManyStream<DB, F>
         ensures steps { E.runs executor.old (handed_over A.becomes self.entry.query) result.list executor.new }
         ensures mapper { result.mapper ≡ self.entry.mapper }
+        ensures unencoded { IfErr (turned A.becomes self.entry.query.arguments) (RunsNothing executor.old executor.new (λ e. result.list ≡ Err e ∷ [])) }
         ensures rises { E.faults executor.old ≤ E.faults executor.new }
         ensures causes { StepCauses (E.faults executor.old) (E.faults executor.new) (turned A.becomes self.entry.query.arguments) result.list }
     {

@@ -1,8 +1,8 @@
 //! A text or a prepared statement with arguments, and what runs it.
-ghost use Rattle.std.specs.Prelude.{◌≡◌, ◌≤◌, ◌⊎◌, ◌++◌, IfErr, ℕ, IfOk, List, OnErr, OnOk, codes, decimal, string_bytes};
+ghost use Rattle.std.specs.Prelude.{◌≡◌, ◌≤◌, ◌⊎◌, ◌++◌, ◌∷◌, [], Err, IfErr, ℕ, IfOk, List, OnErr, OnOk, codes, decimal, string_bytes};
 ghost use Rattle.sqlx_text.specs.declared.error.Error.{Error};
 ghost use Rattle.sqlx_traits.specs.Reads.{Answers};
-ghost use Rattle.sqlx_traits.specs.StepList.{Ran, StepCause, StepCauses, all_of, combined, first_of, one_or, results_of, rows_of};
+ghost use Rattle.sqlx_traits.specs.StepList.{Ran, RunsNothing, StepCause, StepCauses, all_of, combined, first_of, one_or, results_of, rows_of};
 ghost use Rattle.sqlx_query.specs.Binding.{AddsOrFails, Binds, Bound, CanBind, IsUnencoded, fault_after_a_fault};
 ghost use Rattle.sqlx_query.specs.Query.{begun, given_arguments, handed_over, statement_of, text_of, turned};
 
@@ -10,7 +10,7 @@ use either::Either;
 use sqlx_text::{Error, Fault, OutOfMemory, SqlStr, UStr};
 use sqlx_traits::{
     ArgumentList, Arguments, Database, Encode, Execute, ExecuteMany, Executor, Fetch, FetchMany,
-    HasStatementCache, IntoArguments, QueryResult, SqlType, Statement, add,
+    HasStatementCache, IntoArguments, QueryResult, SqlType, Statement,
 };
 use std::alloc::Global;
 use std::marker::Model;
@@ -105,7 +105,7 @@ impl<'q, DB: Database> Query<'q, DB, DB::Arguments> {
         ensures after { ¬ CanBind self.old.arguments → result ≡ Err fault_after_a_fault }
     {
         match &mut self.arguments {
-            Ok(Some(arguments)) => add::<DB, T>(alloc, arguments, value),
+            Ok(Some(arguments)) => arguments.add(alloc, value),
             _ => Err(after_a_fault()),
         }
     }
@@ -142,7 +142,7 @@ fn added<'t, DB: Database, T: Encode<'t, DB> + SqlType<DB>>(
 {
     let mut arguments = arguments;
     let number = arguments.len() as u128 + 1;
-    match add::<DB, T>(alloc, &mut arguments, value) {
+    match arguments.add(alloc, value) {
         Ok(()) => Ok(Some(arguments)),
         Err(fault) => {
             drop(arguments);
@@ -236,8 +236,9 @@ impl<'q, DB: Database, A: IntoArguments<DB> + Drop> Query<'q, DB, A> {
         executor: &mut E,
     ) -> Result<DB::QueryResult, Error>
         ensures combined { Ran E.runs executor.old (handed_over A.becomes self.entry) executor.new (λ list. result ≡ combined DB.QueryResult.extended DB.QueryResult.nothing (results_of list)) }
+        ensures unencoded { IfErr (turned A.becomes self.entry.arguments) (RunsNothing executor.old executor.new (λ e. result ≡ Err e)) }
         ensures rises { E.faults executor.old ≤ E.faults executor.new }
-        ensures cause { IfErr result (λ e. StepCause (E.faults executor.old) (E.faults executor.new) (turned A.becomes self.entry.arguments) e) }
+        ensures cause { IfErr result (StepCause (E.faults executor.old) (E.faults executor.new) (turned A.becomes self.entry.arguments)) }
     {
         executor.execute(alloc, self)
     }
@@ -245,6 +246,7 @@ impl<'q, DB: Database, A: IntoArguments<DB> + Drop> Query<'q, DB, A> {
     /// Runs it and gives the results of its statements, one by one, and the error behind them if there is one.
     pub fn execute_many<E: Executor<DB>>(self, alloc: Global, executor: &mut E) -> ExecuteMany<DB>
         ensures results { Ran E.runs executor.old (handed_over A.becomes self.entry) executor.new (λ list. result ≡ results_of list) }
+        ensures unencoded { IfErr (turned A.becomes self.entry.arguments) (RunsNothing executor.old executor.new (λ e. result ≡ Err e ∷ [])) }
         ensures rises { E.faults executor.old ≤ E.faults executor.new }
         ensures causes { StepCauses (E.faults executor.old) (E.faults executor.new) (turned A.becomes self.entry.arguments) result }
     {
@@ -254,6 +256,7 @@ impl<'q, DB: Database, A: IntoArguments<DB> + Drop> Query<'q, DB, A> {
     /// Runs it and gives its rows, one by one, and the error behind them if there is one.
     pub fn fetch<E: Executor<DB>>(self, alloc: Global, executor: &mut E) -> Fetch<DB>
         ensures rows { Ran E.runs executor.old (handed_over A.becomes self.entry) executor.new (λ list. result ≡ rows_of list) }
+        ensures unencoded { IfErr (turned A.becomes self.entry.arguments) (RunsNothing executor.old executor.new (λ e. result ≡ Err e ∷ [])) }
         ensures rises { E.faults executor.old ≤ E.faults executor.new }
         ensures causes { StepCauses (E.faults executor.old) (E.faults executor.new) (turned A.becomes self.entry.arguments) result }
     {
@@ -263,6 +266,7 @@ impl<'q, DB: Database, A: IntoArguments<DB> + Drop> Query<'q, DB, A> {
     /// Runs it and gives its rows and the results of its statements, one by one.
     pub fn fetch_many<E: Executor<DB>>(self, alloc: Global, executor: &mut E) -> FetchMany<DB>
         ensures steps { E.runs executor.old (handed_over A.becomes self.entry) result executor.new }
+        ensures unencoded { IfErr (turned A.becomes self.entry.arguments) (RunsNothing executor.old executor.new (λ e. result ≡ Err e ∷ [])) }
         ensures rises { E.faults executor.old ≤ E.faults executor.new }
         ensures causes { StepCauses (E.faults executor.old) (E.faults executor.new) (turned A.becomes self.entry.arguments) result }
     {
@@ -276,8 +280,9 @@ impl<'q, DB: Database, A: IntoArguments<DB> + Drop> Query<'q, DB, A> {
         executor: &mut E,
     ) -> Result<Vec<DB::Row>, Error>
         ensures rows { Ran E.runs executor.old (handed_over A.becomes self.entry) executor.new (λ list. Answers (λ rows. rows.items) Error.OutOfMemory (all_of (rows_of list)) result) }
+        ensures unencoded { IfErr (turned A.becomes self.entry.arguments) (RunsNothing executor.old executor.new (λ e. Answers (λ rows. rows.items) Error.OutOfMemory (Err e) result)) }
         ensures rises { E.faults executor.old ≤ E.faults executor.new }
-        ensures cause { IfErr result (λ e. StepCause (E.faults executor.old) (E.faults executor.new) (turned A.becomes self.entry.arguments) e) }
+        ensures cause { IfErr result (StepCause (E.faults executor.old) (E.faults executor.new) (turned A.becomes self.entry.arguments)) }
     {
         executor.fetch_all(alloc, self)
     }
@@ -289,6 +294,7 @@ impl<'q, DB: Database, A: IntoArguments<DB> + Drop> Query<'q, DB, A> {
         executor: &mut E,
     ) -> Result<DB::Row, Error>
         ensures row { Ran E.runs executor.old (handed_over A.becomes self.entry) executor.new (λ list. result ≡ one_or Error.RowNotFound (first_of (rows_of list))) }
+        ensures unencoded { IfErr (turned A.becomes self.entry.arguments) (RunsNothing executor.old executor.new (λ e. result ≡ Err e)) }
         ensures rises { E.faults executor.old ≤ E.faults executor.new }
         ensures cause { IfErr result (λ e. (e ≡ Error.RowNotFound) ⊎ StepCause (E.faults executor.old) (E.faults executor.new) (turned A.becomes self.entry.arguments) e) }
     {
@@ -302,8 +308,9 @@ impl<'q, DB: Database, A: IntoArguments<DB> + Drop> Query<'q, DB, A> {
         executor: &mut E,
     ) -> Result<Option<DB::Row>, Error>
         ensures row { Ran E.runs executor.old (handed_over A.becomes self.entry) executor.new (λ list. result ≡ first_of (rows_of list)) }
+        ensures unencoded { IfErr (turned A.becomes self.entry.arguments) (RunsNothing executor.old executor.new (λ e. result ≡ Err e)) }
         ensures rises { E.faults executor.old ≤ E.faults executor.new }
-        ensures cause { IfErr result (λ e. StepCause (E.faults executor.old) (E.faults executor.new) (turned A.becomes self.entry.arguments) e) }
+        ensures cause { IfErr result (StepCause (E.faults executor.old) (E.faults executor.new) (turned A.becomes self.entry.arguments)) }
     {
         executor.fetch_optional(alloc, self)
     }

@@ -69,7 +69,7 @@ impl RawSql {
     ) -> Result<DB::QueryResult, Error>
         ensures combined { Ran E.runs executor.old (handed_raw self) executor.new (λ list. result ≡ combined DB.QueryResult.extended DB.QueryResult.nothing (results_of list)) }
         ensures rises { E.faults executor.old ≤ E.faults executor.new }
-        ensures cause { IfErr result (λ e. StepCause (E.faults executor.old) (E.faults executor.new) (no_arguments DB.Arguments) e) }
+        ensures cause { IfErr result (StepCause (E.faults executor.old) (E.faults executor.new) (no_arguments DB.Arguments)) }
     {
         executor.execute(alloc, self)
     }
@@ -117,7 +117,7 @@ impl RawSql {
     ) -> Result<Vec<DB::Row>, Error>
         ensures rows { Ran E.runs executor.old (handed_raw self) executor.new (λ list. Answers (λ rows. rows.items) Error.OutOfMemory (all_of (rows_of list)) result) }
         ensures rises { E.faults executor.old ≤ E.faults executor.new }
-        ensures cause { IfErr result (λ e. StepCause (E.faults executor.old) (E.faults executor.new) (no_arguments DB.Arguments) e) }
+        ensures cause { IfErr result (StepCause (E.faults executor.old) (E.faults executor.new) (no_arguments DB.Arguments)) }
     {
         executor.fetch_all(alloc, self)
     }
@@ -143,7 +143,7 @@ impl RawSql {
     ) -> Result<Option<DB::Row>, Error>
         ensures row { Ran E.runs executor.old (handed_raw self) executor.new (λ list. result ≡ first_of (rows_of list)) }
         ensures rises { E.faults executor.old ≤ E.faults executor.new }
-        ensures cause { IfErr result (λ e. StepCause (E.faults executor.old) (E.faults executor.new) (no_arguments DB.Arguments) e) }
+        ensures cause { IfErr result (StepCause (E.faults executor.old) (E.faults executor.new) (no_arguments DB.Arguments)) }
     {
         executor.fetch_optional(alloc, self)
     }

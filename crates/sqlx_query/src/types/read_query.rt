@@ -1,7 +1,7 @@
 //! A query whose rows are read as values: each made of its row, or each the row's first column.
-ghost use Rattle.std.specs.Prelude.{◌≡◌, ◌≤◌, ◌⊎◌, IfErr};
+ghost use Rattle.std.specs.Prelude.{◌≡◌, ◌≤◌, ◌⊎◌, ◌∷◌, [], Err, IfErr};
 ghost use Rattle.sqlx_text.specs.declared.error.Error.{Error};
-ghost use Rattle.sqlx_traits.specs.StepList.{Ran, StepCause, StepCauses, first_of, one_or, rows_of};
+ghost use Rattle.sqlx_traits.specs.StepList.{Ran, RunsNothing, StepCause, StepCauses, first_of, one_or, rows_of};
 ghost use Rattle.sqlx_query.specs.Binding.{Binds};
 ghost use Rattle.sqlx_query.specs.Mapping.{ReadsAll, ReadsOne, ReadsOptional, Refused};
 ghost use Rattle.sqlx_query.specs.Query.{handed_over, turned};
@@ -64,6 +64,7 @@ impl<'q, DB: Database, M: Reader<DB>, A: IntoArguments<DB> + Drop> ReadQuery<'q,
     /// Runs it and gives its rows' values, one by one; a refused row gives its error, and the next ones follow.
     pub fn fetch<E: Executor<DB>>(self, alloc: Global, executor: &mut E) -> ReadStream<DB, M>
         ensures rows { Ran E.runs executor.old (handed_over A.becomes self.entry.query) executor.new (λ list. result.rows ≡ rows_of list) }
+        ensures unencoded { IfErr (turned A.becomes self.entry.query.arguments) (RunsNothing executor.old executor.new (λ e. result.rows ≡ Err e ∷ [])) }
         ensures rises { E.faults executor.old ≤ E.faults executor.new }
         ensures causes { StepCauses (E.faults executor.old) (E.faults executor.new) (turned A.becomes self.entry.query.arguments) result.rows }
     {
@@ -81,6 +82,7 @@ impl<'q, DB: Database, M: Reader<DB>, A: IntoArguments<DB> + Drop> ReadQuery<'q,
         executor: &mut E,
     ) -> ReadManyStream<DB, M>
         ensures steps { E.runs executor.old (handed_over A.becomes self.entry.query) result.list executor.new }
+        ensures unencoded { IfErr (turned A.becomes self.entry.query.arguments) (RunsNothing executor.old executor.new (λ e. result.list ≡ Err e ∷ [])) }
         ensures rises { E.faults executor.old ≤ E.faults executor.new }
         ensures causes { StepCauses (E.faults executor.old) (E.faults executor.new) (turned A.becomes self.entry.query.arguments) result.list }
     {
