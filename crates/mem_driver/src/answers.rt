@@ -96,7 +96,7 @@ fn single(alloc: Global, name: &'static str, number: i64) -> Result<AnyRow, OutO
 }
 
 #[tactic(auto, using(crate::proofs::AnswersLemmas::is_i64))]
-fn pair(alloc: Global, key: i64, number: i64) -> Result<AnyRow, OutOfMemory>
+fn pair_of(alloc: Global, key: i64, number: i64) -> Result<AnyRow, OutOfMemory>
     ensures row { IfOk result (λ row. row ≡ pair_row (key, number)) }
     ensures fits { IfOk result (λ row. AllByRecursion IsI64 row.values) }
 {
@@ -105,6 +105,14 @@ fn pair(alloc: Global, key: i64, number: i64) -> Result<AnyRow, OutOfMemory>
     values.push(value(key))?;
     values.push(value(number))?;
     row(names, columns, values)
+}
+
+fn pair(alloc: Global, item: &(i64, i64)) -> Result<AnyRow, OutOfMemory>
+    ensures row { IfOk result (λ row. row ≡ pair_row item.now) }
+    ensures fits { IfOk result (λ row. AllByRecursion IsI64 row.values) }
+{
+    let (key, number) = *item;
+    pair_of(alloc, key, number)
 }
 
 // ---- step lists
@@ -180,8 +188,8 @@ pub(crate) fn all(alloc: Global, pairs: Vec<(i64, i64)>) -> Result<Steps, OutOfM
     ensures fits { IfOk result RowsFit }
 {
     let mut items = VecDeque::new(alloc);
-    for (key, number) in pairs.iter() {
-        push_row(&mut items, pair(alloc, *key, *number)?)?;
+    for item in pairs.iter() {
+        push_row(&mut items, pair(alloc, item)?)?;
     }
     finished(items, 0)
 }

@@ -4,5 +4,5 @@ use Rattle.mem_driver.proofs.AnswersLemmas.{rows_as_items}
 use Rattle.mem_driver.proofs.answers.all.Given as goal
 
 -- the rows of the pairs so far
-abbrev pub invariant-loop-key : goal.invariant-loop-key
-invariant-loop-key l = (l.items.items ≡ rows_as_items (map pair_row (take l.key-index l.fn.pairs.items))) × RowsFit (oks l.items.items)
+abbrev pub invariant-loop-item : goal.invariant-loop-item
+invariant-loop-item l = (l.items.items ≡ rows_as_items (map pair_row (take l.item-index l.fn.pairs.items))) × RowsFit (oks l.items.items)
