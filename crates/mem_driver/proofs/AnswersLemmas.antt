@@ -1,24 +1,20 @@
 -- Step lists: their numbers have 64 bits, and what an act gives has no errors.
-use Rattle.std.proofs.Common.{◌≡◌, ℕ, ◌^◌, ◌<◌, ◌||◌, false, cond, ℤ, pos, negsuc, w64, SFits, List, [], ◌∷◌, ◌++◌, map, Option, Some, None, Result, Ok, Err, IfOk, refl, sym, subst, ap, ◌∙◌, ◌+◌, length, take, get_or, le-ltb, nat_lt, arith}
+use Rattle.std.proofs.Common.{◌≡◌, ℕ, ◌<◌, ◌||◌, false, cond, ℤ, pos, negsuc, w64, SFits, List, [], ◌∷◌, ◌++◌, map, Option, Result, Ok, Err, IfOk, refl, sym, subst, ap, ◌∙◌, ◌+◌, length, take, get_or, le-ltb, arith}
 use Rattle.std.proofs.lemmas.List.{map-append, take_more}
 use Rattle.std.specs.List.{AllByRecursion}
 use Rattle.std.specs.FinMap.{entries}
-use Rattle.either.specs.declared.Either.{Either}
 use Rattle.either.specs.declared.Either.TheVariants.{Left, Right}
-use Rattle.sqlx_text.specs.declared.error.Error.{Error}
-use Rattle.sqlx_text.specs.declared.fault.Fault.{Fault}
 use Rattle.sqlx_text.specs.declared.fault.Fault.TheVariants as fault
 use Rattle.sqlx_traits.specs.StepList.{StepCauses}
 use Rattle.sqlx_any.specs.Rows.{RowParts}
 use Rattle.sqlx_any.specs.TypedRead.{read_i64}
 use Rattle.sqlx_any.specs.declared.arguments.AnyArguments.{AnyArguments}
-use Rattle.sqlx_any.specs.declared.query_result.AnyQueryResult.{AnyQueryResult}
 use Rattle.sqlx_any.specs.declared.value.AnyValueKind.TheVariants.{BigInt}
 use Rattle.mem_store.specs.Acts.{rows_seen, seen_by}
 use Rattle.mem_store.specs.Store.{Session as Work}
 use Rattle.mem_store.specs.declared.act.Act.{Act}
 use Rattle.mem_store.specs.declared.act.Act.TheVariants.{Put, Delete, Get, SelectAll, SelectOne, Level}
-use Rattle.mem_driver.specs.Answers.{Answers, IsI64, Item, RowsFit, done, found, listed, oks, pair_row, result_of, steps_of, value_of}
+use Rattle.mem_driver.specs.Answers.{Answers, IsI64, Item, RowsFit, done, found, listed, oks, pair_row, steps_of, value_of}
 
 -- ---- numbers
 

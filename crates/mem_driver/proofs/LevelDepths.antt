@@ -1,8 +1,8 @@
 -- The depth after a level was begun or ended.
-use Rattle.std.proofs.Common.{◌≡◌, ℕ, zero, suc, ◌+◌, ◌-◌, ◌<◌, ◌≤◌, nat_lt, Bool, true, false, cond, Option, Some, None, List, refl, ◌∙◌, arith}
+use Rattle.std.proofs.Common.{◌≡◌, ℕ, zero, suc, ◌+◌, ◌-◌, ◌≤◌, nat_lt, Bool, true, false, cond, Option, Some, None, List, refl, ◌∙◌, arith}
 use Rattle.std.specs.Prelude.{is_some, option_map, unwrap_or, if◌then◌else◌}
 use Rattle.sqlx_savepoints.specs.Rows.{Rows, Writes}
-use Rattle.sqlx_savepoints.specs.NamedSavepoints.{Named, Entry, newest, pushed, ran, released, restored}
+use Rattle.sqlx_savepoints.specs.NamedSavepoints.{Entry, newest, pushed, ran, released, restored}
 use Rattle.sqlx_savepoints.specs.Texts.{begin_at, commit_at, rollback_at}
 use Rattle.sqlx_savepoints.specs.declared.level_text.LevelText.{LevelText}
 use Rattle.sqlx_savepoints.specs.declared.level_text.LevelText.TheVariants.{Begin, BeginImmediate, Commit, Rollback, Savepoint, Release, RollbackTo}

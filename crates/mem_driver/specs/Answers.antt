@@ -1,5 +1,5 @@
 -- The step lists that statements give.
-use Rattle.std.specs.Prelude.{◌≡◌, ℕ, ◌+◌, ℤ, pos, ⊤, is_some, if◌then◌else◌, List, [], ◌∷◌, ◌++◌, map, Option, Some, None, Result, Ok, Err, codes}
+use Rattle.std.specs.Prelude.{◌≡◌, ℕ, ◌+◌, ℤ, pos, ⊤, is_some, if◌then◌else◌, List, [], ◌∷◌, map, Option, Some, None, Ok, Err, codes}
 use Rattle.std.specs.FinMap.{entries}
 use Rattle.std.specs.List.{AllByRecursion}
 use Rattle.either.specs.declared.Either.{Either}

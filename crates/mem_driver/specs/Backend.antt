@@ -1,6 +1,5 @@
 -- What the calls of a session give, and the session after them.
-use Rattle.std.specs.Prelude.{◌≡◌, ◌⊎◌, ◌==◌, ℕ, zero, suc, Bool, true, false, if◌then◌else◌, List, [], Option, Some, None, Ok, Err}
-use Rattle.sqlx_text.specs.declared.error.Error.{Error}
+use Rattle.std.specs.Prelude.{◌≡◌, ◌⊎◌, ℕ, zero, suc, Bool, List, [], Option, Some, None, Ok, Err}
 use Rattle.sqlx_text.specs.declared.error.Error.TheVariants as error
 use Rattle.sqlx_traits.specs.Calls.{Call, Outcome, begin, commit, rollback, start_rollback, ping, clear_cached_statements, shrink_buffers, flush}
 use Rattle.sqlx_any.specs.declared.arguments.AnyArguments.{AnyArguments}

@@ -9,7 +9,7 @@ use Rattle.mem_store.specs.Errors.{error_of}
 use Rattle.mem_store.specs.Statements.{read_statement}
 use Rattle.mem_store.specs.declared.refusal.Refusal.TheVariants.{Unread}
 use Rattle.mem_store.specs.declared.statement.Statement.{Statement}
-use Rattle.mem_store.specs.declared.statement.Statement.TheVariants.{Put, Delete, Get, SelectAll, SelectOne, Level}
+use Rattle.mem_store.specs.declared.statement.Statement.TheVariants.{Put, Delete, Get, SelectAll, SelectOne}
 use Rattle.mem_driver.specs.Answers.{columns_from, named_from, one_names, pair_names, value_names}
 use Rattle.mem_driver.specs.Session.{Session, fault_counted}
 

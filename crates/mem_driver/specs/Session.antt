@@ -1,5 +1,5 @@
 -- A connection and a session as plain values, and what acts and refusals make of a session.
-use Rattle.std.specs.Prelude.{◌≡◌, ◌&&◌, ℕ, Bool, true, false, is_some, List, [], Option, refl}
+use Rattle.std.specs.Prelude.{◌&&◌, ℕ, Bool, true, false, is_some, List, [], Option, refl}
 use Rattle.std.specs.Coded.{Coded, code_by, coded×, coded_bool, coded_list, coded_ℕ}
 use Rattle.lru.specs.LruCache.{LruCache, lru_cache, lru_cache_code}
 use Rattle.sqlx_text.specs.Cache.{inserted}

@@ -1,4 +1,4 @@
-use Rattle.std.proofs.Common.{◌≡◌, ◌<◌, ◌≤◌, ◌∙◌, [], ◌∷◌, ◌++◌, ap, get_or, pos, length, map, take_all, subst}
+use Rattle.std.proofs.Common.{◌<◌, ◌≤◌, ◌∙◌, [], ◌∷◌, ◌++◌, ap, get_or, pos, length, map, take_all, subst}
 use Rattle.either.specs.declared.Either.TheVariants.{Right}
 use Rattle.mem_driver.specs.Answers.{pair_row}
 use Rattle.mem_driver.proofs.AnswersLemmas.{all-steps, all-fit, pushed-row, rows_as_items}

@@ -1,4 +1,4 @@
-use Rattle.std.proofs.Common.{◌≡◌, ◌++◌, map, take}
+use Rattle.std.proofs.Common.{◌≡◌, map, take}
 use Rattle.mem_driver.specs.Answers.{RowsFit, oks, pair_row}
 use Rattle.mem_driver.proofs.AnswersLemmas.{rows_as_items}
 use Rattle.mem_driver.proofs.answers.all.Given as goal
