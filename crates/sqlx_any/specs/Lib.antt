@@ -11,4 +11,3 @@ pub mod Mapped
 pub mod Described
 pub mod Drivers
 pub mod Runs
-pub mod Calls

@@ -1,9 +1,9 @@
 //! A backend: what a driver has to do so that its connections can stand behind `Any`.
 ghost use Rattle.std.specs.Prelude.{◌≡◌, ◌+◌, ◌-◌, ◌<◌, ◌≤◌, ⊤, ℕ, Bool, Err, IfErr, IfOk, IsSome, List, Ok, OnErr, OnOk, Option, Result, nat_lt};
 ghost use Rattle.sqlx_text.specs.declared.error.Error.{Error};
-ghost use Rattle.sqlx_traits.specs.Faults.{FaultCause};
+ghost use Rattle.sqlx_traits.specs.Faults.{BeginCause, FaultCause};
 ghost use Rattle.sqlx_traits.specs.StepList.{StepCauses, Steps, first_of, rows_of};
-ghost use Rattle.sqlx_any.specs.Calls as call;
+ghost use Rattle.sqlx_traits.specs.Calls as call;
 ghost use Rattle.sqlx_any.specs.Rows.{RowParts, StatementParts};
 
 use crate::{Any, AnyArguments, AnyConnectOptions, AnyRow, AnyStatement, AnyTypeInfo};
@@ -63,7 +63,7 @@ pub trait AnyConnectionBackend: Faults + Sized {
     fn ping(&mut self) -> Result<(), Error>
         ensures levels { levels self.new ≡ levels self.old }
         ensures rises { Self.faults self.old ≤ Self.faults self.new }
-        ensures cause { IfErr result (λ e. FaultCause (Self.faults self.old) (Self.faults self.new) e) }
+        ensures cause { IfErr result (FaultCause (Self.faults self.old) (Self.faults self.new)) }
         ensures does { does call.ping self.old result self.new };
 
     /// Opens a level: by the statement where one is given, which is refused inside of a transaction,
@@ -74,7 +74,8 @@ pub trait AnyConnectionBackend: Faults + Sized {
         ensures custom_inside { IsSome statement → 0 < levels self.old → (result ≡ Err Error.InvalidSavePointStatement) × (self.new ≡ self.old) }
         ensures only_inside { result ≡ Err Error.InvalidSavePointStatement → IsSome statement × (0 < levels self.old) }
         ensures rises { Self.faults self.old ≤ Self.faults self.new }
-        ensures cause { IfErr result (λ e. FaultCause (Self.faults self.old) (Self.faults self.new) e) }
+        ensures only_custom { result ≡ Err Error.BeginFailed → IsSome statement × (levels self.new ≡ 0) }
+        ensures cause { IfErr result (BeginCause (Self.faults self.old) (Self.faults self.new)) }
         ensures does { does (call.begin statement) self.old result self.new };
 
     /// Ends the newest level and keeps what it wrote. A refused one ends it as rolled back.
@@ -82,7 +83,7 @@ pub trait AnyConnectionBackend: Faults + Sized {
         requires { 0 < levels self.old }
         ensures levels { levels self.new ≡ levels self.old - 1 }
         ensures rises { Self.faults self.old ≤ Self.faults self.new }
-        ensures cause { IfErr result (λ e. FaultCause (Self.faults self.old) (Self.faults self.new) e) }
+        ensures cause { IfErr result (FaultCause (Self.faults self.old) (Self.faults self.new)) }
         ensures does { does call.commit self.old result self.new };
 
     /// Ends the newest level and undoes what it wrote, also where it is refused.
@@ -90,7 +91,7 @@ pub trait AnyConnectionBackend: Faults + Sized {
         requires { 0 < levels self.old }
         ensures levels { levels self.new ≡ levels self.old - 1 }
         ensures rises { Self.faults self.old ≤ Self.faults self.new }
-        ensures cause { IfErr result (λ e. FaultCause (Self.faults self.old) (Self.faults self.new) e) }
+        ensures cause { IfErr result (FaultCause (Self.faults self.old) (Self.faults self.new)) }
         ensures does { does call.rollback self.old result self.new };
 
     /// Begins to roll back the newest level, which can't be refused: the level is ended.
@@ -120,7 +121,7 @@ pub trait AnyConnectionBackend: Faults + Sized {
         ensures ok { OnOk result (cached self.new ≡ 0) }
         ensures levels { levels self.new ≡ levels self.old }
         ensures rises { Self.faults self.old ≤ Self.faults self.new }
-        ensures cause { IfErr result (λ e. FaultCause (Self.faults self.old) (Self.faults self.new) e) }
+        ensures cause { IfErr result (FaultCause (Self.faults self.old) (Self.faults self.new)) }
         ensures does { does call.clear_cached_statements self.old result self.new };
 
     /// Gives back memory that isn't needed. It leaves the depth.
@@ -134,7 +135,7 @@ pub trait AnyConnectionBackend: Faults + Sized {
         ensures ok { OnOk result (unflushed self.new ≡ Bool.false) }
         ensures levels { levels self.new ≡ levels self.old }
         ensures rises { Self.faults self.old ≤ Self.faults self.new }
-        ensures cause { IfErr result (λ e. FaultCause (Self.faults self.old) (Self.faults self.new) e) }
+        ensures cause { IfErr result (FaultCause (Self.faults self.old) (Self.faults self.new)) }
         ensures does { does call.flush self.old result self.new };
 
     /// Whether something waits to be flushed.
@@ -163,7 +164,7 @@ pub trait AnyConnectionBackend: Faults + Sized {
     ) -> Result<Option<AnyRow>, Error>
         ensures row { (list : Steps AnyQueryResult RowParts Error) × runs self.old query persistent arguments list self.new × (result ≡ first_of (rows_of list)) }
         ensures rises { Self.faults self.old ≤ Self.faults self.new }
-        ensures cause { IfErr result (λ e. FaultCause (Self.faults self.old) (Self.faults self.new) e) };
+        ensures cause { IfErr result (FaultCause (Self.faults self.old) (Self.faults self.new)) };
 
     /// Prepares a statement for parameters of these types.
     fn prepare_with(
@@ -175,7 +176,7 @@ pub trait AnyConnectionBackend: Faults + Sized {
         ensures prepared { prepares self.old sql parameters.now result self.new }
         ensures text { IfOk result (λ statement. statement.sql ≡ sql) }
         ensures rises { Self.faults self.old ≤ Self.faults self.new }
-        ensures cause { IfErr result (λ e. FaultCause (Self.faults self.old) (Self.faults self.new) e) };
+        ensures cause { IfErr result (FaultCause (Self.faults self.old) (Self.faults self.new)) };
 }
 
 /// A backend that can be opened by options.

@@ -1,7 +1,5 @@
 //! A connection over a backend, which does what it is asked.
-ghost use Rattle.std.specs.Prelude.{◌≡◌, ◌≤◌, Bool, IfErr, Ok, OnOk};
-ghost use Rattle.sqlx_traits.specs.Faults.{FaultCause};
-ghost use Rattle.sqlx_any.specs.Calls as call;
+ghost use Rattle.std.specs.Prelude.{◌≡◌};
 
 use crate::{Any, AnyConnectionBackend};
 use sqlx_text::{Depth, Error};
@@ -65,28 +63,21 @@ impl<B: AnyConnectionBackend> Connection<Any<B>> for AnyConnection<B> {
 
     ghost unflushed = { λ conn. B.unflushed conn.backend };
 
-    fn close(self) -> Result<(), Error>
-        ensures closes { IfErr result (λ _. B.closes self.backend ≡ Bool.false) }
-        ensures ends { B.ends call.told self.backend result }
-    {
+    ghost does = { λ call conn outcome after. B.does call conn.backend outcome after.backend };
+
+    ghost ends = { λ closing conn outcome. B.ends closing conn.backend outcome };
+
+    fn close(self) -> Result<(), Error> {
         let AnyConnection { backend } = self;
         backend.close()
     }
 
-    fn close_hard(self) -> Result<(), Error>
-        ensures closes { IfErr result (λ _. B.closes self.backend ≡ Bool.false) }
-        ensures ends { B.ends call.at_once self.backend result }
-    {
+    fn close_hard(self) -> Result<(), Error> {
         let AnyConnection { backend } = self;
         backend.close_hard()
     }
 
-    fn ping(&mut self) -> Result<(), Error>
-        ensures levels { B.levels self.new.backend ≡ B.levels self.old.backend }
-        ensures rises { B.faults self.old.backend ≤ B.faults self.new.backend }
-        ensures cause { IfErr result (λ e. FaultCause (B.faults self.old.backend) (B.faults self.new.backend) e) }
-        ensures does { B.does call.ping self.old.backend result self.new.backend }
-    {
+    fn ping(&mut self) -> Result<(), Error> {
         self.backend.ping()
     }
 
@@ -94,31 +85,15 @@ impl<B: AnyConnectionBackend> Connection<Any<B>> for AnyConnection<B> {
         self.backend.cached_statements_size()
     }
 
-    fn clear_cached_statements(&mut self) -> Result<(), Error>
-        ensures ok { OnOk result (B.cached self.new.backend ≡ 0) }
-        ensures levels { B.levels self.new.backend ≡ B.levels self.old.backend }
-        ensures rises { B.faults self.old.backend ≤ B.faults self.new.backend }
-        ensures cause { IfErr result (λ e. FaultCause (B.faults self.old.backend) (B.faults self.new.backend) e) }
-        ensures does { B.does call.clear_cached_statements self.old.backend result self.new.backend }
-    {
+    fn clear_cached_statements(&mut self) -> Result<(), Error> {
         self.backend.clear_cached_statements()
     }
 
-    fn shrink_buffers(&mut self)
-        ensures levels { B.levels self.new.backend ≡ B.levels self.old.backend }
-        ensures rises { B.faults self.old.backend ≤ B.faults self.new.backend }
-        ensures does { B.does call.shrink_buffers self.old.backend (Ok tt) self.new.backend }
-    {
+    fn shrink_buffers(&mut self) {
         self.backend.shrink_buffers()
     }
 
-    fn flush(&mut self) -> Result<(), Error>
-        ensures ok { OnOk result (B.unflushed self.new.backend ≡ Bool.false) }
-        ensures levels { B.levels self.new.backend ≡ B.levels self.old.backend }
-        ensures rises { B.faults self.old.backend ≤ B.faults self.new.backend }
-        ensures cause { IfErr result (λ e. FaultCause (B.faults self.old.backend) (B.faults self.new.backend) e) }
-        ensures does { B.does call.flush self.old.backend result self.new.backend }
-    {
+    fn flush(&mut self) -> Result<(), Error> {
         self.backend.flush()
     }
 

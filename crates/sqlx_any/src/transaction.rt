@@ -1,8 +1,4 @@
 //! The levels of a connection over a backend.
-ghost use Rattle.std.specs.Prelude.{◌≡◌, ◌+◌, ◌-◌, ◌<◌, ◌≤◌, Err, IfErr, IsSome, Ok, OnErr, OnOk};
-ghost use Rattle.sqlx_text.specs.declared.error.Error.{Error};
-ghost use Rattle.sqlx_traits.specs.Faults.{FaultCause};
-ghost use Rattle.sqlx_any.specs.Calls as call;
 
 use crate::{Any, AnyConnection, AnyConnectionBackend};
 use sqlx_text::{Error, SqlStr};
@@ -16,48 +12,25 @@ pub struct AnyTransactionManager<B> {
 }
 
 impl<B: AnyConnectionBackend> TransactionManager<Any<B>> for AnyTransactionManager<B> {
+    ghost does = { λ call conn outcome after. B.does call conn.backend outcome after.backend };
+
     fn begin(
         alloc: Global,
         conn: &mut AnyConnection<B>,
         statement: Option<SqlStr>,
-    ) -> Result<(), Error>
-        ensures ok { OnOk result (B.levels conn.new.backend ≡ B.levels conn.old.backend + 1) }
-        ensures err { OnErr result (B.levels conn.new.backend ≡ B.levels conn.old.backend) }
-        ensures custom_inside { IsSome statement → 0 < B.levels conn.old.backend → (result ≡ Err Error.InvalidSavePointStatement) × (conn.new ≡ conn.old) }
-        ensures only_inside { result ≡ Err Error.InvalidSavePointStatement → IsSome statement × (0 < B.levels conn.old.backend) }
-        ensures rises { B.faults conn.old.backend ≤ B.faults conn.new.backend }
-        ensures cause { IfErr result (λ e. FaultCause (B.faults conn.old.backend) (B.faults conn.new.backend) e) }
-        ensures does { B.does (call.begin statement) conn.old.backend result conn.new.backend }
-    {
+    ) -> Result<(), Error> {
         conn.backend.begin(alloc, statement)
     }
 
-    fn commit(alloc: Global, conn: &mut AnyConnection<B>) -> Result<(), Error>
-        requires { 0 < B.levels conn.old.backend }
-        ensures levels { B.levels conn.new.backend ≡ B.levels conn.old.backend - 1 }
-        ensures rises { B.faults conn.old.backend ≤ B.faults conn.new.backend }
-        ensures cause { IfErr result (λ e. FaultCause (B.faults conn.old.backend) (B.faults conn.new.backend) e) }
-        ensures does { B.does call.commit conn.old.backend result conn.new.backend }
-    {
+    fn commit(alloc: Global, conn: &mut AnyConnection<B>) -> Result<(), Error> {
         conn.backend.commit(alloc)
     }
 
-    fn rollback(alloc: Global, conn: &mut AnyConnection<B>) -> Result<(), Error>
-        requires { 0 < B.levels conn.old.backend }
-        ensures levels { B.levels conn.new.backend ≡ B.levels conn.old.backend - 1 }
-        ensures rises { B.faults conn.old.backend ≤ B.faults conn.new.backend }
-        ensures cause { IfErr result (λ e. FaultCause (B.faults conn.old.backend) (B.faults conn.new.backend) e) }
-        ensures does { B.does call.rollback conn.old.backend result conn.new.backend }
-    {
+    fn rollback(alloc: Global, conn: &mut AnyConnection<B>) -> Result<(), Error> {
         conn.backend.rollback(alloc)
     }
 
-    fn start_rollback(conn: &mut AnyConnection<B>)
-        requires { 0 < B.levels conn.old.backend }
-        ensures levels { B.levels conn.new.backend ≡ B.levels conn.old.backend - 1 }
-        ensures rises { B.faults conn.old.backend ≤ B.faults conn.new.backend }
-        ensures does { B.does call.start_rollback conn.old.backend (Ok tt) conn.new.backend }
-    {
+    fn start_rollback(conn: &mut AnyConnection<B>) {
         conn.backend.start_rollback()
     }
 

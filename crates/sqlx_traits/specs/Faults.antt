@@ -7,8 +7,15 @@ use Rattle.sqlx_text.specs.declared.error.Error.TheVariants as error
 abbrev pub HasRisen : ℕ → ℕ → Type 0
 HasRisen before now = (before < now) ⊎ (2 ^ 64 - 1 ≤ now)
 
--- an error comes only where the count rose; want of memory, and a custom begin inside of a transaction, aren't counted
+-- an error comes only where the count rose, but for want of memory, which isn't counted; the two of a custom begin come of no other call
 abbrev pub FaultCause : ℕ → ℕ → Error → Type 0
 FaultCause before now error.OutOfMemory = ⊤
-FaultCause before now error.InvalidSavePointStatement = ⊤
+FaultCause before now error.InvalidSavePointStatement = ⊥
+FaultCause before now error.BeginFailed = ⊥
 FaultCause before now _ = HasRisen before now
+
+-- likewise at a begin, which may have the two: a custom one inside of a transaction isn't counted
+abbrev pub BeginCause : ℕ → ℕ → Error → Type 0
+BeginCause before now error.InvalidSavePointStatement = ⊤
+BeginCause before now error.BeginFailed = HasRisen before now
+BeginCause before now e = FaultCause before now e

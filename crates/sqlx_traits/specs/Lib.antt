@@ -7,3 +7,4 @@ pub mod Options
 pub mod Arguments
 pub mod Parameters
 pub mod Origin
+pub mod Calls

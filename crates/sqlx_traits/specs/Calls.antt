@@ -1,4 +1,4 @@
--- What a backend can be asked for besides queries.
+-- What a connection can be asked for besides queries.
 use Rattle.std.specs.Prelude.{ℕ, List, Option, Result}
 use Rattle.sqlx_text.specs.declared.error.Error.{Error}
 
