@@ -78,13 +78,13 @@ fn placeholder(alloc: Global, n: usize) -> Result<String, OutOfMemory>
 }
 
 impl Arguments<Toy> for ToyArguments {
-    ghost use Rattle.std.specs.Prelude.{◌++◌, codes, decimal, length, refl};
+    ghost use Rattle.std.specs.Prelude.{◌++◌, codes, decimal, refl};
 
     ghost buffered = { λ args. args.list };
 
     ghost with_buffer = { λ args list. record args { list = list } };
 
-    ghost placeholder = { λ args. codes "$" ++ decimal (length args.list) };
+    ghost placeholder = { λ n. codes "$" ++ decimal n };
 
     ghost puts = { λ _ _. refl };
 

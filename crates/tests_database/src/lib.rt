@@ -4,6 +4,7 @@
 //! `POINT`, which has none. The placeholders are numbered: `$1`, `$2` and on.
 #![tactic(auto)]
 
+pub mod answers;
 pub mod arguments;
 mod binds;
 pub mod connection;
@@ -14,6 +15,7 @@ pub mod options;
 mod reads;
 pub mod row;
 pub mod statement;
+pub mod steps;
 pub mod types;
 pub mod value;
 
