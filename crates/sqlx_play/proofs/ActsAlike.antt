@@ -5,14 +5,14 @@ use Rattle.sqlx_savepoints.specs.Texts.{begin_at, commit_at, rollback_at}
 use Rattle.sqlx_savepoints.specs.NamedSavepoints.{Named, after, ran, inside, pushed, outside, begun}
 use Rattle.sqlx_savepoints.specs.declared.level_text.LevelText.{LevelText}
 use Rattle.sqlx_savepoints.specs.declared.level_text.LevelText.TheVariants.{BeginImmediate}
-use Rattle.mem_driver.specs.declared.answer.Answer.{Answer}
-use Rattle.mem_driver.specs.declared.answer.Answer.TheVariants.{Accept}
-use Rattle.mem_driver.specs.declared.place.Place.{Place}
-use Rattle.mem_driver.specs.declared.refusal.Refusal.{Refusal}
-use Rattle.mem_driver.specs.declared.refusal.Refusal.TheVariants.{Busy, Deep, Unread}
-use Rattle.mem_driver.specs.declared.runs.Runs.{Runs as Counts}
-use Rattle.mem_driver.specs.Driver.{Session, others_in_level}
-use Rattle.mem_driver.specs.Acts.{refusal_of, level_refusal, unallowed, level_counted, ended_counted, moved_to, after_start_rollback}
+use Rattle.mem_store.specs.declared.answer.Answer.{Answer}
+use Rattle.mem_store.specs.declared.answer.Answer.TheVariants.{Accept}
+use Rattle.mem_store.specs.declared.place.Place.{Place}
+use Rattle.mem_store.specs.declared.refusal.Refusal.{Refusal}
+use Rattle.mem_store.specs.declared.refusal.Refusal.TheVariants.{Busy, Deep, Unread}
+use Rattle.mem_store.specs.declared.runs.Runs.{Runs as Counts}
+use Rattle.mem_store.specs.Store.{Session, others_in_level}
+use Rattle.mem_store.specs.Acts.{refusal_of, level_refusal, unallowed, level_counted, ended_counted, moved_to, after_start_rollback}
 use Rattle.sqlx_script.specs.declared.answers.StatementAnswer.{StatementAnswer}
 use Rattle.sqlx_script.specs.declared.answers.StatementAnswer.TheVariants.{Runs, StatementIo, StatementRefused}
 use Rattle.sqlx_script.specs.declared.reply.Reply.{Reply}

@@ -8,7 +8,7 @@ use Rattle.sqlx_play.specs.declared.error.PlayError.TheVariants.{OutOfMemory}
 use Rattle.sqlx_play.specs.declared.outside.ScriptOutside.{ScriptOutside}
 use Rattle.sqlx_play.specs.ScriptOutside.{next_connect, refusal_of, depth_of, is_left_open}
 use Rattle.sqlx_play.specs.Answer.{connect_reply}
-use Rattle.mem_driver.specs.Driver.{Link}
+use Rattle.mem_store.specs.Store.{Link}
 use Rattle.sqlx_script.specs.declared.answers.PollAnswers.{PollAnswers}
 use Rattle.sqlx_script.specs.declared.pool_line.PoolLine.{PoolLine}
 

@@ -25,7 +25,7 @@ use Rattle.sqlx_script.specs.declared.pool_line.PoolLine.{PoolLine}
 use Rattle.sqlx_pool_core.specs.declared.options.PoolOptions.{PoolOptions}
 use Rattle.sqlx_pool_core.specs.FairLog.{IsFair}
 use Rattle.sqlx_pool_core.proofs.FairLaws.{fair-append}
-use Rattle.mem_driver.specs.Driver.{Link}
+use Rattle.mem_store.specs.Store.{Link}
 use Rattle.sqlx_play.specs.ScriptMarks.{marks_of}
 use Rattle.sqlx_play.proofs.Stages.{marks_of-push}
 use Rattle.sqlx_play.proofs.Pairs.{tries_of-push, tried-same, history_of-push}

@@ -13,7 +13,7 @@ use Rattle.sqlx_pool_core.specs.Makes.{Makes}
 use Rattle.sqlx_pool_core.specs.Marks.{idle_of, is_open}
 use Rattle.sqlx_pool_core.specs.Sound.{IsSound, rests, holds}
 use Rattle.sqlx_pool_core.proofs.ListFacts.{same_number, count_by-cons, filter_none, length_map}
-use Rattle.mem_driver.specs.Driver.{Store, Link}
+use Rattle.mem_store.specs.Store.{Store, Link}
 use Rattle.sqlx_brackets.specs.Changes.{leaves, History}
 use Rattle.sqlx_script.specs.declared.step.Event.{Event}
 use Rattle.sqlx_script.specs.declared.step.Step.TheVariants.{Close}

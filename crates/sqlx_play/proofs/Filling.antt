@@ -10,7 +10,7 @@ use Rattle.sqlx_pool_core.specs.Marks.{next_conn, is_shut}
 use Rattle.sqlx_pool_core.specs.EventTable.{may_pass}
 use Rattle.sqlx_pool_core.specs.StandsFor.{StandsFor}
 use Rattle.sqlx_pool_core.proofs.TurnAtMarks.{free-places, waiting-stands, size-stands}
-use Rattle.mem_driver.specs.Driver.{Store, Link}
+use Rattle.mem_store.specs.Store.{Store, Link}
 use Rattle.sqlx_brackets.specs.Changes.{History}
 use Rattle.sqlx_script.specs.declared.pool_line.PoolLine.{PoolLine}
 use Rattle.sqlx_play.specs.declared.outside.ScriptOutside.{ScriptOutside}

@@ -14,7 +14,7 @@ use Rattle.sqlx_pool_core.specs.EventTable.{is_beyond}
 use Rattle.sqlx_pool_core.specs.ReturnSteps.{closes, give_answer}
 use Rattle.sqlx_pool_core.specs.StandsFor.{StandsFor, IsBorn}
 use Rattle.sqlx_pool_core.proofs.ListFacts.{found_passes, found_All}
-use Rattle.mem_driver.specs.Driver.{Store, Link}
+use Rattle.mem_store.specs.Store.{Store, Link}
 use Rattle.sqlx_script.specs.declared.answers.GiveAnswers.{GiveAnswers}
 use Rattle.sqlx_script.specs.declared.pool_line.PoolLine.{PoolLine}
 use Rattle.sqlx_script.specs.Built.{accepts}

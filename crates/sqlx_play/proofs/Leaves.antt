@@ -2,11 +2,11 @@
 use Rattle.std.proofs.Common.{◌≡◌, ℕ, zero, suc, ◌==◌, nat_lt, ℤ, false, ◌⊎◌, inl, inr, Option, List, ◌∷◌, refl, sym, ap, ◌∙◌, eq-eqb}
 use Rattle.std.proofs.lemmas.Bool.{cond-true, cond-false}
 use Rattle.sqlx_savepoints.specs.NamedSavepoints.{Named, write_at, wrote}
-use Rattle.mem_driver.specs.declared.answer.Answer.{Answer}
-use Rattle.mem_driver.specs.declared.place.Place.{Place}
-use Rattle.mem_driver.specs.declared.runs.Runs.{Runs}
-use Rattle.mem_driver.specs.Driver.{Session, marked}
-use Rattle.mem_driver.specs.Acts.{moved_to, written_to, store_read}
+use Rattle.mem_store.specs.declared.answer.Answer.{Answer}
+use Rattle.mem_store.specs.declared.place.Place.{Place}
+use Rattle.mem_store.specs.declared.runs.Runs.{Runs}
+use Rattle.mem_store.specs.Store.{Session, marked}
+use Rattle.mem_store.specs.Acts.{moved_to, written_to, store_read}
 use Rattle.sqlx_brackets.specs.Changes.{Change, History, writes}
 use Rattle.sqlx_brackets.specs.Links.{Linked, linked_after, linked_changed, named_at, link_of, moved}
 use Rattle.sqlx_play.specs.LinksStand.{side_of}

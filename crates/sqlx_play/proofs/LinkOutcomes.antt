@@ -2,14 +2,14 @@
 use Rattle.std.proofs.Common.{◌≡◌, ℕ, zero, suc, pred, ◌-◌, ◌<◌, ◌≤◌, ◌^◌, ◌==◌, ◌&&◌, nat_lt, Bool, true, false, cond, is_some, Option, Some, None, refl, sym, ap, subst, ◌∙◌, arith, ltb-true}
 use Rattle.std.proofs.lemmas.Bool.{cond-false, ne_eqb}
 use Rattle.sqlx_savepoints.specs.Texts.{begin_at, commit_at, rollback_at}
-use Rattle.mem_driver.specs.declared.plain.Plain.{Plain}
-use Rattle.mem_driver.specs.declared.statement.Statement.TheVariants.{Level as LevelOf}
-use Rattle.mem_driver.specs.Statements.{IsHeld}
-use Rattle.mem_driver.specs.declared.refusal.Refusal.{Refusal}
-use Rattle.mem_driver.specs.Driver.{Session, state_of}
-use Rattle.mem_driver.specs.declared.act.Act.TheVariants as doing
+use Rattle.mem_store.specs.declared.plain.Plain.{Plain}
+use Rattle.mem_store.specs.declared.statement.Statement.TheVariants.{Level as LevelOf}
+use Rattle.mem_store.specs.Statements.{IsHeld}
+use Rattle.mem_store.specs.declared.refusal.Refusal.{Refusal}
+use Rattle.mem_store.specs.Store.{Session, state_of}
+use Rattle.mem_store.specs.declared.act.Act.TheVariants as doing
 use Rattle.sqlx_savepoints.specs.NamedSavepoints.{Named, after, inside, pushed}
-use Rattle.mem_driver.specs.Acts.{refusal_of, first_of, fault_of, level_refusal, unallowed}
+use Rattle.mem_store.specs.Acts.{refusal_of, first_of, fault_of, level_refusal, unallowed}
 use Rattle.sqlx_script.specs.declared.reply.Reply.{Reply}
 use Rattle.sqlx_script.specs.declared.reply.Reply.TheVariants as reply
 use Rattle.sqlx_play.specs.declared.stage.acts.Act.{Act}

@@ -10,7 +10,7 @@ use Rattle.sqlx_pool_core.specs.Core.{Core}
 use Rattle.sqlx_pool_core.specs.Sound.{holds}
 use Rattle.sqlx_pool_core.specs.Edits.{unlent, kept, opened}
 use Rattle.sqlx_pool_core.proofs.ListFacts.{found_All, or-false, count_by-push, list_any-push}
-use Rattle.mem_driver.specs.Driver.{Store, Link, new_link, connected}
+use Rattle.mem_store.specs.Store.{Store, Link, new_link, connected}
 use Rattle.sqlx_brackets.specs.Changes.{History}
 use Rattle.sqlx_brackets.specs.Links.{Linked, linked_after}
 use Rattle.sqlx_brackets.specs.Links as bracket

@@ -12,9 +12,9 @@ use Rattle.sqlx_pool_core.specs.Edits.{lent_to, took, opened}
 use Rattle.sqlx_pool_core.specs.Sound.{IsSound, rests}
 use Rattle.sqlx_pool_core.proofs.ListFacts.{number_comm, same_number, list_any-push, count_by-push, count_by-cons, count_by-map, count_by-filter_parts, map-push, filter_none, All-passing, none_any}
 use Rattle.sqlx_pool_core.proofs.Known.{IsIdle, idle-first}
-use Rattle.mem_driver.specs.declared.place.Place.{Place}
-use Rattle.mem_driver.specs.Driver.{Store, Link, connected, without}
-use Rattle.mem_driver.specs.Driver as driver
+use Rattle.mem_store.specs.declared.place.Place.{Place}
+use Rattle.mem_store.specs.Store.{Store, Link, connected, without}
+use Rattle.mem_store.specs.Store as driver
 use Rattle.sqlx_brackets.specs.Changes.{History, leaves}
 use Rattle.sqlx_brackets.specs.Links.{linked_after, new_link}
 use Rattle.sqlx_play.specs.LinksStand.{LinksStand, IsLinkOf, IsRestingLink, links_of, is_in_level, has_number, has_number_in_level, rests_with_number, is_place_of, is_place_in_level}

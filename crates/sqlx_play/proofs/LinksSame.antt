@@ -5,7 +5,7 @@ use Rattle.sqlx_pool_core.specs.declared.steps.Lent.{Lent}
 use Rattle.sqlx_pool_core.specs.declared.steps.Idle.{Idle}
 use Rattle.sqlx_pool_core.specs.declared.ticket.Held.{Held}
 use Rattle.sqlx_pool_core.specs.Core.{Core}
-use Rattle.mem_driver.specs.Driver.{Store, Link, new_store}
+use Rattle.mem_store.specs.Store.{Store, Link, new_store}
 use Rattle.sqlx_brackets.specs.Changes.{History}
 use Rattle.sqlx_brackets.specs.Links.{linked_after}
 use Rattle.sqlx_play.specs.LinksStand.{LinksStand, IsRestingLink, links_of, is_place_of}

@@ -3,8 +3,8 @@ use Rattle.std.proofs.Common.{◌≡◌, ℕ, ◌+◌, ◌≤◌, ◌==◌, ◌&
 use Rattle.std.specs.List.{list_any}
 use Rattle.std.proofs.lemmas.Bool.{eqb-true}
 use Rattle.sqlx_pool_core.proofs.ListFacts.{count_by-cons, filter_none, same_number, or-true, found_counts, number_comm}
-use Rattle.mem_driver.specs.declared.place.Place.{Place}
-use Rattle.mem_driver.specs.Driver.{without}
+use Rattle.mem_store.specs.declared.place.Place.{Place}
+use Rattle.mem_store.specs.Store.{without}
 use Rattle.sqlx_play.specs.LinksStand.{is_place_of, is_place_in_level}
 
 module _ {X : Type 0} (p : X → Bool) where

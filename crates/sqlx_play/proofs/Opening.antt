@@ -14,7 +14,7 @@ use Rattle.sqlx_pool_core.specs.KeepingSteps.{has_place, placed, placed_back, do
 use Rattle.sqlx_pool_core.specs.Makes.{Makes}
 use Rattle.sqlx_pool_core.specs.StandsFor.{StandsFor}
 use Rattle.sqlx_pool_core.proofs.ListFacts.{length-push}
-use Rattle.mem_driver.specs.Driver.{Store, Link, new_link, connected}
+use Rattle.mem_store.specs.Store.{Store, Link, new_link, connected}
 use Rattle.sqlx_play.specs.declared.outside.ScriptOutside.{ScriptOutside}
 use Rattle.sqlx_play.specs.declared.stage.Stage.{Stage}
 use Rattle.sqlx_play.specs.LinksStand.{LinksStand}

@@ -9,9 +9,9 @@ use Rattle.sqlx_pool_core.specs.declared.steps.Idle.{Idle}
 use Rattle.sqlx_pool_core.specs.Core.{Core}
 use Rattle.sqlx_pool_core.specs.Sound.{IsSound}
 use Rattle.sqlx_pool_core.proofs.ListFacts.{number_comm, count_by-cons}
-use Rattle.mem_driver.specs.declared.answer.Answer.{Answer}
-use Rattle.mem_driver.specs.declared.place.Place.{Place}
-use Rattle.mem_driver.specs.Driver.{Store, Link, Session, marked, marked_place}
+use Rattle.mem_store.specs.declared.answer.Answer.{Answer}
+use Rattle.mem_store.specs.declared.place.Place.{Place}
+use Rattle.mem_store.specs.Store.{Store, Link, Session, marked, marked_place}
 use Rattle.sqlx_brackets.specs.Changes.{History}
 use Rattle.sqlx_brackets.specs.Stores.{AreAccepted}
 use Rattle.sqlx_brackets.specs.Links.{linked_after}

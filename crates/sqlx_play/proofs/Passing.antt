@@ -18,7 +18,7 @@ use Rattle.sqlx_pool_core.specs.PollSteps.{phase_for, may_cancel, try_lent}
 use Rattle.sqlx_pool_core.specs.Makes.{Makes}
 use Rattle.sqlx_pool_core.specs.StandsFor.{StandsFor}
 use Rattle.sqlx_pool_core.proofs.TurnAtMarks.{waiting-stands}
-use Rattle.mem_driver.specs.Driver.{Link}
+use Rattle.mem_store.specs.Store.{Link}
 use Rattle.sqlx_script.specs.declared.step.Event.{Event}
 use Rattle.sqlx_script.specs.declared.step.Step.TheVariants.{Cancel, Try}
 use Rattle.sqlx_script.specs.declared.reply.Reply.{Reply}

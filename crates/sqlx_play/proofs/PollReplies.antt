@@ -22,7 +22,7 @@ use Rattle.sqlx_pool_core.specs.StandsFor.{StandsFor}
 use Rattle.sqlx_pool_core.proofs.ListFacts.{find-map, found_All}
 use Rattle.sqlx_pool_core.proofs.Known.{ticket-number}
 use Rattle.sqlx_pool_core.proofs.TurnAtMarks.{free-places, before-asking}
-use Rattle.mem_driver.specs.Driver.{Link}
+use Rattle.mem_store.specs.Store.{Link}
 use Rattle.sqlx_script.specs.declared.answers.PollAnswers.{PollAnswers}
 use Rattle.sqlx_script.specs.declared.step.Event.{Event}
 use Rattle.sqlx_script.specs.declared.reply.Reply.{Reply}

@@ -15,7 +15,7 @@ use Rattle.sqlx_pool_core.specs.Makes.{Makes}
 use Rattle.sqlx_pool_core.proofs.FairLaws.{makes-then}
 use Rattle.sqlx_pool_core.proofs.Known.{KeepsNumber, ticket-number, ticket-is_only, ticket-below, gone-changed, idle-first}
 use Rattle.sqlx_pool_core.proofs.ListFacts.{same_number, number_comm}
-use Rattle.mem_driver.specs.Driver.{Link, without}
+use Rattle.mem_store.specs.Store.{Link, without}
 use Rattle.sqlx_script.specs.declared.answers.PollAnswers.{PollAnswers}
 use Rattle.sqlx_script.specs.declared.step.Event.{Event}
 use Rattle.sqlx_script.specs.declared.step.Step.TheVariants.{Poll}

@@ -16,7 +16,7 @@ use Rattle.sqlx_pool_core.specs.Sound.{IsSound, rests}
 use Rattle.sqlx_pool_core.specs.StandsFor.{StandsFor, IsBorn}
 use Rattle.sqlx_pool_core.proofs.Known.{idle-found}
 use Rattle.sqlx_pool_core.proofs.ListFacts.{same_number, count_by-cons, filter_none, found_counts, length-filter_not, map-append, length_map}
-use Rattle.mem_driver.specs.Driver.{Store, Link}
+use Rattle.mem_store.specs.Store.{Store, Link}
 use Rattle.sqlx_brackets.specs.Changes.{leaves, History}
 use Rattle.sqlx_script.specs.declared.pool_line.PoolLine.{PoolLine}
 use Rattle.sqlx_script.specs.declared.step.Event.{Event}

@@ -1,10 +1,10 @@
 -- How a stage's events change the counts of its store.
 use Rattle.std.proofs.Common.{◌≡◌, ℕ, zero, suc, ℤ, pos, ◌==◌, Bool, true, false, cond, inl, inr, Option, Some, None, Result, Ok, Err, IfOk, OnOk, refl, sym, ap, subst, ◌∙◌}
-use Rattle.mem_driver.specs.declared.runs.Runs.{Runs as Counts}
-use Rattle.mem_driver.specs.declared.refusal.Refusal.{Refusal}
-use Rattle.mem_driver.specs.declared.refusal.Refusal.TheVariants.{Fault, Refused, Unread, Deep, Busy}
-use Rattle.mem_driver.specs.Driver.{Store, Session}
-use Rattle.mem_driver.specs.Acts.{counted, level_counted, ended_counted, seen_by, store_read, after_start_rollback}
+use Rattle.mem_store.specs.declared.runs.Runs.{Runs as Counts}
+use Rattle.mem_store.specs.declared.refusal.Refusal.{Refusal}
+use Rattle.mem_store.specs.declared.refusal.Refusal.TheVariants.{Fault, Refused, Unread, Deep, Busy}
+use Rattle.mem_store.specs.Store.{Store, Session}
+use Rattle.mem_store.specs.Acts.{counted, level_counted, ended_counted, seen_by, store_read, after_start_rollback}
 use Rattle.sqlx_savepoints.specs.Texts.{begin_at, commit_at, rollback_at}
 use Rattle.sqlx_script.specs.declared.answers.StatementAnswer.{StatementAnswer}
 use Rattle.sqlx_script.specs.declared.step.Step.{Step}

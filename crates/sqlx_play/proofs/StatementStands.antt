@@ -12,7 +12,7 @@ use Rattle.sqlx_pool_core.specs.StandsFor.{StandsFor}
 use Rattle.sqlx_pool_core.specs.Makes.{Makes}
 use Rattle.sqlx_pool_core.proofs.Fair.{makes-none}
 use Rattle.sqlx_pool_core.proofs.ListFacts.{count_by-map}
-use Rattle.mem_driver.specs.Driver.{Store, Link, Session}
+use Rattle.mem_store.specs.Store.{Store, Link, Session}
 use Rattle.sqlx_script.specs.declared.pool_line.PoolLine.{PoolLine}
 use Rattle.sqlx_script.specs.declared.step.Event.{Event}
 use Rattle.sqlx_script.specs.declared.step.Step.{Step}

@@ -6,7 +6,7 @@ use Rattle.sqlx_pool_core.specs.declared.ticket.Held.{Held}
 use Rattle.sqlx_pool_core.specs.Marks.{Loan, loans_of, is_loan_of, owner_of}
 use Rattle.sqlx_pool_core.specs.Core.{loan}
 use Rattle.sqlx_pool_core.proofs.ListFacts.{list_any-map}
-use Rattle.mem_driver.specs.Driver.{Link}
+use Rattle.mem_store.specs.Store.{Link}
 use Rattle.sqlx_script.specs.declared.pool_line.PoolLine.{PoolLine}
 use Rattle.sqlx_script.specs.declared.step.Event.{Event}
 use Rattle.sqlx_script.specs.declared.reply.Reply.{Reply}

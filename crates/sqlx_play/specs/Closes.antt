@@ -1,7 +1,7 @@
 -- The store behind the closing of several links.
 use Rattle.std.specs.Prelude.{List, [], ◌∷◌}
 use Rattle.sqlx_pool_core.specs.declared.steps.Idle.{Idle}
-use Rattle.mem_driver.specs.Driver.{Store, Link, without}
+use Rattle.mem_store.specs.Store.{Store, Link, without}
 
 -- the links of these connections are closed, one by one
 abbrev pub closed_all : List (Idle Link) → Store → Store

@@ -5,7 +5,7 @@ use Rattle.sqlx_pool_core.specs.declared.options.PoolOptions.{PoolOptions}
 use Rattle.sqlx_pool_core.specs.Core.{Core, waiting, free, size}
 use Rattle.sqlx_pool_core.specs.EventTable.{may_pass}
 use Rattle.sqlx_pool_core.specs.Marks.{next_conn}
-use Rattle.mem_driver.specs.Driver.{Link}
+use Rattle.mem_store.specs.Store.{Link}
 use Rattle.sqlx_brackets.specs.Changes.{History}
 use Rattle.sqlx_play.specs.declared.stage.Stage.{Stage}
 use Rattle.sqlx_play.specs.ScriptMarks.{openings}

@@ -10,7 +10,7 @@ use Rattle.sqlx_play.specs.declared.stage.Stage.{Stage}
 use Rattle.std.specs.FinMap.{get}
 use Rattle.sqlx_pool_core.specs.Core.{Core}
 use Rattle.sqlx_pool_core.specs.StandsFor.{StandsFor}
-use Rattle.mem_driver.specs.Driver.{Store, Link}
+use Rattle.mem_store.specs.Store.{Store, Link}
 use Rattle.sqlx_brackets.specs.Brackets.{value}
 use Rattle.sqlx_play.specs.ScriptMarks.{marks_of}
 use Rattle.sqlx_play.specs.ScriptLevels.{history_of}

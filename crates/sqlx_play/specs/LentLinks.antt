@@ -1,7 +1,7 @@
 -- The lent links of a stage, by the numbers of their connections.
 use Rattle.std.specs.Prelude.{ℕ, ◌==◌, Bool, not, List, filter}
 use Rattle.sqlx_pool_core.specs.declared.steps.Lent.{Lent}
-use Rattle.mem_driver.specs.Driver.{Link}
+use Rattle.mem_store.specs.Store.{Link}
 
 -- it is the link of connection c
 abbrev pub is_lent : ℕ → Lent Link → Bool

@@ -2,15 +2,15 @@
 use Rattle.std.specs.Prelude.{◌≡◌, ℕ, ℤ, suc, pred, ◌==◌, ◌&&◌, Bool, true, false, if◌then◌else◌, Option, Some, None}
 use Rattle.sqlx_savepoints.specs.Texts.{begin_at, commit_at, rollback_at}
 use Rattle.sqlx_savepoints.specs.declared.level_text.LevelText.TheVariants.{BeginImmediate}
-use Rattle.mem_driver.specs.declared.answer.Answer.{Answer}
-use Rattle.mem_driver.specs.declared.answer.Answer.TheVariants as answer
-use Rattle.mem_driver.specs.declared.act.Act.{Act as Doing}
-use Rattle.mem_driver.specs.declared.act.Act.TheVariants as doing
-use Rattle.mem_driver.specs.declared.plain.Plain.{Plain}
-use Rattle.mem_driver.specs.declared.refusal.Refusal.{Refusal}
-use Rattle.mem_driver.specs.declared.refusal.Refusal.TheVariants.{Fault, Refused, Unread, Deep, Busy}
-use Rattle.mem_driver.specs.Driver.{Session}
-use Rattle.mem_driver.specs.Acts.{refusal_of, after_act, plain_of, after_start_rollback}
+use Rattle.mem_store.specs.declared.answer.Answer.{Answer}
+use Rattle.mem_store.specs.declared.answer.Answer.TheVariants as answer
+use Rattle.mem_store.specs.declared.act.Act.{Act as Doing}
+use Rattle.mem_store.specs.declared.act.Act.TheVariants as doing
+use Rattle.mem_store.specs.declared.plain.Plain.{Plain}
+use Rattle.mem_store.specs.declared.refusal.Refusal.{Refusal}
+use Rattle.mem_store.specs.declared.refusal.Refusal.TheVariants.{Fault, Refused, Unread, Deep, Busy}
+use Rattle.mem_store.specs.Store.{Session}
+use Rattle.mem_store.specs.Acts.{refusal_of, after_act, plain_of, after_start_rollback}
 use Rattle.sqlx_brackets.specs.Events as bracket
 use Rattle.sqlx_script.specs.declared.answers.StatementAnswer.{StatementAnswer}
 use Rattle.sqlx_script.specs.declared.answers.StatementAnswer.TheVariants.{Runs, StatementIo, StatementRefused}

@@ -5,8 +5,8 @@ use Rattle.sqlx_pool_core.specs.declared.steps.Lent.{Lent}
 use Rattle.sqlx_pool_core.specs.declared.steps.Idle.{Idle}
 use Rattle.sqlx_pool_core.specs.declared.ticket.Held.{Held}
 use Rattle.sqlx_pool_core.specs.Core.{Core}
-use Rattle.mem_driver.specs.declared.place.Place.{Place}
-use Rattle.mem_driver.specs.Driver.{Store, Link}
+use Rattle.mem_store.specs.declared.place.Place.{Place}
+use Rattle.mem_store.specs.Store.{Store, Link}
 use Rattle.sqlx_brackets.specs.Changes.{History}
 use Rattle.sqlx_brackets.specs.Links.{Linked, linked_after, new_link}
 use Rattle.sqlx_brackets.specs.Links as bracket

@@ -9,7 +9,7 @@ use Rattle.sqlx_pool_core.specs.Edits.{with_ticket, to_back_off, at_moment, ende
 use Rattle.sqlx_pool_core.specs.PollSteps.{wait_of}
 use Rattle.sqlx_script.specs.declared.reply.Reply.{Reply}
 use Rattle.sqlx_script.specs.declared.reply.Reply.TheVariants as reply
-use Rattle.mem_driver.specs.Driver.{Store, connected, without}
+use Rattle.mem_store.specs.Store.{Store, connected, without}
 
 -- the marks: a new connection is lent, or the ticket ends, or nothing is marked
 abbrev pub connect_marks : ℕ → ℕ → ℕ → Reply → List Mark

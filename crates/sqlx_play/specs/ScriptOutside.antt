@@ -10,7 +10,7 @@ use Rattle.sqlx_script.specs.declared.answers.GiveAnswers.{GiveAnswers}
 use Rattle.sqlx_script.specs.declared.answers.ConnectAnswer.{ConnectAnswer}
 use Rattle.sqlx_script.specs.declared.answers.ConnectAnswer.TheVariants.{Connected, Transient, ConnectIo, ConnectDatabase}
 use Rattle.sqlx_script.specs.Built.{accepts, sets_up}
-use Rattle.mem_driver.specs.Driver.{Link}
+use Rattle.mem_store.specs.Store.{Link}
 use Rattle.sqlx_play.specs.declared.outside.Letter.{Letter}
 use Rattle.sqlx_play.specs.declared.outside.ScriptOutside.{ScriptOutside}
 

@@ -1,7 +1,7 @@
 -- How often each kind of text ran on the database of a script, by its events and replies.
 use Rattle.std.specs.Prelude.{ℕ, Bool, not, true, false, if◌then◌else◌, List, count_by}
-use Rattle.mem_driver.specs.declared.runs.Runs.{Runs}
-use Rattle.mem_driver.specs.Acts.{counted}
+use Rattle.mem_store.specs.declared.runs.Runs.{Runs}
+use Rattle.mem_store.specs.Acts.{counted}
 use Rattle.sqlx_script.specs.declared.step.Event.{Event}
 use Rattle.sqlx_script.specs.declared.step.Step.{Step}
 use Rattle.sqlx_script.specs.declared.step.Step.TheVariants.{Begin, Custom, Put, Del, Get, Commit, Rollback, GiveUp}

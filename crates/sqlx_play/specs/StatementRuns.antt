@@ -3,7 +3,7 @@ use Rattle.std.specs.Prelude.{◌≡◌, ℕ, ◌==◌, ◌⊎◌, Bool, true, f
 use Rattle.std.specs.List.{list_any}
 use Rattle.sqlx_pool_core.specs.declared.steps.Lent.{Lent}
 use Rattle.sqlx_pool_core.specs.Core.{loan_of}
-use Rattle.mem_driver.specs.Driver.{Store, Link, Session}
+use Rattle.mem_store.specs.Store.{Store, Link, Session}
 use Rattle.sqlx_script.specs.declared.step.Step.{Step}
 use Rattle.sqlx_script.specs.declared.step.Step.TheVariants.{Begin, Custom, Put, Del, Get, Commit, Rollback, GiveUp}
 use Rattle.sqlx_script.specs.declared.reply.Reply.{Reply}

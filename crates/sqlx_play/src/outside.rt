@@ -3,10 +3,10 @@
 ghost use Rattle.std.specs.Prelude.{◌≡◌, ℕ, ◌≤◌, ◌+◌, ◌-◌, ◌==◌, ◌⊎◌, Bool, true, false, List, Some, None, IfOk, IfErr, OnOk, OnErr, IfSome, option_map, is_ok};
 ghost use Rattle.sqlx_pool_core.specs.Outside.{HasRisen, Told, IsFirst, IsFirstIfAny, RefusedForGood, refusal, reach_of, says_yes, says_ok, connected_once, pinged_once, set_up_once, tested_once, released_once};
 ghost use Rattle.sqlx_script.specs.Built.{accepts, sets_up};
-ghost use Rattle.mem_driver.specs.Driver.{Link, connected, new_link, without};
+ghost use Rattle.mem_store.specs.Store.{Link, connected, new_link, without};
 ghost use Rattle.sqlx_play.specs.ScriptOutside.{Opens, depth_of, give_letters, is_left_open, next_connect, poll_letters, reach_by, refused_by, told_by_give, told_by_minimum, told_by_poll, told_of};
 
-use mem_driver::{MemLink, MemStore};
+use mem_store::{MemStore, StoreLink};
 use sqlx_pool_core::{Outside, PoolConnectionMetadata};
 use sqlx_script::{AfterConnectAnswer, ConnectAnswer, GiveAnswers, HookAnswer, PollAnswers};
 use sqlx_text::{DatabaseFault, Error, ErrorKind, IoFault, UStr};
@@ -234,7 +234,7 @@ impl ScriptOutside {
     }
 
     // The answer of a hook that can say no.
-    fn ask_hook(&mut self, answer: HookAnswer, conn: &MemLink) -> Result<bool, Error>
+    fn ask_hook(&mut self, answer: HookAnswer, conn: &StoreLink) -> Result<bool, Error>
         ensures becomes { self.new ≡ record self.old { left_open = self.new.left_open; refusals = self.new.refusals } }
         ensures others { (other : Link) → (conn.now.number == other.number) ≡ false → depth_of self.new other ≡ depth_of self.old other }
         ensures answered { depth_of self.old conn.now ≡ 0 → says_yes result (depth_of self.new conn.now) ≡ accepts answer }
@@ -264,7 +264,7 @@ impl ScriptOutside {
     }
 }
 
-impl Outside<MemLink, ()> for ScriptOutside {
+impl Outside<StoreLink, ()> for ScriptOutside {
     ghost faults = { λ out. out.faults };
 
     ghost refusals = { λ out. out.refusals };
@@ -275,7 +275,7 @@ impl Outside<MemLink, ()> for ScriptOutside {
 
     ghost told = { λ out. Some (told_of out) };
 
-    fn connect(&mut self, alloc: Global, _options: &()) -> Result<MemLink, Error>
+    fn connect(&mut self, alloc: Global, _options: &()) -> Result<StoreLink, Error>
         ensures new { IfOk result (λ conn. depth_of self.new conn ≡ 0) }
         ensures others { (other : Link) → IfOk result (λ conn. (conn.number == other.number) ≡ false) → depth_of self.new other ≡ depth_of self.old other }
         ensures cause { IfErr result (λ e. (e ≡ Error.OutOfMemory) ⊎ HasRisen self.old.faults self.new.faults) }
@@ -312,7 +312,7 @@ impl Outside<MemLink, ()> for ScriptOutside {
         }
     }
 
-    fn ping(&mut self, conn: &mut MemLink) -> Result<(), Error>
+    fn ping(&mut self, conn: &mut StoreLink) -> Result<(), Error>
         ensures depth { depth_of self.new conn.new ≡ depth_of self.old conn.old }
         ensures others { (other : Link) → (conn.old.number == other.number) ≡ false → depth_of self.new other ≡ depth_of self.old other }
         ensures cause { IfErr result (λ _. HasRisen self.old.faults self.new.faults) }
@@ -337,7 +337,7 @@ impl Outside<MemLink, ()> for ScriptOutside {
 
     fn after_connect(
         &mut self,
-        conn: &mut MemLink,
+        conn: &mut StoreLink,
         _meta: PoolConnectionMetadata,
     ) -> Result<(), Error>
         ensures others { (other : Link) → (conn.old.number == other.number) ≡ false → depth_of self.new other ≡ depth_of self.old other }
@@ -372,7 +372,7 @@ impl Outside<MemLink, ()> for ScriptOutside {
 
     fn before_acquire(
         &mut self,
-        conn: &mut MemLink,
+        conn: &mut StoreLink,
         _meta: PoolConnectionMetadata,
     ) -> Result<bool, Error>
         ensures others { (other : Link) → (conn.old.number == other.number) ≡ false → depth_of self.new other ≡ depth_of self.old other }
@@ -393,7 +393,7 @@ impl Outside<MemLink, ()> for ScriptOutside {
 
     fn after_release(
         &mut self,
-        conn: &mut MemLink,
+        conn: &mut StoreLink,
         _meta: PoolConnectionMetadata,
     ) -> Result<bool, Error>
         ensures others { (other : Link) → (conn.old.number == other.number) ≡ false → depth_of self.new other ≡ depth_of self.old other }
@@ -412,7 +412,7 @@ impl Outside<MemLink, ()> for ScriptOutside {
         self.ask_hook(self.after_release.answer, conn)
     }
 
-    fn depth(&self, conn: &MemLink) -> usize
+    fn depth(&self, conn: &StoreLink) -> usize
         ensures { result ≡ depth_of self.now conn.now }
     {
         if self.left_open == Some(conn.number()) {
@@ -422,7 +422,7 @@ impl Outside<MemLink, ()> for ScriptOutside {
         }
     }
 
-    fn close(&mut self, conn: MemLink)
+    fn close(&mut self, conn: StoreLink)
         ensures others { (other : Link) → (conn.number == other.number) ≡ false → depth_of self.new other ≡ depth_of self.old other }
         ensures faults { self.old.faults ≤ self.new.faults }
         ensures refusals { self.old.refusals ≤ self.new.refusals }
@@ -435,7 +435,7 @@ impl Outside<MemLink, ()> for ScriptOutside {
         self.store.close(conn);
     }
 
-    fn close_hard(&mut self, conn: MemLink)
+    fn close_hard(&mut self, conn: StoreLink)
         ensures others { (other : Link) → (conn.number == other.number) ≡ false → depth_of self.new other ≡ depth_of self.old other }
         ensures faults { self.old.faults ≤ self.new.faults }
         ensures refusals { self.old.refusals ≤ self.new.refusals }

@@ -16,7 +16,7 @@ use crate::error::PlayError;
 use crate::io::{Sink, Source};
 use crate::pour::{read_all, write_all};
 use crate::stage::{Stage, answer, new_stage, report};
-use mem_driver::{MemLink, MemStore};
+use mem_store::{MemStore, StoreLink};
 use sqlx_pool_core::PoolCore;
 use sqlx_script::{Event, cut_line, read_event, read_pool_line};
 use std::alloc::Global;
@@ -25,7 +25,7 @@ use std::fmt::Display;
 /// What a script left: the pool's core and the database that it was played on.
 #[derive(Drop)]
 pub struct Played {
-    pub core: PoolCore<MemLink>,
+    pub core: PoolCore<StoreLink>,
     pub store: MemStore,
 }
 

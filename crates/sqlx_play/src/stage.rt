@@ -27,7 +27,7 @@ mod try_acquire;
 
 use crate::error::PlayError;
 use crate::outside::ScriptOutside;
-use mem_driver::{MemLink, MemStore};
+use mem_store::{MemStore, StoreLink};
 use sqlx_pool_core::{Lent, PoolCore, PoolOptions};
 use sqlx_script::{Event, PoolLine, Reply, Report, Step};
 use std::alloc::Global;
@@ -36,11 +36,11 @@ use std::alloc::Global;
 #[derive(Drop)]
 pub struct Stage {
     pub pool: PoolLine,
-    pub core: PoolCore<MemLink>,
+    pub core: PoolCore<StoreLink>,
     // The database in memory, and the answers of the present line.
     pub out: ScriptOutside,
     // The connections that clients own, in the order of lending.
-    pub lent: Vec<Lent<MemLink>>,
+    pub lent: Vec<Lent<StoreLink>>,
 }
 
 // The options that a first line sets up.

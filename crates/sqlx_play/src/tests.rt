@@ -1,7 +1,7 @@
 //! The core's whole poll and its minimum, over the outside of a script.
 
 use crate::outside::ScriptOutside;
-use mem_driver::{MemLink, MemStore};
+use mem_store::{MemStore, StoreLink};
 use sqlx_pool_core::{Outside, Polled, PoolCore, PoolOptions};
 use sqlx_script::{AfterConnectAnswer, ConnectAnswer, HookAnswer, PollAnswers};
 use sqlx_text::{Error, Moment};
@@ -10,7 +10,7 @@ use std::process::Abort;
 use std::test::*;
 
 // What a poll comes to, as one number: the connection's number, or 100 and more.
-fn outcome_of(polled: Polled<MemLink>) -> u64 {
+fn outcome_of(polled: Polled<StoreLink>) -> u64 {
     match polled {
         Polled::Ready(lent) => lent.id,
         Polled::Backoff(_) => 100,
@@ -27,7 +27,7 @@ fn first_outcome(alloc: Global, answers: PollAnswers) -> Result<(u64, u32, bool)
         .test_before_acquire(true)
         .before_acquire(true)
         .after_connect(true);
-    let Ok(mut core) = PoolCore::<MemLink>::new(alloc, options) else {
+    let Ok(mut core) = PoolCore::<StoreLink>::new(alloc, options) else {
         return Err(Error::OutOfMemory);
     };
     let mut out = ScriptOutside::new(MemStore::new(alloc));

@@ -1,20 +1,20 @@
 -- What the code of a poll's first step writes is what the step makes of the core.
-use Rattle.std.proofs.Common.{◌≡◌, ℕ, ◌+◌, ◌<◌, ◌≤◌, List, [], ◌∷◌, ◌++◌, length, refl, ap, sym, ◌∙◌, subst, arith, drop, Bool, true, false, Option, Some, None, IfSome, ◌⊎◌, inl, inr, ◌&&◌, ◌==◌}
+use Rattle.std.proofs.Common.{◌≡◌, ℕ, List, ◌∷◌, ◌++◌, refl, ap, sym, ◌∙◌, subst, arith, drop, Bool, true, false, Option, Some, None, IfSome, inl, inr, ◌&&◌, ◌==◌}
 use Rattle.std.proofs.lemmas.Bool.Decides.{eqb_tells}
 use Rattle.sqlx_pool_core.specs.declared.ticket.Ticket.{Ticket}
 use Rattle.sqlx_pool_core.specs.declared.ticket.Phase.{Phase}
 use Rattle.sqlx_pool_core.specs.declared.ticket.Phase.TheVariants as phase
-use Rattle.sqlx_pool_core.specs.declared.turn.Turn.TheVariants as turn
+use Rattle.sqlx_log.specs.declared.turn.Turn.TheVariants as turn
 use Rattle.sqlx_pool_core.specs.declared.steps.Idle.{Idle}
 use Rattle.sqlx_pool_core.specs.declared.steps.Start.TheVariants as start
-use Rattle.sqlx_pool_core.specs.Core.{Core, ticket_of, is_of}
+use Rattle.sqlx_pool_core.specs.Core.{Core, ticket_of}
 use Rattle.sqlx_pool_core.specs.Sound.{IsSound, number_of}
 use Rattle.sqlx_pool_core.specs.OwnTurn.{own_turn_at}
 use Rattle.sqlx_pool_core.specs.Edits.{with_ticket, to_test, to_try, to_try_at}
 use Rattle.sqlx_pool_core.specs.Place.{IsAmong}
 use Rattle.sqlx_pool_core.specs.PollSteps.{started}
 use Rattle.sqlx_pool_core.proofs.Found.{found-among, found-is}
-use Rattle.sqlx_pool_core.proofs.TurnCases.{Tests, ConnectsFirst, ConnectsAgain, turn-test, turn-connect}
+use Rattle.sqlx_pool_core.proofs.TurnCases.{turn-test, turn-connect}
 use Rattle.sqlx_pool_core.proofs.Soundness.{sound-to_test, sound-to_try_first, sound-to_try_again}
 
 -- the one ticket of its number is changed, whatever the change makes of others

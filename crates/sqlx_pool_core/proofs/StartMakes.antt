@@ -2,26 +2,29 @@
 use Rattle.std.proofs.Common.{◌≡◌, ℕ, suc, ◌^◌, ◌<◌, Bool, true, false, cond, not, ◌&&◌, ◌==◌, nat_le, nat_lt, List, [], ◌∷◌, ◌++◌, map, drop, length, All, Option, Some, None, option_map, refl, sym, ap, ap₂, ◌∙◌, subst, arith}
 use Rattle.std.proofs.lemmas.Bool.{leb-false, ltb-true, and_parts}
 use Rattle.std.proofs.lemmas.List.Elements.{All-head}
-use Rattle.sqlx_pool_core.specs.declared.mark.Mark.{Mark}
-use Rattle.sqlx_pool_core.specs.declared.mark.Mark.TheVariants.{Left, Taken, Ended}
+use Rattle.sqlx_log.specs.declared.mark.Mark.{Mark}
+use Rattle.sqlx_log.specs.declared.mark.Mark.TheVariants.{Left, Taken, Ended}
 use Rattle.sqlx_pool_core.specs.declared.ticket.Ticket.{Ticket}
 use Rattle.sqlx_pool_core.specs.declared.ticket.Phase.{Phase}
 use Rattle.sqlx_pool_core.specs.declared.ticket.Phase.TheVariants as phase
-use Rattle.sqlx_pool_core.specs.declared.turn.Turn.{Turn}
-use Rattle.sqlx_pool_core.specs.declared.turn.Turn.TheVariants as turned
+use Rattle.sqlx_log.specs.declared.turn.Turn.{Turn}
+use Rattle.sqlx_log.specs.declared.turn.Turn.TheVariants as turned
 use Rattle.sqlx_pool_core.specs.declared.steps.Idle.{Idle}
-use Rattle.sqlx_pool_core.specs.Standing.{last_mark}
-use Rattle.sqlx_pool_core.specs.Counts.{before_in}
-use Rattle.sqlx_pool_core.specs.View.{view_of, before}
+use Rattle.sqlx_log.specs.Standing.{last_mark}
+use Rattle.sqlx_log.specs.Counts.{before_in}
+use Rattle.sqlx_log.specs.View.{view_of, before}
 use Rattle.sqlx_pool_core.specs.Core.{Core, asking, resting, is_out, is_of, ticket_of, free}
-use Rattle.sqlx_pool_core.specs.PollTable.{in_time, is_at_rest, first_idle, numbered}
+use Rattle.sqlx_log.specs.PollTable.{first_idle, numbered}
+use Rattle.sqlx_pool_core.specs.PollTable.{in_time, is_at_rest}
 use Rattle.sqlx_pool_core.specs.OwnTurn.{before as before_own, own_turn, own_turn_at}
 use Rattle.sqlx_pool_core.specs.Sound.{IsSound}
-use Rattle.sqlx_pool_core.specs.StandsFor.{StandsFor, IsBorn}
+use Rattle.sqlx_log.specs.Born.{IsBorn}
+use Rattle.sqlx_pool_core.specs.StandsFor.{StandsFor}
 use Rattle.sqlx_pool_core.specs.Edits.{with_ticket, without_ticket, to_test, to_try, to_try_at, to_connect, ended, took, at_moment}
 use Rattle.sqlx_pool_core.specs.PollSteps.{phase_for, start_answer, start_marks, started}
-use Rattle.sqlx_pool_core.specs.FairLog.{is_in_line, KeepsSize, GoesOn, IsFairMark}
-use Rattle.sqlx_pool_core.proofs.ListFacts.{found_passes}
+use Rattle.sqlx_log.specs.FairLog.{is_in_line, KeepsSize, GoesOn}
+use Rattle.sqlx_log.proofs.ViewSteps.{IsFairMark}
+use Rattle.sqlx_log.proofs.ListFacts.{found_passes}
 use Rattle.sqlx_pool_core.proofs.Stands.{stands-beside, stands-alike, IsIdleBorn, IsTicketBorn}
 use Rattle.sqlx_pool_core.proofs.EachMark.{Leaves, stands-left, stands-ended, stands-taken, changed_born}
 use Rattle.sqlx_pool_core.proofs.TurnAtMarks.{free-places, before-asking}

@@ -1,20 +1,21 @@
 -- The counts and the turn of a core are those of the marks that it stands for.
 use Rattle.std.proofs.Common.{◌≡◌, ℕ, ◌+◌, ◌-◌, Bool, true, false, cond, not, ◌==◌, List, [], ◌∷◌, map, length, take_while, option_map, Option, Some, None, nat_le, refl, sym, ap, ◌∙◌, arith}
 use Rattle.std.proofs.lemmas.List.Sums.{take_while-cons}
-use Rattle.sqlx_pool_core.specs.declared.mark.Mark.{Mark}
+use Rattle.sqlx_log.specs.declared.mark.Mark.{Mark}
 use Rattle.sqlx_pool_core.specs.declared.ticket.Ticket.{Ticket}
 use Rattle.sqlx_pool_core.specs.declared.ticket.Phase.{Phase}
 use Rattle.sqlx_pool_core.specs.declared.ticket.Phase.TheVariants as phase
-use Rattle.sqlx_pool_core.specs.declared.turn.Turn.TheVariants as turned
-use Rattle.sqlx_pool_core.specs.Marks.{Asking, tickets_of, loans_of, idle_of, leaked_of}
-use Rattle.sqlx_pool_core.specs.Counts.{has_left, is_waiting, left_in, waiting_in, before_in, asked_in, is_asked_by, free_of}
-use Rattle.sqlx_pool_core.specs.View.{view_of, free as free_in, size as size_in, waiting as waiting_at}
+use Rattle.sqlx_log.specs.declared.turn.Turn.TheVariants as turned
+use Rattle.sqlx_log.specs.Marks.{PendingTicket, tickets_of, loans_of, idle_of, leaked_of}
+use Rattle.sqlx_log.specs.Counts.{has_left, is_waiting, left_in, waiting_in, before_in, asked_in, is_asked_by, free_of}
+use Rattle.sqlx_log.specs.View.{view_of, free as free_in, size as size_in, waiting as waiting_at}
 use Rattle.sqlx_pool_core.specs.Core.{Core, asking, loan, resting, gone, waiting, free, size, ticket_of}
-use Rattle.sqlx_pool_core.specs.PollTable.{turn, turn_in, in_time, is_at_rest, first_idle, numbered}
+use Rattle.sqlx_log.specs.PollTable.{first_idle, numbered}
+use Rattle.sqlx_pool_core.specs.PollTable.{turn, turn_in, in_time, is_at_rest}
 use Rattle.sqlx_pool_core.specs.OwnTurn.{before, own_turn, own_turn_at}
 use Rattle.sqlx_pool_core.specs.PollSteps.{phase_for}
 use Rattle.sqlx_pool_core.specs.StandsFor.{StandsFor}
-use Rattle.sqlx_pool_core.proofs.ListFacts.{count_by-map, length_map, find-map}
+use Rattle.sqlx_log.proofs.ListFacts.{count_by-map, length_map, find-map}
 
 -- ---- counts
 
@@ -58,7 +59,7 @@ take_while-map f p (x ∷ xs) =
     by false = refl
 
 pub before-asking : (t : ℕ) (tickets : List Ticket) → before t tickets ≡ before_in t (map asking tickets)
-before-asking t tickets = waiting-asking (take_while (λ (x : Ticket). not (t == x.number)) tickets) ∙ ap waiting_in (sym (take_while-map asking (λ (a : Asking). not (t == a.ticket)) tickets))
+before-asking t tickets = waiting-asking (take_while (λ (x : Ticket). not (t == x.number)) tickets) ∙ ap waiting_in (sym (take_while-map asking (λ (a : PendingTicket). not (t == a.ticket)) tickets))
 
 -- ---- the turn
 
@@ -72,7 +73,7 @@ in_time-map f moment free before conn idle (phase.Testing c created) = refl
 in_time-map f moment free before conn idle phase.Connecting = refl
 in_time-map f moment free before conn idle (phase.Backoff until) = refl
 
-turn_in-map : {X Y : Type 0} (f : X → Y) (moment free : ℕ) (shut : Bool) (conn : ℕ) (tickets : List Asking) (idle : List X) (a : Option Asking) (p : Option Phase)
+turn_in-map : {X Y : Type 0} (f : X → Y) (moment free : ℕ) (shut : Bool) (conn : ℕ) (tickets : List PendingTicket) (idle : List X) (a : Option PendingTicket) (p : Option Phase)
     → turn_in moment free shut conn tickets idle a p ≡ turn_in moment free shut conn tickets (map f idle) a p
 turn_in-map f moment free shut conn tickets idle None p = refl
 turn_in-map f moment free shut conn tickets idle (Some a) None = refl

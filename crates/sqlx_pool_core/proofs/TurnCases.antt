@@ -1,14 +1,15 @@
 -- What stands where the turn of a poll is a test or a connect.
-use Rattle.std.proofs.Common.{◌≡◌, ℕ, ◌+◌, ◌^◌, ◌<◌, ◌≤◌, List, [], ◌∷◌, length, refl, ap, sym, ◌∙◌, arith, Bool, true, false, if◌then◌else◌, Option, Some, None, ◌⊎◌, inl, inr, ltb, leb}
+use Rattle.std.proofs.Common.{◌≡◌, ℕ, ◌^◌, ◌<◌, ◌≤◌, List, [], ◌∷◌, refl, arith, Bool, true, false, if◌then◌else◌, Some, ◌⊎◌, inl, inr, ltb, leb}
 use Rattle.std.proofs.lemmas.Bool.Decides.{nat_tests}
 use Rattle.sqlx_pool_core.specs.declared.ticket.Ticket.{Ticket}
 use Rattle.sqlx_pool_core.specs.declared.ticket.Phase.{Phase}
 use Rattle.sqlx_pool_core.specs.declared.ticket.Phase.TheVariants as phase
-use Rattle.sqlx_pool_core.specs.declared.turn.Turn.{Turn}
-use Rattle.sqlx_pool_core.specs.declared.turn.Turn.TheVariants as turn
+use Rattle.sqlx_log.specs.declared.turn.Turn.{Turn}
+use Rattle.sqlx_log.specs.declared.turn.Turn.TheVariants as turn
 use Rattle.sqlx_pool_core.specs.declared.steps.Idle.{Idle}
 use Rattle.sqlx_pool_core.specs.Core.{Core, free}
-use Rattle.sqlx_pool_core.specs.PollTable.{in_time, is_at_rest, numbered, first_idle}
+use Rattle.sqlx_log.specs.PollTable.{numbered, first_idle}
+use Rattle.sqlx_pool_core.specs.PollTable.{in_time, is_at_rest}
 use Rattle.sqlx_pool_core.specs.OwnTurn.{own_turn_at, before}
 
 -- where the first choice isn't it, the test was false and the other is it

@@ -6,8 +6,8 @@ use Rattle.sqlx_pool_core.specs.declared.ticket.Ticket.{Ticket}
 use Rattle.sqlx_pool_core.specs.declared.ticket.Held.{Held}
 use Rattle.sqlx_pool_core.specs.declared.ticket.Phase.{Phase}
 use Rattle.sqlx_pool_core.specs.declared.ticket.Phase.TheVariants.{Waiting}
-use Rattle.sqlx_pool_core.specs.Marks.{Asking, Loan, Resting}
-use Rattle.sqlx_pool_core.specs.Counts.{free_of}
+use Rattle.sqlx_log.specs.Marks.{PendingTicket, Loan, IdleEntry}
+use Rattle.sqlx_log.specs.Counts.{free_of}
 
 -- Tickets in the order of asking, owned connections, idle ones in their order, and the numbers that come next.
 pub record Core (C : Type 0) : Type 0 where
@@ -28,13 +28,13 @@ abbrev pub is_out : Phase → Bool
 is_out Waiting = false
 is_out phase = true
 
-abbrev pub asking : Ticket → Asking
+abbrev pub asking : Ticket → PendingTicket
 asking t = record { ticket = t.number; client = t.client; deadline = t.deadline; left = is_out t.phase }
 
 abbrev pub loan : Held → Loan
 loan h = record { client = h.client; conn = h.conn }
 
-abbrev pub resting : {C : Type 0} → Idle C → Resting
+abbrev pub resting : {C : Type 0} → Idle C → IdleEntry
 resting i = record { conn = i.lent.id; since = i.since.0 }
 
 -- ---- counts

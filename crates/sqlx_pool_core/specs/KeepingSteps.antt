@@ -1,21 +1,27 @@
 -- Reaping, the minimum and closing: what each step answers, the marks that it makes, and what it makes of the core.
 use Rattle.std.specs.Prelude.{ℕ, ◌+◌, ◌-◌, Bool, true, false, ◌==◌, List, [], ◌∷◌, Option, Some, None, if◌then◌else◌, map, find, length}
 use Rattle.std.specs.List.{list_any}
-use Rattle.sqlx_pool_core.specs.declared.mark.Mark.{Mark}
-use Rattle.sqlx_pool_core.specs.declared.mark.Mark.TheVariants.{Reaped, Opened, Kept, Closed, Shut}
+use Rattle.sqlx_pool_core.specs.Limits.{limits_of}
+use Rattle.sqlx_log.specs.declared.mark.Mark.{Mark}
+use Rattle.sqlx_log.specs.declared.mark.Mark.TheVariants.{Reaped, Opened, Kept, Closed, Shut}
 use Rattle.sqlx_pool_core.specs.declared.options.PoolOptions.{PoolOptions}
 use Rattle.sqlx_pool_core.specs.declared.steps.Idle.{Idle}
 use Rattle.sqlx_pool_core.specs.declared.steps.CloseState.{CloseState}
 use Rattle.sqlx_pool_core.specs.declared.steps.CloseState.TheVariants as state
-use Rattle.sqlx_pool_core.specs.Marks.{is_shut, loans_of, leaked_of, tickets_of}
+use Rattle.sqlx_log.specs.Marks.{is_shut, loans_of, leaked_of, tickets_of}
 use Rattle.sqlx_pool_core.specs.Core.{Core, waiting, free, size}
-use Rattle.sqlx_pool_core.specs.EventTable.{is_reaped, may_open, lacking}
+use Rattle.sqlx_log.specs.EventTable.{is_reaped, may_open, lacking}
 use Rattle.sqlx_pool_core.specs.Edits.{without_idle, kept, opened, at_moment}
 
 -- ---- reap
 
+-- the number of an idle connection
+abbrev pub idle_conn : {C : Type 0} → Idle C → ℕ
+idle_conn i = i.lent.id
+
+-- the idle connection is beyond a limit
 abbrev pub is_reaped_at : {C : Type 0} → PoolOptions → ℕ → Idle C → Bool
-is_reaped_at options m i = is_reaped options i.lent.created.0 i.since.0 m
+is_reaped_at options m i = is_reaped (limits_of options) i.lent.created.0 i.since.0 m
 
 -- the first idle connection that is beyond a limit, where reaping applies
 abbrev pub reap_answer : {C : Type 0} → Bool → PoolOptions → ℕ → List (Idle C) → Option (Idle C)

@@ -1,8 +1,7 @@
 -- What the outside of a pool means: its counts, the depth of a connection, and what it tells of its next answers.
-use Rattle.std.specs.Prelude.{◌≡◌, ℕ, ◌+◌, ◌-◌, ◌^◌, ◌<◌, ◌≤◌, ◌⊎◌, ⊤, Bool, true, false, ◌==◌, ◌&&◌, List, [], ◌∷◌, Option, Some, None, Result, Ok, Err, IfSome, option_map, is_ok, drop, if◌then◌else◌}
+use Rattle.std.specs.Prelude.{◌≡◌, ℕ, ◌-◌, ◌^◌, ◌<◌, ◌≤◌, ◌⊎◌, ⊤, Bool, true, false, ◌==◌, List, [], ◌∷◌, Option, Some, None, Result, Ok, Err, drop, if◌then◌else◌}
 use Rattle.sqlx_text.specs.declared.error.Error.{Error}
 use Rattle.sqlx_text.specs.declared.error.Error.TheVariants.{OutOfMemory, Io, Database}
-use Rattle.sqlx_text.specs.declared.io_fault.IoFault.{IoFault}
 use Rattle.sqlx_text.specs.declared.io_fault.IoFault.TheVariants.{ConnectionRefused, Other}
 
 -- the count rose, or it stands at its last value

@@ -1,8 +1,8 @@
 -- The turn of a poll by the core's own lists.
 use Rattle.std.specs.Prelude.{ℕ, Bool, not, ◌==◌, List, Option, Some, None, if◌then◌else◌, nat_le, take_while}
 use Rattle.sqlx_pool_core.specs.declared.ticket.Ticket.{Ticket}
-use Rattle.sqlx_pool_core.specs.declared.turn.Turn.{Turn}
-use Rattle.sqlx_pool_core.specs.declared.turn.Turn.TheVariants.{NotHeld, Closed, TimedOut}
+use Rattle.sqlx_log.specs.declared.turn.Turn.{Turn}
+use Rattle.sqlx_log.specs.declared.turn.Turn.TheVariants.{NotHeld, Closed, TimedOut}
 use Rattle.sqlx_pool_core.specs.Core.{Core, free, waiting, ticket_of}
 use Rattle.sqlx_pool_core.specs.PollTable.{in_time, is_at_rest}
 

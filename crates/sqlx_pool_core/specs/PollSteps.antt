@@ -1,13 +1,13 @@
 -- The steps of a poll, of a cancel and of a try: what each answers, the marks that it makes, and what it makes of the core.
 use Rattle.std.specs.Prelude.{ℕ, ◌+◌, Bool, true, false, ◌==◌, List, [], ◌∷◌, Option, Some, None, if◌then◌else◌, option_map}
 use Rattle.sqlx_text.specs.declared.Moment.{Moment}
-use Rattle.sqlx_pool_core.specs.declared.mark.Mark.{Mark}
-use Rattle.sqlx_pool_core.specs.declared.mark.Mark.TheVariants.{Left, Taken, Opened, Lent, Closed, Ended}
+use Rattle.sqlx_log.specs.declared.mark.Mark.{Mark}
+use Rattle.sqlx_log.specs.declared.mark.Mark.TheVariants.{Left, Taken, Opened, Lent, Closed, Ended}
 use Rattle.sqlx_pool_core.specs.declared.ticket.Ticket.{Ticket}
 use Rattle.sqlx_pool_core.specs.declared.ticket.Phase.{Phase}
 use Rattle.sqlx_pool_core.specs.declared.ticket.Phase.TheVariants as phase
-use Rattle.sqlx_pool_core.specs.declared.turn.Turn.{Turn}
-use Rattle.sqlx_pool_core.specs.declared.turn.Turn.TheVariants as turn
+use Rattle.sqlx_log.specs.declared.turn.Turn.{Turn}
+use Rattle.sqlx_log.specs.declared.turn.Turn.TheVariants as turn
 use Rattle.sqlx_pool_core.specs.declared.steps.Lent.{Lent as LentValue}
 use Rattle.sqlx_pool_core.specs.declared.steps.Idle.{Idle}
 use Rattle.sqlx_pool_core.specs.declared.steps.Start.{Start}
@@ -21,7 +21,7 @@ use Rattle.sqlx_pool_core.specs.declared.steps.Tried.TheVariants as tried
 use Rattle.sqlx_pool_core.specs.declared.steps.AfterConnect.{AfterConnect}
 use Rattle.sqlx_pool_core.specs.declared.steps.AfterConnect.TheVariants as connected
 use Rattle.sqlx_pool_core.specs.Core.{Core, ticket_of}
-use Rattle.sqlx_pool_core.specs.Backoff.{cap, next_wait}
+use Rattle.sqlx_log.specs.Backoff.{cap, next_wait}
 use Rattle.sqlx_pool_core.specs.Edits.{with_ticket, to_test, to_try, to_connect, to_back_off, ended, lent_to, took, opened, at_moment}
 
 -- the phase of this client's ticket

@@ -1,13 +1,13 @@
 -- What a poll comes to at first, by the tickets, permits and idle connections that there are.
 use Rattle.std.specs.Prelude.{ℕ, ◌^◌, Bool, true, false, List, [], ◌∷◌, Option, Some, if◌then◌else◌, nat_le, nat_lt, length}
 use Rattle.std.specs.List.{list_any}
-use Rattle.sqlx_pool_core.specs.declared.mark.Mark.{Mark}
+use Rattle.sqlx_log.specs.declared.mark.Mark.{Mark}
 use Rattle.sqlx_pool_core.specs.declared.ticket.Phase.{Phase}
 use Rattle.sqlx_pool_core.specs.declared.ticket.Phase.TheVariants as phase
-use Rattle.sqlx_pool_core.specs.declared.turn.Turn.{Turn}
-use Rattle.sqlx_pool_core.specs.declared.turn.Turn.TheVariants.{NotHeld, Closed, TimedOut, Exhausted, Waiting, Backoff, Test, Connect}
-use Rattle.sqlx_pool_core.specs.Marks.{Asking, tickets_of, loans_of, idle_of, leaked_of, is_shut, next_conn}
-use Rattle.sqlx_pool_core.specs.Counts.{asked_in, before_in, left_in, free_of}
+use Rattle.sqlx_log.specs.declared.turn.Turn.{Turn}
+use Rattle.sqlx_log.specs.declared.turn.Turn.TheVariants.{NotHeld, Closed, TimedOut, Exhausted, Waiting, Backoff, Test, Connect}
+use Rattle.sqlx_log.specs.Marks.{PendingTicket, tickets_of, loans_of, idle_of, leaked_of, is_shut, next_conn}
+use Rattle.sqlx_log.specs.Counts.{asked_in, before_in, left_in, free_of}
 
 -- the first idle connection is tested; with none idle, one is connected
 abbrev pub first_idle : {X : Type 0} → List X → Turn
@@ -31,12 +31,12 @@ is_at_rest (phase.Backoff until) = true
 is_at_rest other = false
 
 -- the first that applies: a step of its own is under way; the pool is closed; the deadline came; the ticket's own place decides
-abbrev pub turn_at : {X : Type 0} → ℕ → ℕ → Bool → ℕ → List Asking → List X → Asking → Phase → Turn
+abbrev pub turn_at : {X : Type 0} → ℕ → ℕ → Bool → ℕ → List PendingTicket → List X → PendingTicket → Phase → Turn
 turn_at moment free shut next_conn tickets idle a phase =
     if is_at_rest phase then (if shut then Closed else (if nat_le a.deadline moment then TimedOut else in_time moment free (before_in a.ticket tickets) next_conn idle phase)) else NotHeld
 
 -- what the poll of a ticket comes to, by the phase that the core keeps for it; NotHeld where the client has no such ticket
-abbrev pub turn_in : {X : Type 0} → ℕ → ℕ → Bool → ℕ → List Asking → List X → Option Asking → Option Phase → Turn
+abbrev pub turn_in : {X : Type 0} → ℕ → ℕ → Bool → ℕ → List PendingTicket → List X → Option PendingTicket → Option Phase → Turn
 turn_in moment free shut next_conn tickets idle (Some a) (Some phase) = turn_at moment free shut next_conn tickets idle a phase
 turn_in moment free shut next_conn tickets idle asked phase = NotHeld
 

@@ -1,25 +1,22 @@
 -- The steps that end a loan: what each answers, the marks that it makes, and what it makes of the core.
-use Rattle.std.specs.Prelude.{ℕ, ◌+◌, Bool, true, false, not, ◌&&◌, ◌||◌, List, [], ◌∷◌, Option, Some, None, if◌then◌else◌}
-use Rattle.sqlx_pool_core.specs.declared.mark.Mark.{Mark}
-use Rattle.sqlx_pool_core.specs.declared.mark.Mark.TheVariants.{Kept, Closed, Detached, Leaked}
+use Rattle.std.specs.Prelude.{ℕ, ◌+◌, Bool, true, false, not, ◌&&◌, List, [], ◌∷◌, Option, Some, None, if◌then◌else◌}
+use Rattle.sqlx_pool_core.specs.Limits.{limits_of}
+use Rattle.sqlx_log.specs.declared.mark.Mark.{Mark}
+use Rattle.sqlx_log.specs.declared.mark.Mark.TheVariants.{Kept, Closed, Detached, Leaked}
 use Rattle.sqlx_pool_core.specs.declared.options.PoolOptions.{PoolOptions}
 use Rattle.sqlx_pool_core.specs.declared.ticket.Held.{Held}
 use Rattle.sqlx_pool_core.specs.declared.steps.Lent.{Lent as LentValue}
 use Rattle.sqlx_pool_core.specs.declared.steps.Given.{Given}
 use Rattle.sqlx_pool_core.specs.declared.steps.Given.TheVariants as given
 use Rattle.sqlx_pool_core.specs.Core.{Core}
-use Rattle.sqlx_pool_core.specs.EventTable.{is_too_old}
+use Rattle.sqlx_log.specs.EventTable.{closes}
 use Rattle.sqlx_pool_core.specs.PollSteps.{lent_since}
 use Rattle.sqlx_pool_core.specs.Edits.{unlent, kept, at_moment}
-
--- a connection is closed rather than kept: the pool is closed, or it is too old
-abbrev pub closes : PoolOptions → Bool → ℕ → ℕ → Bool
-closes options shut created m = shut || is_too_old options created m
 
 -- the answer to a connection that comes back, by the loan that the pool keeps of it
 abbrev pub give_answer : {C : Type 0} → PoolOptions → Bool → ℕ → Bool → Option Held → LentValue C → Given C
 give_answer options shut m accepted None lent = given.NotHeld lent.raw
-give_answer options shut m accepted (Some h) lent = if accepted && not (closes options shut h.created.0 m) then given.Kept else given.Closed lent.raw
+give_answer options shut m accepted (Some h) lent = if accepted && not (closes (limits_of options) shut h.created.0 m) then given.Kept else given.Closed lent.raw
 
 abbrev pub give_marks : {C : Type 0} → ℕ → ℕ → Given C → List Mark
 give_marks c m given.Kept = Kept c m ∷ []

@@ -1,17 +1,17 @@
 //! What a client does on a connection that it owns, as a statement of the database.
 ghost use Rattle.std.specs.Prelude.{◌≡◌, true, false, ◌≤◌, Option, Some, None, IfOk, IfErr};
 ghost use Rattle.sqlx_savepoints.specs.Texts as texts;
-ghost use Rattle.mem_driver.specs.Statements.{Reads};
-ghost use Rattle.mem_driver.specs.Acts.{act_of, refusal_of};
-ghost use Rattle.mem_driver.specs.Errors.{error_of};
-ghost use Rattle.mem_driver.specs.declared.statement.Statement.{Statement as Held};
-ghost use Rattle.mem_driver.specs.declared.act.Act.{Act as Doing};
-ghost use Rattle.mem_driver.specs.declared.refusal.Refusal.{Refusal as Reason};
+ghost use Rattle.mem_store.specs.Statements.{Reads};
+ghost use Rattle.mem_store.specs.Acts.{act_of, refusal_of};
+ghost use Rattle.mem_store.specs.Errors.{error_of};
+ghost use Rattle.mem_store.specs.declared.statement.Statement.{Statement as Held};
+ghost use Rattle.mem_store.specs.declared.act.Act.{Act as Doing};
+ghost use Rattle.mem_store.specs.declared.refusal.Refusal.{Refusal as Reason};
 ghost use Rattle.sqlx_play.specs.LinkActs.{IsOutcome, reply_on, left_by};
 ghost use Rattle.sqlx_play.specs.LinkActs as spec;
 
 use crate::error::PlayError;
-use mem_driver::{Answer, DELETE, GET, MemLink, MemSession, MemStore, PUT, Plain, SELECT_ONE};
+use mem_store::{Answer, DELETE, GET, MemStore, PUT, Plain, SELECT_ONE, StoreLink, StoreSession};
 use sqlx_savepoints::{
     LevelText, begin_ansi_transaction_sql, commit_ansi_transaction_sql,
     rollback_ansi_transaction_sql,
@@ -111,7 +111,7 @@ fn refused_reply(error: &Error) -> Option<Reply>
 }
 
 /// Runs a statement, unless memory is wanting.
-fn run_text(session: &mut MemSession, text: &str, arguments: &[i64]) -> Result<Outcome, PlayError>
+fn run_text(session: &mut StoreSession, text: &str, arguments: &[i64]) -> Result<Outcome, PlayError>
     ensures ok { (read : Option Held) (act : Doing) → Reads text.now read → act_of read arguments.now ≡ Some act → IfOk result (IsOutcome act session.old session.new) }
     ensures memory { IfErr result (λ e. e ≡ PlayError.OutOfMemory) }
 {
@@ -124,7 +124,7 @@ fn run_text(session: &mut MemSession, text: &str, arguments: &[i64]) -> Result<O
     }
 }
 
-fn put(session: &mut MemSession, key: i64, value: i64) -> Result<Reply, PlayError>
+fn put(session: &mut StoreSession, key: i64, value: i64) -> Result<Reply, PlayError>
     ensures ok { IfOk result (λ reply. (reply ≡ reply_on (Act.Put key value) session.old) × (session.new ≡ left_by (Act.Put key value) session.old)) }
     ensures memory { IfErr result (λ e. e ≡ PlayError.OutOfMemory) }
 {
@@ -135,7 +135,7 @@ fn put(session: &mut MemSession, key: i64, value: i64) -> Result<Reply, PlayErro
     }
 }
 
-fn delete(session: &mut MemSession, key: i64) -> Result<Reply, PlayError>
+fn delete(session: &mut StoreSession, key: i64) -> Result<Reply, PlayError>
     ensures ok { IfOk result (λ reply. (reply ≡ reply_on (Act.Delete key) session.old) × (session.new ≡ left_by (Act.Delete key) session.old)) }
     ensures memory { IfErr result (λ e. e ≡ PlayError.OutOfMemory) }
 {
@@ -155,7 +155,7 @@ fn found_reply(value: Option<i64>) -> Reply
     }
 }
 
-fn get(session: &mut MemSession, key: i64) -> Result<Reply, PlayError>
+fn get(session: &mut StoreSession, key: i64) -> Result<Reply, PlayError>
     ensures ok { IfOk result (λ reply. (reply ≡ reply_on (Act.Get key) session.old) × (session.new ≡ left_by (Act.Get key) session.old)) }
     ensures memory { IfErr result (λ e. e ≡ PlayError.OutOfMemory) }
 {
@@ -166,7 +166,7 @@ fn get(session: &mut MemSession, key: i64) -> Result<Reply, PlayError>
     }
 }
 
-fn begin(session: &mut MemSession, alloc: Global) -> Result<Reply, PlayError>
+fn begin(session: &mut StoreSession, alloc: Global) -> Result<Reply, PlayError>
     ensures ok { IfOk result (λ reply. (reply ≡ reply_on Act.Begin session.old) × (session.new ≡ left_by Act.Begin session.old)) }
     ensures memory { IfErr result (λ e. e ≡ PlayError.OutOfMemory) }
 {
@@ -184,7 +184,7 @@ fn begin(session: &mut MemSession, alloc: Global) -> Result<Reply, PlayError>
     }
 }
 
-fn begin_immediate(session: &mut MemSession) -> Result<Reply, PlayError>
+fn begin_immediate(session: &mut StoreSession) -> Result<Reply, PlayError>
     ensures ok { IfOk result (λ reply. (reply ≡ spec.reply_met (Act.Custom true) session.old (refusal_of (Some (spec.statement_at (Act.Custom true) session.old.link.depth)) session.old))
         × (session.new ≡ spec.left_met (Act.Custom true) session.old (refusal_of (Some (spec.statement_at (Act.Custom true) session.old.link.depth)) session.old))) }
     ensures memory { IfErr result (λ e. e ≡ PlayError.OutOfMemory) }
@@ -199,7 +199,7 @@ fn begin_immediate(session: &mut MemSession) -> Result<Reply, PlayError>
     }
 }
 
-fn select_one(session: &mut MemSession) -> Result<Reply, PlayError>
+fn select_one(session: &mut StoreSession) -> Result<Reply, PlayError>
     ensures ok { IfOk result (λ reply. (reply ≡ spec.reply_met (Act.Custom false) session.old (refusal_of (Some (spec.statement_at (Act.Custom false) session.old.link.depth)) session.old))
         × (session.new ≡ spec.left_met (Act.Custom false) session.old (refusal_of (Some (spec.statement_at (Act.Custom false) session.old.link.depth)) session.old))) }
     ensures memory { IfErr result (λ e. e ≡ PlayError.OutOfMemory) }
@@ -211,7 +211,7 @@ fn select_one(session: &mut MemSession) -> Result<Reply, PlayError>
     }
 }
 
-fn custom(session: &mut MemSession, starts: bool) -> Result<Reply, PlayError>
+fn custom(session: &mut StoreSession, starts: bool) -> Result<Reply, PlayError>
     ensures ok { IfOk result (λ reply. (reply ≡ reply_on (Act.Custom starts) session.old) × (session.new ≡ left_by (Act.Custom starts) session.old)) }
     ensures memory { IfErr result (λ e. e ≡ PlayError.OutOfMemory) }
 {
@@ -226,7 +226,7 @@ fn custom(session: &mut MemSession, starts: bool) -> Result<Reply, PlayError>
     }
 }
 
-fn commit(session: &mut MemSession, alloc: Global) -> Result<Reply, PlayError>
+fn commit(session: &mut StoreSession, alloc: Global) -> Result<Reply, PlayError>
     requires { 1 ≤ session.old.link.depth }
     ensures ok { IfOk result (λ reply. (reply ≡ reply_on Act.Commit session.old) × (session.new ≡ left_by Act.Commit session.old)) }
     ensures memory { IfErr result (λ e. e ≡ PlayError.OutOfMemory) }
@@ -248,7 +248,7 @@ fn commit(session: &mut MemSession, alloc: Global) -> Result<Reply, PlayError>
     }
 }
 
-fn rollback(session: &mut MemSession, alloc: Global) -> Result<Reply, PlayError>
+fn rollback(session: &mut StoreSession, alloc: Global) -> Result<Reply, PlayError>
     requires { 1 ≤ session.old.link.depth }
     ensures ok { IfOk result (λ reply. (reply ≡ reply_on Act.Rollback session.old) × (session.new ≡ left_by Act.Rollback session.old)) }
     ensures memory { IfErr result (λ e. e ≡ PlayError.OutOfMemory) }
@@ -270,7 +270,7 @@ fn rollback(session: &mut MemSession, alloc: Global) -> Result<Reply, PlayError>
     }
 }
 
-fn give_up(session: &mut MemSession) -> Reply
+fn give_up(session: &mut StoreSession) -> Reply
     requires { 1 ≤ session.old.link.depth }
     ensures reply { result ≡ reply_on Act.GiveUp session.old }
     ensures left { session.new ≡ left_by Act.GiveUp session.old }
@@ -284,7 +284,7 @@ fn give_up(session: &mut MemSession) -> Reply
 }
 
 /// Does it at the session's depth.
-fn run(session: &mut MemSession, alloc: Global, act: Act) -> Result<Reply, PlayError>
+fn run(session: &mut StoreSession, alloc: Global, act: Act) -> Result<Reply, PlayError>
     ensures ok { IfOk result (λ reply. (reply ≡ reply_on act session.old) × (session.new ≡ left_by act session.old)) }
     ensures memory { IfErr result (λ e. e ≡ PlayError.OutOfMemory) }
 {
@@ -307,10 +307,10 @@ fn run(session: &mut MemSession, alloc: Global, act: Act) -> Result<Reply, PlayE
 pub fn run_on(
     store: &mut MemStore,
     alloc: Global,
-    link: MemLink,
+    link: StoreLink,
     act: Act,
     answer: StatementAnswer,
-) -> Result<(MemLink, Reply), PlayError>
+) -> Result<(StoreLink, Reply), PlayError>
     ensures reply { IfOk result (λ r. r.1 ≡ reply_on act (record { store = store.old; link = link; answer = spec.answer_for answer })) }
     ensures link { IfOk result (λ r. r.0 ≡ (left_by act (record { store = store.old; link = link; answer = spec.answer_for answer })).link) }
     ensures store { IfOk result (λ r. store.new ≡ (left_by act (record { store = store.old; link = link; answer = spec.answer_for answer })).store) }

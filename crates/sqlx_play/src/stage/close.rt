@@ -6,14 +6,14 @@ ghost use Rattle.sqlx_play.specs.PlaysEvent.{PlaysEvent};
 ghost use Rattle.sqlx_play.specs.StageStands.{last_of, numbers_of};
 
 use super::Stage;
-use mem_driver::{MemLink, MemStore};
+use mem_store::{MemStore, StoreLink};
 use sqlx_pool_core::Idle;
 use sqlx_script::Reply;
 use sqlx_text::Moment;
 use std::collections::VecDeque;
 
 // Closes these connections.
-fn close_all(store: &mut MemStore, idle: &mut VecDeque<Idle<MemLink>>)
+fn close_all(store: &mut MemStore, idle: &mut VecDeque<Idle<StoreLink>>)
     ensures store { store.new ≡ closed_all idle.old.items store.old }
     ensures runs { store.new.runs ≡ store.old.runs }
 {

@@ -12,7 +12,7 @@ use super::lent::{place_of, put_lent};
 use super::poll::is_answered;
 use crate::error::PlayError;
 use crate::outside::ScriptOutside;
-use mem_driver::MemLink;
+use mem_store::StoreLink;
 use sqlx_pool_core::{Given, Lent, Outside, PoolConnectionMetadata};
 use sqlx_script::{GiveAnswers, PoolLine, Reply};
 use sqlx_text::Moment;
@@ -30,7 +30,7 @@ pub enum Returned {
 fn lets_rest(
     pool: &PoolLine,
     out: &mut ScriptOutside,
-    link: &mut MemLink,
+    link: &mut StoreLink,
     meta: PoolConnectionMetadata,
 ) -> bool
     requires none_left { out.old.left_open ≡ None }

@@ -3,7 +3,7 @@ ghost use Rattle.std.specs.Prelude.{◌≡◌, ◌+◌, ◌^◌, ◌≤◌, find
 ghost use Rattle.sqlx_pool_core.specs.declared.mark.Mark.{Mark};
 ghost use Rattle.sqlx_pool_core.specs.declared.steps.Lent.{Lent};
 ghost use Rattle.sqlx_pool_core.specs.KeepingSteps.{without_first};
-ghost use Rattle.mem_driver.specs.Driver.{Link, without};
+ghost use Rattle.mem_store.specs.Store.{Link, without};
 ghost use Rattle.sqlx_script.specs.declared.step.Step.{Step};
 ghost use Rattle.sqlx_play.specs.PlaysEvent.{PlaysEvent};
 ghost use Rattle.sqlx_play.specs.LentLinks.{is_lent};

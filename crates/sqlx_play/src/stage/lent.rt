@@ -5,18 +5,18 @@ ghost use Rattle.sqlx_pool_core.specs.KeepingSteps.{without_first};
 ghost use Rattle.sqlx_play.specs.LentLinks.{is_lent};
 
 use crate::error::PlayError;
-use mem_driver::MemLink;
+use mem_store::StoreLink;
 use sqlx_pool_core::Lent;
 
 /// At which place a connection's link stands.
-pub fn place_of(lent: &[Lent<MemLink>], conn: u64) -> Option<usize>
+pub fn place_of(lent: &[Lent<StoreLink>], conn: u64) -> Option<usize>
     ensures { result ≡ (if nat_lt (position_or_len (is_lent conn) lent.now) (length lent.now) then Some (position_or_len (is_lent conn) lent.now) else None) }
 {
     lent.iter().position(|l| conn == l.id)
 }
 
 /// Takes a connection's link out.
-pub fn take_lent(lent: &mut Vec<Lent<MemLink>>, conn: u64) -> Option<Lent<MemLink>>
+pub fn take_lent(lent: &mut Vec<Lent<StoreLink>>, conn: u64) -> Option<Lent<StoreLink>>
     ensures found { result ≡ find (is_lent conn) lent.old.items }
     ensures rest { lent.new.items ≡ without_first (is_lent conn) lent.old.items }
 {
@@ -26,9 +26,9 @@ pub fn take_lent(lent: &mut Vec<Lent<MemLink>>, conn: u64) -> Option<Lent<MemLin
 
 /// Puts a link at a place.
 pub fn put_lent(
-    lent: &mut Vec<Lent<MemLink>>,
+    lent: &mut Vec<Lent<StoreLink>>,
     at: usize,
-    link: Lent<MemLink>,
+    link: Lent<StoreLink>,
 ) -> Result<(), PlayError>
     requires { at ≤ length lent.old.items }
     ensures ok { OnOk result (lent.new.items ≡ insert lent.old.items at link) }

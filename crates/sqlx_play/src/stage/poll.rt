@@ -9,7 +9,7 @@ ghost use Rattle.sqlx_pool_core.specs.Edits.{at_moment, ended, lent_to, opened, 
 ghost use Rattle.sqlx_pool_core.specs.Makes.{Makes};
 ghost use Rattle.sqlx_pool_core.specs.PollSteps.{phase_for, tested_at, wait_of};
 ghost use Rattle.sqlx_pool_core.specs.StandsFor.{StandsFor};
-ghost use Rattle.mem_driver.specs.Driver.{without};
+ghost use Rattle.mem_store.specs.Store.{without};
 ghost use Rattle.sqlx_play.specs.Answer.{passes_test, connect_reply};
 ghost use Rattle.sqlx_play.specs.ScriptOutside.{depth_of, poll_letters};
 ghost use Rattle.sqlx_play.specs.PlaysEvent.{PlaysEvent};
@@ -24,7 +24,7 @@ use super::hand_over::hand_over;
 use super::set_up::sets_up;
 use crate::error::PlayError;
 use crate::outside::{ScriptOutside, refused_by};
-use mem_driver::MemLink;
+use mem_store::StoreLink;
 use sqlx_pool_core::{
     AfterConnect, AfterTest, Lent, Outside, PoolConnectionMetadata, Start, Tried, Verdict,
 };
@@ -49,7 +49,7 @@ pub fn is_answered(answer: Result<(), Error>) -> bool
 fn passes(
     pool: &PoolLine,
     out: &mut ScriptOutside,
-    link: &mut MemLink,
+    link: &mut StoreLink,
     meta: PoolConnectionMetadata,
 ) -> bool
     ensures answer { depth_of out.old link.old ≡ 0 → result ≡ passes_test pool.now (poll_letters out.old) }
@@ -78,7 +78,7 @@ fn lend(
     stage: &mut Stage,
     client: u32,
     ticket: u64,
-    lent: Lent<MemLink>,
+    lent: Lent<StoreLink>,
 ) -> Result<Reply, PlayError>
     requires tested { tested_at lent.id (phase_for client ticket stage.old.core.tickets) ≡ Some lent.created }
     requires open { stage.old.core.shut ≡ false }
@@ -98,7 +98,7 @@ fn lend(
 }
 
 // The idle connection failed its test: it is closed, and the ticket connects.
-fn refuse(stage: &mut Stage, client: u32, ticket: u64, lent: Lent<MemLink>)
+fn refuse(stage: &mut Stage, client: u32, ticket: u64, lent: Lent<StoreLink>)
     requires tested { tested_at lent.id (phase_for client ticket stage.old.core.tickets) ≡ Some lent.created }
     requires open { stage.old.core.shut ≡ false }
     ensures makes { (marks : List Mark) → StandsFor stage.old.core marks → Makes stage.old.core.options.max_connections marks (Mark.Closed lent.id ∷ []) stage.new.core }
@@ -122,7 +122,7 @@ fn open(
     moment: Moment,
     client: u32,
     ticket: u64,
-    link: MemLink,
+    link: StoreLink,
 ) -> Result<Reply, PlayError>
     requires connecting { phase_for client ticket stage.old.core.tickets ≡ Some Connecting }
     requires open { stage.old.core.shut ≡ false }

@@ -4,12 +4,12 @@ ghost use Rattle.sqlx_play.specs.Answer.{is_set_up};
 ghost use Rattle.sqlx_play.specs.ScriptOutside.{depth_of, poll_letters};
 
 use crate::outside::ScriptOutside;
-use mem_driver::MemLink;
+use mem_store::StoreLink;
 use sqlx_pool_core::{Outside, PoolConnectionMetadata};
 use sqlx_script::PoolLine;
 
 /// Whether the new connection is set up.
-pub fn sets_up(pool: &PoolLine, out: &mut ScriptOutside, link: &mut MemLink) -> bool
+pub fn sets_up(pool: &PoolLine, out: &mut ScriptOutside, link: &mut StoreLink) -> bool
     ensures answer { depth_of out.old link.old ≡ 0 → result ≡ is_set_up pool.now (poll_letters out.old) }
     ensures link { link.new ≡ link.old }
     ensures store { out.new.store ≡ out.old.store }

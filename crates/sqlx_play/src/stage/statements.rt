@@ -1,7 +1,7 @@
 //! The events that are statements on a connection of the client's.
 ghost use Rattle.std.specs.Prelude.{◌≡◌, ◌+◌, ◌^◌, ◌<◌, ◌≤◌, true, false, Some, List, IfOk, OnOk, IfErr, IfSome, IfNone, slice_index_or, length};
 ghost use Rattle.std.specs.List.{insert, list_any};
-ghost use Rattle.mem_driver.specs.Driver.{Link};
+ghost use Rattle.mem_store.specs.Store.{Link};
 ghost use Rattle.sqlx_pool_core.specs.Sound.{IsSound};
 ghost use Rattle.sqlx_pool_core.specs.declared.steps.Lent.{Lent as LentLink};
 ghost use Rattle.sqlx_play.specs.ScriptLevels as levels;
@@ -14,7 +14,7 @@ ghost use Rattle.sqlx_play.specs.StageStands.{last_of, numbers_of};
 use super::Stage;
 use super::acts::{Act, run_on};
 use crate::error::PlayError;
-use mem_driver::MemLink;
+use mem_store::StoreLink;
 use sqlx_pool_core::Lent;
 use sqlx_script::{Event, Reply, StatementAnswer, Step};
 use std::alloc::Global;
@@ -90,7 +90,7 @@ fn statement_of(step: &Step) -> Option<Statement>
 }
 
 /// Where the connection of this number stands.
-fn place_of(lent: &[Lent<MemLink>], id: u64) -> Option<usize>
+fn place_of(lent: &[Lent<StoreLink>], id: u64) -> Option<usize>
     ensures some { IfSome result (λ at. (at < length lent.now) × ((d : LentLink Link) → (slice_index_or lent.now at d).id ≡ id)) }
     ensures none { IfNone result (list_any (is_lent_id id) lent.now ≡ false) }
 {
@@ -103,7 +103,7 @@ fn place_of(lent: &[Lent<MemLink>], id: u64) -> Option<usize>
 }
 
 /// Takes the connection of this number out, with the place where it stood.
-fn take_out(lent: &mut Vec<Lent<MemLink>>, id: u64) -> Option<(usize, Lent<MemLink>)>
+fn take_out(lent: &mut Vec<Lent<StoreLink>>, id: u64) -> Option<(usize, Lent<StoreLink>)>
     ensures some { IfSome result (λ r. IsTakenOut id r.0 r.1 lent.old.items lent.new.items) }
     ensures none { IfNone result ((lent.new.items ≡ lent.old.items) × (list_any (is_lent_id id) lent.old.items ≡ false)) }
 {
@@ -113,7 +113,7 @@ fn take_out(lent: &mut Vec<Lent<MemLink>>, id: u64) -> Option<(usize, Lent<MemLi
 }
 
 /// Puts a connection in at the place where it stood.
-fn put_in(lent: &mut Vec<Lent<MemLink>>, at: usize, own: Lent<MemLink>) -> Result<(), PlayError>
+fn put_in(lent: &mut Vec<Lent<StoreLink>>, at: usize, own: Lent<StoreLink>) -> Result<(), PlayError>
     requires { at ≤ length lent.old.items }
     ensures ok { OnOk result (lent.new.items ≡ insert lent.old.items at own) }
     ensures memory { IfErr result (λ e. e ≡ PlayError.OutOfMemory) }

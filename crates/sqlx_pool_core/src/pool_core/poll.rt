@@ -6,19 +6,20 @@ ghost use Rattle.sqlx_pool_core.specs.OwnTurn.{own_turn, own_turn_at, before};
 ghost use Rattle.sqlx_pool_core.specs.PollSteps.{start_answer, start_marks, started, phase_for};
 ghost use Rattle.sqlx_pool_core.specs.Edits.{at_moment, ended, to_try};
 ghost use Rattle.sqlx_pool_core.specs.declared.steps.Start.TheVariants as start;
-ghost use Rattle.sqlx_pool_core.specs.PollTable.{numbered, first_idle, turn};
-ghost use Rattle.sqlx_pool_core.specs.declared.mark.Mark.{Mark};
+ghost use Rattle.sqlx_log.specs.PollTable.{numbered, first_idle};
+ghost use Rattle.sqlx_pool_core.specs.PollTable.{turn};
+ghost use Rattle.sqlx_log.specs.declared.mark.Mark.{Mark};
 ghost use Rattle.sqlx_pool_core.specs.Makes.{Makes};
 ghost use Rattle.sqlx_pool_core.specs.Moves.{Moves};
 ghost use Rattle.sqlx_pool_core.specs.Sound.{IsSound};
 ghost use Rattle.sqlx_pool_core.specs.StandsFor.{StandsFor};
-ghost use Rattle.sqlx_pool_core.specs.declared.turn.Turn.{Turn};
+ghost use Rattle.sqlx_log.specs.declared.turn.Turn.{Turn};
 
 use super::{NUMBERS, PoolCore};
 use crate::lists;
 use crate::steps::{Idle, Start};
 use crate::ticket::{Phase, Ticket};
-use crate::turn::Turn;
+use sqlx_log::Turn;
 use sqlx_text::Moment;
 
 impl<C> PoolCore<C> {

@@ -2,7 +2,7 @@
 
 ghost use Rattle.std.specs.Prelude.{◌≡◌, ℕ, ◌+◌, ◌<◌, ◌≤◌, ◌⊎◌, max, Bool, true, false, List, ◌∷◌, Option, Some, IfSome, is_some};
 ghost use Rattle.sqlx_pool_core.specs.declared.ticket.Phase.{Phase};
-ghost use Rattle.sqlx_pool_core.specs.declared.mark.Mark.{Mark};
+ghost use Rattle.sqlx_log.specs.declared.mark.Mark.{Mark};
 ghost use Rattle.sqlx_pool_core.specs.Core.{ticket_of};
 ghost use Rattle.sqlx_pool_core.specs.Makes.{Makes};
 ghost use Rattle.sqlx_pool_core.specs.StandsFor.{StandsFor};

@@ -1,5 +1,5 @@
 use Rattle.std.proofs.Common.{sym, ap, subst, ◌∙◌, Some}
-use Rattle.mem_driver.specs.Driver.{Store}
+use Rattle.mem_store.specs.Store.{Store}
 use Rattle.sqlx_play.specs.Headline.{Plays}
 use Rattle.sqlx_play.proofs.Lines.{no_element}
 use Rattle.sqlx_play.proofs.Causes.{cause_of, cause_at_first}

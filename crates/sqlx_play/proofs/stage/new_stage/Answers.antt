@@ -2,7 +2,7 @@ use Rattle.std.proofs.Common.{sym, subst, [], ◌∙◌}
 use Rattle.std.proofs.lemmas.List.Elements.{All-nil, All-same}
 use Rattle.sqlx_pool_core.specs.StandsFor.{StandsFor}
 use Rattle.sqlx_pool_core.specs.FairLog.{IsFair}
-use Rattle.mem_driver.specs.Driver.{Store}
+use Rattle.mem_store.specs.Store.{Store}
 use Rattle.sqlx_play.specs.StageStands.{IsSetUp, IsTried}
 use Rattle.sqlx_play.specs.LinksStand.{LinksStand}
 use Rattle.sqlx_play.proofs.Stages.{marks_of-nil, tickets-nil, held-nil, idle-nil}

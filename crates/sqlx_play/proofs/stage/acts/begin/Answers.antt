@@ -1,6 +1,6 @@
 use Rattle.std.proofs.Common.{◌≡◌, suc, ◌+◌, Some, refl, ap, ◌∙◌, arith}
-use Rattle.mem_driver.specs.declared.statement.Statement.TheVariants.{Level as LevelOf}
-use Rattle.mem_driver.specs.declared.act.Act.TheVariants.{Level as Doing}
+use Rattle.mem_store.specs.declared.statement.Statement.TheVariants.{Level as LevelOf}
+use Rattle.mem_store.specs.declared.act.Act.TheVariants.{Level as Doing}
 use Rattle.sqlx_savepoints.specs.Texts.{begin_at, text_of}
 use Rattle.sqlx_savepoints.specs.declared.level_text.LevelText.{LevelText}
 use Rattle.sqlx_script.specs.declared.reply.Reply.TheVariants.{Level}

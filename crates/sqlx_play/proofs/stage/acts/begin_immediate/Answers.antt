@@ -1,6 +1,6 @@
 use Rattle.std.proofs.Common.{true, Some, refl, ◌∙◌}
-use Rattle.mem_driver.specs.declared.statement.Statement.TheVariants.{Level as LevelOf}
-use Rattle.mem_driver.specs.declared.act.Act.TheVariants.{Level as Doing}
+use Rattle.mem_store.specs.declared.statement.Statement.TheVariants.{Level as LevelOf}
+use Rattle.mem_store.specs.declared.act.Act.TheVariants.{Level as Doing}
 use Rattle.sqlx_savepoints.specs.declared.level_text.LevelText.TheVariants.{BeginImmediate}
 use Rattle.sqlx_play.specs.declared.stage.acts.Act.TheVariants.{Custom}
 use Rattle.sqlx_play.proofs.LinkOutcomes.{met-ran, met-refused}

@@ -1,7 +1,7 @@
 use Rattle.std.proofs.Common.{w64, Some, refl, ◌∙◌}
 use Rattle.std.proofs.lemmas.Int.{to_z-of_z}
-use Rattle.mem_driver.specs.declared.statement.Statement.TheVariants.{Delete as TheText}
-use Rattle.mem_driver.specs.declared.act.Act.TheVariants.{Delete as Doing}
+use Rattle.mem_store.specs.declared.statement.Statement.TheVariants.{Delete as TheText}
+use Rattle.mem_store.specs.declared.act.Act.TheVariants.{Delete as Doing}
 use Rattle.sqlx_play.specs.declared.stage.acts.Act.TheVariants.{Delete}
 use Rattle.sqlx_play.proofs.LinkOutcomes.{met-ran, met-refused}
 use Rattle.sqlx_play.proofs.stage.acts.delete.Goals as goal

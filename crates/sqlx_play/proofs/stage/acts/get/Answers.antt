@@ -1,9 +1,9 @@
 use Rattle.std.proofs.Common.{w64, Some, refl, sym, ap, ◌∙◌}
 use Rattle.std.proofs.lemmas.Int.{to_z-of_z}
-use Rattle.mem_driver.specs.declared.statement.Statement.TheVariants.{Get as TheText}
-use Rattle.mem_driver.specs.declared.act.Act.TheVariants.{Get as Doing}
+use Rattle.mem_store.specs.declared.statement.Statement.TheVariants.{Get as TheText}
+use Rattle.mem_store.specs.declared.act.Act.TheVariants.{Get as Doing}
 use Rattle.sqlx_play.specs.declared.stage.acts.Act.TheVariants.{Get}
-use Rattle.mem_driver.specs.declared.plain.Plain.{Plain}
+use Rattle.mem_store.specs.declared.plain.Plain.{Plain}
 use Rattle.sqlx_play.specs.LinkActs.{found_reply}
 use Rattle.sqlx_play.proofs.LinkOutcomes.{met-ran, met-refused}
 use Rattle.sqlx_play.proofs.stage.acts.get.Goals as goal

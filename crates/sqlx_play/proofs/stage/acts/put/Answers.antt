@@ -1,7 +1,7 @@
 use Rattle.std.proofs.Common.{w64, Some, refl, ◌∙◌}
 use Rattle.std.proofs.lemmas.Int.{to_z-of_z}
-use Rattle.mem_driver.specs.declared.statement.Statement.TheVariants.{Put as PutText}
-use Rattle.mem_driver.specs.declared.act.Act.TheVariants.{Put as Putting}
+use Rattle.mem_store.specs.declared.statement.Statement.TheVariants.{Put as PutText}
+use Rattle.mem_store.specs.declared.act.Act.TheVariants.{Put as Putting}
 use Rattle.sqlx_play.specs.declared.stage.acts.Act.TheVariants.{Put}
 use Rattle.sqlx_play.proofs.LinkOutcomes.{met-ran, met-refused}
 use Rattle.sqlx_play.proofs.stage.acts.put.Goals as goal

@@ -1,8 +1,8 @@
 use Rattle.std.proofs.Common.{◌≡◌, ◌≤◌, ◌-◌, pred, Some, refl, sym, ap, subst, ◌∙◌, arith}
-use Rattle.mem_driver.specs.declared.statement.Statement.TheVariants.{Level as LevelOf}
-use Rattle.mem_driver.specs.declared.act.Act.TheVariants.{Level as Doing}
-use Rattle.mem_driver.specs.Acts.{after_start_rollback}
-use Rattle.mem_driver.specs.Driver.{Session}
+use Rattle.mem_store.specs.declared.statement.Statement.TheVariants.{Level as LevelOf}
+use Rattle.mem_store.specs.declared.act.Act.TheVariants.{Level as Doing}
+use Rattle.mem_store.specs.Acts.{after_start_rollback}
+use Rattle.mem_store.specs.Store.{Session}
 use Rattle.sqlx_savepoints.specs.Texts.{rollback_at, text_of}
 use Rattle.sqlx_savepoints.specs.declared.level_text.LevelText.{LevelText}
 use Rattle.sqlx_script.specs.declared.reply.Reply.TheVariants.{Level}

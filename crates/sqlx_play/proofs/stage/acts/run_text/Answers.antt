@@ -1,7 +1,7 @@
 use Rattle.std.proofs.Common.{◌≡◌, Option, Some, None, refl, ap, ◌∙◌}
-use Rattle.mem_driver.specs.declared.refusal.Refusal.{Refusal}
-use Rattle.mem_driver.specs.Acts.{refusal_of}
-use Rattle.mem_driver.specs.Errors.{error_of}
+use Rattle.mem_store.specs.declared.refusal.Refusal.{Refusal}
+use Rattle.mem_store.specs.Acts.{refusal_of}
+use Rattle.mem_store.specs.Errors.{error_of}
 use Rattle.sqlx_play.specs.declared.stage.acts.Outcome.TheVariants.{Ran, Refused}
 use Rattle.sqlx_play.specs.LinkActs.{IsOutcome}
 use Rattle.sqlx_play.proofs.stage.acts.run_text.Goals as goal

@@ -1,6 +1,6 @@
 use Rattle.std.proofs.Common.{false, Some, refl, ◌∙◌}
-use Rattle.mem_driver.specs.declared.statement.Statement.TheVariants.{SelectOne as SelectOneText}
-use Rattle.mem_driver.specs.declared.act.Act.TheVariants.{SelectOne as SelectingOne}
+use Rattle.mem_store.specs.declared.statement.Statement.TheVariants.{SelectOne as SelectOneText}
+use Rattle.mem_store.specs.declared.act.Act.TheVariants.{SelectOne as SelectingOne}
 use Rattle.sqlx_play.specs.declared.stage.acts.Act.TheVariants.{Custom}
 use Rattle.sqlx_play.proofs.LinkOutcomes.{met-ran, met-refused}
 use Rattle.sqlx_play.proofs.stage.acts.select_one.Goals as goal

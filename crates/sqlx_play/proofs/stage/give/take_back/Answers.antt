@@ -4,7 +4,7 @@ use Rattle.std.proofs.Math.Nat.{max-eq_right}
 use Rattle.sqlx_pool_core.specs.Core.{loan_of}
 use Rattle.sqlx_pool_core.specs.ReturnSteps.{give_answer, gave}
 use Rattle.sqlx_pool_core.specs.declared.steps.Given.TheVariants as given
-use Rattle.mem_driver.specs.Driver.{Link}
+use Rattle.mem_store.specs.Store.{Link}
 use Rattle.sqlx_script.specs.declared.answers.GiveAnswers.{GiveAnswers}
 use Rattle.sqlx_play.specs.LentLinks.{is_lent}
 use Rattle.sqlx_play.specs.Returns.{lets_rest}

@@ -4,7 +4,7 @@ use Rattle.sqlx_pool_core.specs.Makes.{Makes}
 use Rattle.sqlx_pool_core.specs.Core.{Core}
 use Rattle.sqlx_pool_core.specs.Edits.{at_moment, ended, lent_to, opened}
 use Rattle.sqlx_pool_core.specs.PollSteps.{wait_of}
-use Rattle.mem_driver.specs.Driver.{Link, Store, connected, new_link, without}
+use Rattle.mem_store.specs.Store.{Link, Store, connected, new_link, without}
 use Rattle.sqlx_script.specs.declared.answers.ConnectAnswer.{ConnectAnswer}
 use Rattle.sqlx_script.specs.declared.answers.PollAnswers.{PollAnswers}
 use Rattle.sqlx_script.specs.declared.reply.Reply.{Reply}

@@ -3,7 +3,7 @@ use Rattle.std.proofs.Math.Nat.{max-eq_right}
 use Rattle.sqlx_pool_core.specs.Core.{Core, ticket_of}
 use Rattle.sqlx_pool_core.specs.Edits.{with_ticket, to_connect}
 use Rattle.sqlx_pool_core.specs.PollSteps.{phase_for, tested_at, start_answer, started, wait_of}
-use Rattle.mem_driver.specs.Driver.{Link, without}
+use Rattle.mem_store.specs.Store.{Link, without}
 use Rattle.sqlx_pool_core.specs.declared.mark.Mark.TheVariants as mark
 use Rattle.sqlx_pool_core.specs.declared.steps.Idle.{Idle}
 use Rattle.sqlx_pool_core.specs.declared.steps.Start.TheVariants as start

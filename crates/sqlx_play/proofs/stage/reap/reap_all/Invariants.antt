@@ -1,6 +1,6 @@
 use Rattle.std.proofs.Common.{◌≡◌, ◌≤◌, List, length}
 use Rattle.sqlx_pool_core.specs.declared.steps.Idle.{Idle}
-use Rattle.mem_driver.specs.Driver.{Link}
+use Rattle.mem_store.specs.Store.{Link}
 use Rattle.sqlx_play.specs.Reaps.{Reaps, reapable}
 use Rattle.sqlx_play.specs.StageStands.{last_of, numbers_of}
 use Rattle.sqlx_play.proofs.stage.reap.reap_all.Given as goal

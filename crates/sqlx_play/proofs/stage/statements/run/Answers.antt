@@ -2,7 +2,7 @@ use Rattle.std.proofs.Common.{is_some, List, ◌∷◌, ◌++◌, inl, sym, ap, 
 use Rattle.std.specs.List.{insert}
 use Rattle.sqlx_pool_core.specs.declared.steps.Lent.{Lent}
 use Rattle.sqlx_pool_core.specs.Core.{loan_of}
-use Rattle.mem_driver.specs.Driver.{Link}
+use Rattle.mem_store.specs.Store.{Link}
 use Rattle.sqlx_play.proofs.Middles.{insert-mid}
 use Rattle.sqlx_play.proofs.stage.statements.run.Goals as goal
 

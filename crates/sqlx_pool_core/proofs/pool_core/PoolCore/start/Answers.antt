@@ -1,5 +1,5 @@
-use Rattle.std.proofs.Common.{rules, ◌≡◌, max, ap, ◌∙◌, ℕ}
-use Rattle.sqlx_pool_core.specs.declared.turn.Turn.{Turn}
+use Rattle.std.proofs.Common.{max, ap, ◌∙◌, ℕ}
+use Rattle.sqlx_log.specs.declared.turn.Turn.{Turn}
 use Rattle.sqlx_pool_core.specs.OwnTurn.{own_turn}
 use Rattle.sqlx_pool_core.specs.PollSteps.{start_answer}
 use Rattle.sqlx_pool_core.proofs.TurnAtMarks.{own_turn-stands}

@@ -1,0 +1,4 @@
+pub mod Trees
+pub mod Undoing
+pub mod ReadsBack
+pub mod MapInPlace

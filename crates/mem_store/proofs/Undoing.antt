@@ -1,0 +1,231 @@
+-- Changes that are noted and undone, and the savepoints behind them.
+use Rattle.std.proofs.Common.{◌≡◌, ℕ, ◌≤◌, ◌==◌, ◌||◌, nat_lt, min, ℤ, Bool, true, false, cond, is_some, IsSome, Option, Some, None, option_map, List, [], ◌∷◌, length, drop, Result, Ok, Err, is_ok, is_err, refl, sym, ap, subst, ◌∙◌, arith, eqb-true}
+use Rattle.std.specs.List.{list_any}
+use Rattle.std.specs.Option.{unwrap_or}
+use Rattle.std.proofs.lemmas.Bool.{lt-ltb, le-ltb, cond-true, cond-false}
+use Rattle.std.specs.Ordering.{int_cmp, eq_by_cmp}
+use Rattle.std.specs.Cmp.{int_cmp_total, eq_by_cmp_equiv}
+use Rattle.std.specs.FinMap.{get, insert, from_entries, get-insert, get-remove, same_map, int_cmp-IsAntisymmetric}
+use Rattle.sqlx_savepoints.specs.Rows.{Writes}
+use Rattle.sqlx_savepoints.specs.NamedSavepoints.{Entry, newest}
+use Rattle.mem_store.specs.declared.saved.Saved.{Saved}
+use Rattle.mem_store.specs.declared.saved.Change.{Change}
+use Rattle.mem_store.specs.SavepointStack.{SavepointStack, saved_at, released_to, restored_to}
+use Rattle.mem_store.specs.UndoLog.{put_back, as_of, entries_at, AreMarked, from_name, first_mark}
+use Rattle.mem_store.proofs.Trees.{found, Updated, get-found, from_entries-insert, tied}
+
+-- ---- one change
+
+same_key : (own : Writes) (q key : ℤ) → eq_by_cmp int_cmp q key ≡ true → get own q ≡ get own key
+same_key own q key e = ap (get own) (int_cmp-IsAntisymmetric q key (tied (int_cmp q key) e))
+
+-- a key is written, and then as before
+undone_at : (own : Writes) (q key : ℤ) (value before : Option (Option ℤ)) (b : Bool) → get own key ≡ before → eq_by_cmp int_cmp q key ≡ b → cond b before (cond b value (get own q)) ≡ get own q
+undone_at own q key value before true is e = sym (same_key own q key e ∙ is)
+undone_at own q key value before false is e = refl
+
+undone_by : (own : Writes) (key : ℤ) (value : Option ℤ) (before : Option (Option ℤ)) → get own key ≡ before → put_back key before (insert own key value) ≡ own
+undone_by own key value None is = same_map int_cmp_total int_cmp-IsAntisymmetric _ _ (λ q.
+    get-remove int_cmp_total (insert own key value) key q
+    ∙ ap (cond (eq_by_cmp int_cmp q key) None) (get-insert int_cmp_total own key value q)
+    ∙ undone_at own q key (Some value) None (eq_by_cmp int_cmp q key) is refl)
+undone_by own key value (Some old) is =
+    let written = insert own key value in
+    let there : is_some (get written key) ≡ true = ap is_some (get-insert int_cmp_total own key value key ∙ cond-true (eq_by_cmp int_cmp key key) (Some value) (get own key) ((eq_by_cmp_equiv int_cmp_total).refl key)) in
+    cond-true (is_some (get written key)) (insert written key old) written there
+    ∙ same_map int_cmp_total int_cmp-IsAntisymmetric _ _ (λ q.
+    get-insert int_cmp_total written key old q
+    ∙ ap (cond (eq_by_cmp int_cmp q key) (Some old)) (get-insert int_cmp_total own key value q)
+    ∙ undone_at own q key (Some value) (Some old) (eq_by_cmp int_cmp q key) is refl)
+
+pub put_back-insert : (own : Writes) (key : ℤ) (value : Option ℤ) → put_back key (get own key) (insert own key value) ≡ own
+put_back-insert own key value = undone_by own key value (get own key) refl
+
+-- ---- changes in their order
+
+-- behind the mark nothing is undone
+pub as_of-here : (mark : ℕ) (changes : List Change) (own : Writes) → length changes ≤ mark → as_of mark changes own ≡ own
+as_of-here mark [] own few = refl
+as_of-here mark (change ∷ older) own few = cond-true (nat_lt (length older) mark) own (as_of mark older (put_back change.key change.before own)) (lt-ltb (length older) mark few)
+
+pub as_of-cons : (mark : ℕ) (change : Change) (older : List Change) (own : Writes) → mark ≤ length older → as_of mark (change ∷ older) own ≡ as_of mark older (put_back change.key change.before own)
+as_of-cons mark change older own many = cond-false (nat_lt (length older) mark) own (as_of mark older (put_back change.key change.before own)) (le-ltb (length older) mark many)
+
+-- a write that is noted changes no savepoint
+as_of-noted : (mark : ℕ) (changes : List Change) (own : Writes) (key : ℤ) (value : Option ℤ) → mark ≤ length changes → as_of mark (record { key = key; before = get own key } ∷ changes) (insert own key value) ≡ as_of mark changes own
+as_of-noted mark changes own key value many = as_of-cons mark (record { key = key; before = get own key }) changes (insert own key value) many ∙ ap (as_of mark changes) (put_back-insert own key value)
+
+pub entries-noted : (now : ℕ) (saved : List Saved) (changes : List Change) (own : Writes) (key : ℤ) (value : Option ℤ) → AreMarked now saved → now ≤ length changes
+    → entries_at (insert own key value) (record { key = key; before = get own key } ∷ changes) saved ≡ entries_at own changes saved
+entries-noted now [] changes own key value marked many = refl
+entries-noted now (top ∷ older) changes own key value marked many = λ i.
+    record { name = top.name; own = as_of-noted top.mark changes own key value (omega (arith, marked.0, many)) i }
+    ∷ entries-noted top.mark older changes own key value marked.1 (omega (arith, marked.0, many)) i
+
+-- savepoints that are marked by then are the same behind other changes that are alike up to then
+pub entries-alike : (mark : ℕ) (saved : List Saved) (changes changes' : List Change) (own own' : Writes) → AreMarked mark saved
+    → ((earlier : ℕ) → earlier ≤ mark → as_of earlier changes' own' ≡ as_of earlier changes own) → entries_at own' changes' saved ≡ entries_at own changes saved
+entries-alike mark [] changes changes' own own' marked alike = refl
+entries-alike mark (top ∷ older) changes changes' own own' marked alike = λ i.
+    record { name = top.name; own = alike top.mark marked.0 i }
+    ∷ entries-alike top.mark older changes changes' own own' marked.1 (λ earlier e. alike earlier (omega (arith, e, marked.0))) i
+
+-- ---- the newest savepoint of a name
+
+-- the first of these savepoints, as what it keeps and all that is older
+abbrev pub first_entry : Writes → List Change → List Saved → Option (Writes × List Entry)
+first_entry own changes [] = None
+first_entry own changes (top ∷ older) = Some (as_of top.mark changes own, entries_at own changes older)
+
+pub newest-from_name : (name : ℕ) (own : Writes) (changes : List Change) (saved : List Saved) → newest name (entries_at own changes saved) ≡ first_entry own changes (from_name name saved)
+newest-from_name name own changes [] = refl
+newest-from_name name own changes (top ∷ older) =
+    elim (name == top.name) as (λ (b : Bool). cond b (Some (as_of top.mark changes own, entries_at own changes older)) (newest name (entries_at own changes older)) ≡ first_entry own changes (cond b (top ∷ older) (from_name name older))) [
+      | true ↦ refl
+      | false ↦ newest-from_name name own changes older
+    ]
+
+pub any-newest : (name : ℕ) (own : Writes) (changes : List Change) (saved : List Saved) → list_any (λ (s : Saved). name == s.name) saved ≡ is_some (newest name (entries_at own changes saved))
+any-newest name own changes [] = refl
+any-newest name own changes (top ∷ older) =
+    elim (name == top.name) as (λ (b : Bool). (b || list_any (λ (s : Saved). name == s.name) older) ≡ is_some (cond b (Some (as_of top.mark changes own, entries_at own changes older)) (newest name (entries_at own changes older)))) [
+      | true ↦ refl
+      | false ↦ any-newest name own changes older
+    ]
+
+-- marks stay in order
+later_marked : (now later : ℕ) (saved : List Saved) → now ≤ later → AreMarked now saved → AreMarked later saved
+later_marked now later [] e marked = tt
+later_marked now later (top ∷ older) e marked = (omega (arith, e, marked.0), marked.1)
+
+pub from_name-marked : (name now : ℕ) (saved : List Saved) → AreMarked now saved → AreMarked now (from_name name saved)
+from_name-marked name now [] marked = tt
+from_name-marked name now (top ∷ older) marked =
+    elim (name == top.name) as (λ (b : Bool). AreMarked now (cond b (top ∷ older) (from_name name older))) [
+      | true ↦ marked
+      | false ↦ from_name-marked name now older (later_marked top.mark now older marked.0 marked.1)
+    ]
+
+pub rest_marked : (now : ℕ) (saved : List Saved) → AreMarked now saved → AreMarked now (drop 1 saved)
+rest_marked now [] marked = tt
+rest_marked now (top ∷ older) marked = later_marked top.mark now older marked.0 marked.1
+
+-- ---- releasing and going back
+
+released_at : (name : ℕ) (stack : SavepointStack) (changes : List Change) (found : List Saved) → newest name stack.entries ≡ first_entry stack.own changes found → IsSome (newest name stack.entries)
+    → record stack { entries = entries_at stack.own changes (drop 1 found) } ≡ released_to name stack
+released_at name stack changes [] is some = absurd (let none : false ≡ true = sym (ap is_some is) ∙ some in cc)
+released_at name stack changes (top ∷ older) is some =
+    sym (ap (λ (o : Option (Writes × List Entry)). unwrap_or (option_map (λ (found : Writes × List Entry). record stack { entries = found.1 }) o) stack) is)
+
+pub released-is : (name : ℕ) (own : Writes) (changes : List Change) (saved : List Saved) → IsSome (newest name (entries_at own changes saved))
+    → record { own = own; entries = entries_at own changes (drop 1 (from_name name saved)) } ≡ released_to name (record { own = own; entries = entries_at own changes saved })
+released-is name own changes saved some = released_at name (record { own = own; entries = entries_at own changes saved }) changes (from_name name saved) (newest-from_name name own changes saved) some
+
+-- the first savepoint has this name
+abbrev IsNamed : ℕ → List Saved → Type 0
+IsNamed name [] = Unit {0}
+IsNamed name (top ∷ older) = top.name ≡ name
+
+from_name-named : (name : ℕ) (saved : List Saved) → IsNamed name (from_name name saved)
+from_name-named name [] = tt
+from_name-named name (top ∷ older) =
+    elim (name == top.name) as (λ (b : Bool). (name == top.name) ≡ b → IsNamed name (cond b (top ∷ older) (from_name name older))) [
+      | true ↦ λ e. sym (eqb-true name top.name e)
+      | false ↦ λ e. from_name-named name older
+    ] refl
+
+restored_at : (name mark now : ℕ) (stack : SavepointStack) (own : Writes) (changes changes' : List Change) (found : List Saved) → newest name stack.entries ≡ first_entry stack.own changes found → first_mark found ≡ Some mark → IsNamed name found → AreMarked now found
+    → own ≡ as_of mark changes stack.own → ((earlier : ℕ) → earlier ≤ mark → as_of earlier changes' own ≡ as_of earlier changes stack.own)
+    → record { own = own; entries = entries_at own changes' found } ≡ restored_to name stack
+restored_at name mark now stack own changes changes' [] is marks named marked own_is alike = absurd cc
+restored_at name mark now stack own changes changes' (top ∷ older) is marks named marked own_is alike =
+    let same : top.mark ≡ mark = cc in
+    let below : top.mark ≤ mark = omega (arith, same) in
+    let back : SavepointStack = record { own = as_of top.mark changes stack.own; entries = record { name = name; own = as_of top.mark changes stack.own } ∷ entries_at stack.own changes older } in
+    let parts : record { own = own; entries = entries_at own changes' (top ∷ older) } ≡ back = λ i. record {
+      own = (own_is ∙ ap (λ (m : ℕ). as_of m changes stack.own) (sym same)) i;
+      entries = record { name = named i; own = alike top.mark below i } ∷ entries-alike top.mark older changes changes' stack.own own marked.1 (λ earlier e. alike earlier (omega (arith, e, below))) i;
+    } in
+    parts
+    ∙ sym (ap (λ (o : Option (Writes × List Entry)). unwrap_or (option_map (λ (found : Writes × List Entry). record { own = found.0; entries = record { name = name; own = found.0 } ∷ found.1 }) o) stack) is)
+
+pub restored-is : (name mark now : ℕ) (own own' : Writes) (changes changes' : List Change) (saved : List Saved) → first_mark (from_name name saved) ≡ Some mark → AreMarked now saved → own' ≡ as_of mark changes own
+    → ((earlier : ℕ) → earlier ≤ mark → as_of earlier changes' own' ≡ as_of earlier changes own)
+    → record { own = own'; entries = entries_at own' changes' (from_name name saved) } ≡ restored_to name (record { own = own; entries = entries_at own changes saved })
+restored-is name mark now own own' changes changes' saved marks marked own_is alike =
+    restored_at name mark now (record { own = own; entries = entries_at own changes saved }) own' changes changes' (from_name name saved) (newest-from_name name own changes saved) marks (from_name-named name saved) (from_name-marked name now saved marked) own_is alike
+
+-- the marks are in order behind going back
+pub restored-marked : (name mark now left : ℕ) (saved found : List Saved) → found ≡ from_name name saved → Some mark ≡ first_mark found → left ≡ min mark now → AreMarked now saved → AreMarked left found
+restored-marked name mark now left saved found is marks left_is marked = at found marks (subst (AreMarked now) (sym is) (from_name-marked name now saved marked)) where
+  at : (found : List Saved) → Some mark ≡ first_mark found → AreMarked now found → AreMarked left found
+  at [] marks marked = tt
+  at (top ∷ older) marks marked = let same : mark ≡ top.mark = cc in (omega (arith, same, left_is, marked.0), marked.1)
+
+-- no savepoint has the name
+pub unnamed-none : (name : ℕ) (stack : SavepointStack) (own : Writes) (changes : List Change) (saved found : List Saved) → record { own = own; entries = entries_at own changes saved } ≡ stack → found ≡ from_name name saved
+    → None ≡ first_mark found → IsSome (newest name stack.entries) → ⊥
+unnamed-none name stack own changes saved found view is marks some =
+    at found marks (ap (λ (fs : List Saved). is_some (first_entry own changes fs)) is ∙ sym (ap is_some (newest-from_name name own changes saved)) ∙ ap (λ (k : SavepointStack). is_some (newest name k.entries)) view ∙ some) where
+      at : (found : List Saved) → None ≡ first_mark found → is_some (first_entry own changes found) ≡ true → ⊥
+      at [] marks some = cc
+      at (top ∷ older) marks some = cc
+
+-- ---- the same of what stands in the fields
+
+abbrev the_stack : Writes → List Entry → SavepointStack
+the_stack own entries = record { own = own; entries = entries }
+
+abbrev stack_in : Writes → List Change → List Saved → SavepointStack
+stack_in own changes saved = the_stack own (entries_at own changes saved)
+
+pub saved-by : (name mark : ℕ) (stack : SavepointStack) (own : Writes) (changes : List Change) (saved saved' : List Saved) → record { own = own; entries = entries_at own changes saved } ≡ stack
+    → mark ≡ length changes → saved' ≡ record { name = name; mark = mark } ∷ saved → record { own = own; entries = entries_at own changes saved' } ≡ saved_at name stack
+saved-by name mark stack own changes saved saved' view at is =
+    ap (λ (s : List Saved). record { own = own; entries = entries_at own changes s }) is
+    ∙ ap (λ (o : Writes). record { own = own; entries = record { name = name; own = o } ∷ entries_at own changes saved }) (as_of-here mark changes own (omega (arith, at)))
+    ∙ ap (saved_at name) view
+
+pub released-by : (name : ℕ) (stack : SavepointStack) (own : Writes) (changes : List Change) (saved found rest : List Saved) → record { own = own; entries = entries_at own changes saved } ≡ stack
+    → found ≡ from_name name saved → rest ≡ drop 1 found → IsSome (newest name stack.entries) → record { own = own; entries = entries_at own changes rest } ≡ released_to name stack
+released-by name stack own changes saved found rest view found_is rest_is =
+    subst (λ (k : SavepointStack). IsSome (newest name k.entries) → record { own = own; entries = entries_at own changes rest } ≡ released_to name k) view
+    (λ some. ap (λ (s : List Saved). record { own = own; entries = entries_at own changes s }) (rest_is ∙ ap (drop 1) found_is) ∙ released-is name own changes saved some)
+
+pub released-marked : (name now : ℕ) (saved found rest : List Saved) → found ≡ from_name name saved → rest ≡ drop 1 found → AreMarked now saved → AreMarked now rest
+released-marked name now saved found rest found_is rest_is marked = subst (AreMarked now) (sym (rest_is ∙ ap (drop 1) found_is)) (rest_marked now (from_name name saved) (from_name-marked name now saved marked))
+
+pub restored-by : (name mark now : ℕ) (stack : SavepointStack) (own own' : Writes) (changes changes' : List Change) (saved found : List Saved) → record { own = own; entries = entries_at own changes saved } ≡ stack
+    → found ≡ from_name name saved → Some mark ≡ first_mark found → AreMarked now saved → own' ≡ as_of mark changes own
+    → ((earlier : ℕ) → earlier ≤ mark → as_of earlier changes' own' ≡ as_of earlier changes own) → record { own = own'; entries = entries_at own' changes' found } ≡ restored_to name stack
+restored-by name mark now stack own own' changes changes' saved found view found_is marks marked own_is alike =
+    ap (λ (s : List Saved). record { own = own'; entries = entries_at own' changes' s }) found_is
+    ∙ restored-is name mark now own own' changes changes' saved (ap first_mark (sym found_is) ∙ sym marks) marked own_is alike
+    ∙ ap (restored_to name) view
+
+pub inserted-by : (key : ℤ) (value : Option ℤ) (before : Option (Option ℤ)) (stack : SavepointStack) (own own' : Writes) (changes changes' : List Change) (saved : List Saved) → record { own = own; entries = entries_at own changes saved } ≡ stack
+    → AreMarked (length changes) saved → before ≡ get own key → changes' ≡ record { key = key; before = before } ∷ changes → own' ≡ insert own key value
+    → stack_in own' changes' saved ≡ the_stack (insert stack.own key value) stack.entries
+inserted-by key value before stack own own' changes changes' saved view marked before_is changes_is own_is =
+    let noted : List Change = record { key = key; before = get own key } ∷ changes in
+    ap (λ (o : Writes). stack_in o changes' saved) own_is
+    ∙ ap (λ (cs : List Change). stack_in (insert own key value) cs saved) (changes_is ∙ ap (λ (b : Option (Option ℤ)). record { key = key; before = b } ∷ changes) before_is)
+    ∙ ap (λ (es : List Entry). the_stack (insert own key value) es) (entries-noted (length changes) saved changes own key value marked (omega arith))
+    ∙ ap (λ (k : SavepointStack). the_stack (insert k.own key value) k.entries) view
+
+pub pushed : {X E : Type 0} (r : Result X E) (b : Bool) → b ≡ is_err r → b ≡ false → is_ok r ≡ true
+pushed (Ok x) b is none = refl
+pushed (Err e) b is some = absurd cc
+
+-- ---- the tree, where a write is put back
+
+pub put_back-absent : (tree : List (ℤ × Option ℤ)) (key : ℤ) (value : Option ℤ) → None ≡ found tree key → from_entries {R = int_cmp} tree ≡ put_back key (Some value) (from_entries {R = int_cmp} tree)
+put_back-absent tree key value none =
+    let own : Writes = from_entries {R = int_cmp} tree in
+    sym (cond-false (is_some (get own key)) (insert own key value) own (ap is_some (get-found tree key ∙ sym none)))
+
+pub put_back-present : (old new : List (ℤ × Option ℤ)) (key : ℤ) (value there : Option ℤ) → Some there ≡ found old key → Updated old new key (Some value) → from_entries {R = int_cmp} new ≡ put_back key (Some value) (from_entries {R = int_cmp} old)
+put_back-present old new key value there some is =
+    let own : Writes = from_entries {R = int_cmp} old in
+    from_entries-insert old new key value is ∙ sym (cond-true (is_some (get own key)) (insert own key value) own (ap is_some (get-found old key ∙ sym some)))

@@ -1,0 +1,10 @@
+use Rattle.std.proofs.Common.{to_z-of_z}
+use Rattle.mem_store.proofs.Trees.{from_entries-insert}
+use Rattle.mem_store.proofs.rows.Rows.insert.Goals as goal
+use Rattle.mem_store.proofs.rows.Rows.insert.Goals.{in-Ok, in-Err}
+
+pub returns-clause-ok : goal.returns-clause-ok
+returns-clause-ok c = elim c.match-insert.branch [
+  | in-Ok w ↦ let e = rw (to_z-of_z c.ranges.value) at (rw (to_z-of_z c.ranges.key) at (rw w.in-Ok.is at c.insert.ensures.updates)) in rw (w.result-is, ← c.self.view_is) (from_entries-insert c.self.inside.tree.entries c.insert.new.self.entries c.args.key c.args.value e.0)
+  | in-Err w ↦ rw w.result-is tt
+]

@@ -1,0 +1,40 @@
+-- Own writes and the savepoints that keep earlier ones, as plain values.
+use Rattle.std.specs.Prelude.{ℕ, List, [], ◌∷◌, option_map, refl}
+use Rattle.std.specs.Option.{unwrap_or}
+use Rattle.std.specs.Coded.{Coded, code_by, coded×, coded_ℕ, coded_ℤ, coded_list, coded_option}
+use Rattle.std.specs.FinMap.{code, empty}
+use Rattle.sqlx_savepoints.specs.Rows.{Rows, Writes}
+use Rattle.sqlx_savepoints.specs.NamedSavepoints.{Entry, newest}
+
+-- the own writes, and the savepoints with the newest first
+pub record SavepointStack : Type 0 where
+  pub own : Writes
+  pub entries : List Entry
+
+abbrev pub rows_code : Coded Rows
+rows_code = code coded_ℤ coded_ℤ
+
+abbrev pub writes_code : Coded Writes
+writes_code = code coded_ℤ (coded_option coded_ℤ)
+
+abbrev pub entry_code : Coded Entry
+entry_code = code_by (ℕ × Writes) (coded× coded_ℕ writes_code) (λ e. (e.name, e.own)) (λ p. record { name = p.0; own = p.1 }) (λ _. refl)
+
+abbrev pub stack_code : Coded SavepointStack
+stack_code = code_by (Writes × List Entry) (coded× writes_code (coded_list entry_code)) (λ k. (k.own, k.entries)) (λ p. record { own = p.0; entries = p.1 }) (λ _. refl)
+
+-- no writes, no savepoints
+abbrev pub no_savepoints : SavepointStack
+no_savepoints = record { own = empty; entries = [] }
+
+-- a savepoint of this name on top, which keeps the own writes as they stand
+abbrev pub saved_at : ℕ → SavepointStack → SavepointStack
+saved_at name stack = record stack { entries = record { name = name; own = stack.own } ∷ stack.entries }
+
+-- the newest savepoint of the name and all newer ones taken away
+abbrev pub released_to : ℕ → SavepointStack → SavepointStack
+released_to name stack = unwrap_or (option_map (λ found. record stack { entries = found.1 }) (newest name stack.entries)) stack
+
+-- the own writes as the newest savepoint of the name keeps them; it stays, all newer ones go
+abbrev pub restored_to : ℕ → SavepointStack → SavepointStack
+restored_to name stack = unwrap_or (option_map (λ found. record { own = found.0; entries = record { name = name; own = found.0 } ∷ found.1 }) (newest name stack.entries)) stack

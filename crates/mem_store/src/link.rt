@@ -1,0 +1,182 @@
+//! A connection's own side: its levels, its own writes and its savepoints.
+ghost use Rattle.std.specs.Prelude.{◌≡◌, ◌≤◌, ◌<◌, ◌+◌, ◌∷◌, OnOk, OnErr, IsSome, is_some};
+ghost use Rattle.sqlx_savepoints.specs.Rows.{Rows as CommittedRows, sees, laid};
+ghost use Rattle.sqlx_savepoints.specs.NamedSavepoints.{after, ran, wrote, lowered};
+
+use crate::rows::Rows;
+use crate::savepoint_stack::SavepointStack;
+use crate::writes::write;
+use sqlx_savepoints::LevelText;
+use sqlx_text::OutOfMemory;
+use std::alloc::Global;
+use std::marker::Model;
+
+/// A connection of a [`MemStore`](crate::MemStore), while no session has it.
+#[derive(Drop)]
+pub struct StoreLink {
+    number: u64,
+    depth: usize,
+    stack: SavepointStack,
+}
+
+impl Model for StoreLink {
+    ghost use Rattle.mem_store.specs.Store.{Link, link_code};
+
+    ghost Value = { Link };
+
+    ghost coded = { link_code };
+
+    ghost view = { λ a. record { number = a.number; depth = a.depth; own = a.stack.own; entries = a.stack.entries } };
+}
+
+impl StoreLink {
+    ghost use Rattle.mem_store.specs.Store.{new_link, at_rest, named_by, moved};
+    ghost use Rattle.mem_store.specs.Acts.{rolled_back};
+
+    pub(crate) fn new(alloc: Global, number: u64) -> StoreLink
+        ensures { result ≡ new_link number }
+    {
+        StoreLink {
+            number,
+            depth: 0,
+            stack: SavepointStack::new(alloc),
+        }
+    }
+
+    /// The number that the store gave it.
+    pub fn number(&self) -> u64
+        ensures { result ≡ self.now.number }
+    {
+        self.number
+    }
+
+    /// How many levels are open.
+    pub fn depth(&self) -> usize
+        ensures { result ≡ self.now.depth }
+    {
+        self.depth
+    }
+
+    /// The value at the key, by the own writes or else by the rows.
+    pub(crate) fn sees(&self, rows: &Rows, key: i64) -> Option<i64>
+        ensures { result ≡ sees self.now.own rows.now key }
+    {
+        match self.stack.get(key) {
+            Some(written) => written,
+            None => rows.get(key),
+        }
+    }
+
+    /// A write: into the rows outside a level, else into the own writes.
+    pub(crate) fn write(
+        &mut self,
+        rows: &mut Rows,
+        key: i64,
+        value: Option<i64>,
+    ) -> Result<(), OutOfMemory>
+        ensures rows { OnOk result (rows.new ≡ (wrote key value (named_by rows.old self.old)).rows) }
+        ensures link { OnOk result (self.new ≡ moved (wrote key value (named_by rows.old self.old)) self.old) }
+        ensures err { OnErr result ((rows.new ≡ rows.old) × (self.new ≡ self.old)) }
+    {
+        if self.depth == 0 {
+            write(rows, key, value)
+        } else {
+            self.stack.insert(key, value)
+        }
+    }
+
+    /// Whether the text may stand here.
+    pub(crate) fn allows(&self, level: LevelText) -> bool
+        ensures { (rows : CommittedRows) → result ≡ is_some (after level (named_by rows self.now)) }
+    {
+        match level {
+            LevelText::Begin | LevelText::BeginImmediate => self.depth == 0,
+            LevelText::Commit | LevelText::Rollback => self.depth > 0,
+            LevelText::Savepoint(_) => self.depth > 0 && self.depth < 100,
+            LevelText::Release(name) | LevelText::RollbackTo(name) => {
+                self.depth > 0 && self.stack.has(name)
+            }
+        }
+    }
+
+    /// Runs a text that may stand here.
+    pub(crate) fn run(&mut self, rows: &mut Rows, level: LevelText) -> Result<(), OutOfMemory>
+        requires { IsSome (after level (named_by rows.old self.old)) }
+        ensures rows { OnOk result (rows.new ≡ (ran level (named_by rows.old self.old)).rows) }
+        ensures link { OnOk result (self.new ≡ moved (ran level (named_by rows.old self.old)) self.old) }
+        ensures err { OnErr result ((rows.new ≡ rows.old) × (self.new ≡ self.old)) }
+    {
+        match level {
+            LevelText::Begin | LevelText::BeginImmediate => {
+                self.stack.clear();
+                self.depth = 1;
+                Ok(())
+            }
+            LevelText::Commit => self.publish(rows),
+            LevelText::Rollback => {
+                self.end();
+                Ok(())
+            }
+            LevelText::Savepoint(name) => self.save(name),
+            LevelText::Release(name) => {
+                self.stack.release(name);
+                self.lower();
+                Ok(())
+            }
+            LevelText::RollbackTo(name) => {
+                self.stack.restore(name);
+                self.lower();
+                Ok(())
+            }
+        }
+    }
+
+    /// Rolls the innermost level back, as the ANSI text at the depth does. Takes no memory.
+    pub(crate) fn start_rollback(&mut self)
+        requires { 1 ≤ self.old.depth }
+        ensures { (rows : CommittedRows) → self.new ≡ moved (rolled_back (named_by rows self.old)) self.old }
+    {
+        if self.depth == 1 {
+            self.end();
+            return;
+        }
+        let name = self.depth as u64 - 1;
+        if self.stack.has(name) {
+            self.stack.restore(name);
+        }
+        self.lower();
+    }
+
+    fn publish(&mut self, rows: &mut Rows) -> Result<(), OutOfMemory>
+        ensures rows { OnOk result (rows.new ≡ laid self.old.own rows.old) }
+        ensures link { OnOk result (self.new ≡ at_rest self.old) }
+        ensures err { OnErr result ((rows.new ≡ rows.old) × (self.new ≡ self.old)) }
+    {
+        *rows = self.stack.laid_over(rows)?;
+        self.end();
+        Ok(())
+    }
+
+    fn end(&mut self)
+        ensures { self.new ≡ at_rest self.old }
+    {
+        self.stack.clear();
+        self.depth = 0;
+    }
+
+    fn save(&mut self, name: u64) -> Result<(), OutOfMemory>
+        requires { self.old.depth < 100 }
+        ensures ok { OnOk result (self.new ≡ record self.old { depth = self.old.depth + 1; entries = record { name = name; own = self.old.own } ∷ self.old.entries }) }
+        ensures err { OnErr result (self.new ≡ self.old) }
+    {
+        self.stack.save(name)?;
+        self.depth += 1;
+        Ok(())
+    }
+
+    fn lower(&mut self)
+        ensures { self.new ≡ record self.old { depth = lowered self.old.depth } }
+    {
+        self.depth = if self.depth > 1 { self.depth - 1 } else { 1 };
+    }
+}

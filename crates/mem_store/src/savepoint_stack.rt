@@ -1,0 +1,166 @@
+//! A connection's own writes, and the savepoints to which they can go back.
+//!
+//! A savepoint copies nothing: each write behind it notes what stood there, and going back undoes
+//! the writes. So the memory is that of the writes and savepoints, however many of both there are.
+ghost use Rattle.std.specs.Prelude.{◌≡◌, ℕ, ◌≤◌, ◌==◌, length, min, IfOk, OnOk, OnErr, IsSome, is_some};
+ghost use Rattle.std.specs.List.{list_any};
+ghost use Rattle.std.specs.FinMap as finite;
+ghost use Rattle.sqlx_savepoints.specs.Rows.{laid};
+ghost use Rattle.sqlx_savepoints.specs.NamedSavepoints.{newest};
+
+use crate::rows::Rows;
+use crate::saved::{Change, Saved};
+use crate::writes::Writes;
+use sqlx_text::OutOfMemory;
+use std::alloc::Global;
+use std::collections::VecDeque;
+use std::marker::Model;
+
+/// Own writes and savepoints.
+#[derive(Drop)]
+pub(crate) struct SavepointStack {
+    own: Writes,
+    // The newest first, as the changes.
+    saved: VecDeque<Saved>,
+    changes: VecDeque<Change>,
+}
+
+impl Model for SavepointStack {
+    ghost use Rattle.std.specs.Prelude.{length};
+    ghost use Rattle.mem_store.specs.SavepointStack as values;
+
+    ghost Value = { values.SavepointStack };
+
+    ghost coded = { values.stack_code };
+
+    ghost use Rattle.mem_store.specs.UndoLog.{entries_at, AreMarked};
+
+    ghost view = { λ a. record { own = a.own; entries = entries_at a.own a.changes.items a.saved.items } };
+
+    ghost invariant = { λ a. AreMarked (length a.changes.items) a.saved.items };
+}
+
+impl SavepointStack {
+    ghost use Rattle.mem_store.specs.SavepointStack.{no_savepoints, saved_at, released_to, restored_to};
+
+    pub(crate) fn new(alloc: Global) -> SavepointStack
+        ensures { result ≡ no_savepoints }
+    {
+        SavepointStack {
+            own: Writes::new(alloc),
+            saved: VecDeque::new(alloc),
+            changes: VecDeque::new(alloc),
+        }
+    }
+
+    pub(crate) fn clear(&mut self)
+        ensures { self.new ≡ no_savepoints }
+    {
+        self.own.clear();
+        self.saved.clear();
+        self.changes.clear();
+    }
+
+    pub(crate) fn get(&self, key: i64) -> Option<Option<i64>>
+        ensures { result ≡ finite.get self.now.own key }
+    {
+        self.own.get(key)
+    }
+
+    /// New rows: the own writes laid over the given ones.
+    pub(crate) fn laid_over(&self, rows: &Rows) -> Result<Rows, OutOfMemory>
+        ensures { IfOk result (λ made. made ≡ laid self.now.own rows.now) }
+    {
+        self.own.laid_over(rows)
+    }
+
+    /// Whether a savepoint has this name.
+    pub(crate) fn has(&self, name: u64) -> bool
+        ensures { result ≡ is_some (newest name self.now.entries) }
+    {
+        is_among(&self.saved, name)
+    }
+
+    pub(crate) fn save(&mut self, name: u64) -> Result<(), OutOfMemory>
+        ensures ok { OnOk result (self.new ≡ saved_at name self.old) }
+        ensures err { OnErr result (self.new ≡ self.old) }
+    {
+        let mark = self.changes.len();
+        match self.saved.push_front(Saved { name, mark }) {
+            Ok(()) => Ok(()),
+            Err(_) => Err(OutOfMemory),
+        }
+    }
+
+    pub(crate) fn release(&mut self, name: u64)
+        requires { IsSome (newest name self.old.entries) }
+        ensures { self.new ≡ released_to name self.old }
+    {
+        uncover(&mut self.saved, name);
+        let _ = self.saved.pop_front();
+    }
+
+    pub(crate) fn restore(&mut self, name: u64)
+        requires { IsSome (newest name self.old.entries) }
+        ensures { self.new ≡ restored_to name self.old }
+    {
+        if let Some(mark) = uncover(&mut self.saved, name) {
+            go_back(&mut self.own, &mut self.changes, mark);
+        }
+    }
+
+    pub(crate) fn insert(&mut self, key: i64, value: Option<i64>) -> Result<(), OutOfMemory>
+        ensures ok { OnOk result (self.new ≡ record self.old { own = finite.insert self.old.own key value }) }
+        ensures err { OnErr result (self.new ≡ self.old) }
+    {
+        if self.saved.is_empty() {
+            return self.own.insert(key, value);
+        }
+        let before = self.own.get(key);
+        if self.changes.push_front(Change { key, before }).is_err() {
+            return Err(OutOfMemory);
+        }
+        match self.own.insert(key, value) {
+            Ok(()) => Ok(()),
+            Err(error) => {
+                let _ = self.changes.pop_front();
+                Err(error)
+            }
+        }
+    }
+}
+
+ghost use Rattle.mem_store.specs.UndoLog.{as_of, from_name, first_mark};
+
+fn is_among(saved: &VecDeque<Saved>, name: u64) -> bool
+    ensures { result ≡ list_any (λ s. name == s.name) saved.now.items }
+{
+    saved.iter().any(|saved| name == saved.name)
+}
+
+/// Takes away all savepoints that are newer than the newest one of the name, and answers its mark.
+fn uncover(saved: &mut VecDeque<Saved>, name: u64) -> Option<usize>
+    ensures saved { saved.new.items ≡ from_name name saved.old.items }
+    ensures mark { result ≡ first_mark saved.new.items }
+{
+    while let Some(top) = saved.front().copied() {
+        if name == top.name {
+            return Some(top.mark);
+        }
+        let _ = saved.pop_front();
+    }
+    None
+}
+
+/// Undoes the changes behind the mark, the newest first.
+fn go_back(own: &mut Writes, changes: &mut VecDeque<Change>, mark: usize)
+    ensures own { own.new ≡ as_of mark changes.old.items own.old }
+    ensures before { (earlier : ℕ) → earlier ≤ mark → as_of earlier changes.new.items own.new ≡ as_of earlier changes.old.items own.old }
+    ensures left { length changes.new.items ≡ min mark (length changes.old.items) }
+{
+    while changes.len() > mark {
+        if let Some(change) = changes.pop_front() {
+            own.put_back(change.key, change.before);
+        }
+    }
+}

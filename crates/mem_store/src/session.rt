@@ -1,0 +1,210 @@
+//! One link of a store at work.
+ghost use Rattle.std.specs.Prelude.{◌≡◌, ◌≤◌, Option, Some, None, IfOk, OnOk, OnErr, IsOkUnless, MatchResult};
+ghost use Rattle.mem_store.specs.Statements.{Reads};
+ghost use Rattle.mem_store.specs.Acts.{act_of, refusal_of, refusal_here, fault_of, level_refusal, after_act, plain_of, refused, rows_seen, seen_by, after_start_rollback};
+ghost use Rattle.mem_store.specs.Store.{state_of};
+ghost use Rattle.mem_store.specs.Errors.{error_of};
+ghost use Rattle.mem_store.specs.declared.statement.Statement.{Statement as Held};
+ghost use Rattle.mem_store.specs.declared.act.Act.{Act as Doing};
+ghost use Rattle.mem_store.specs.declared.refusal.Refusal.{Refusal as Reason};
+
+use crate::act::{Act, with_arguments};
+use crate::answer::Answer;
+use crate::link::StoreLink;
+use crate::plain::Plain;
+use crate::refusal::Refusal;
+use crate::statement::statement_of;
+use crate::store::MemStore;
+use sqlx_savepoints::LevelText;
+use sqlx_text::{Error, OutOfMemory};
+use std::alloc::Global;
+use std::marker::Model;
+
+/// A connection at work: it runs statements on its store.
+#[derive(Drop)]
+pub struct StoreSession {
+    store: MemStore,
+    link: StoreLink,
+    answer: Answer,
+}
+
+impl Model for StoreSession {
+    ghost use Rattle.mem_store.specs.Store.{Session, session_code};
+
+    ghost Value = { Session };
+
+    ghost coded = { session_code };
+
+    ghost view = { λ a. record { store = a.store; link = a.link; answer = a.answer } };
+}
+
+impl StoreSession {
+    pub(crate) fn new(store: MemStore, link: StoreLink, answer: Answer) -> StoreSession
+        ensures { result ≡ record { store = store; link = link; answer = answer } }
+    {
+        StoreSession {
+            store,
+            link,
+            answer,
+        }
+    }
+
+    /// The store and the link, as the statements left them.
+    pub fn into_parts(self) -> (MemStore, StoreLink)
+        ensures { (result.0 ≡ self.store) × (result.1 ≡ self.link) }
+    {
+        let StoreSession { store, link, .. } = self;
+        (store, link)
+    }
+
+    /// How many levels are open.
+    pub fn depth(&self) -> usize
+        ensures { result ≡ self.now.link.depth }
+    {
+        self.link.depth()
+    }
+
+    /// Rolls the innermost level back, as the ANSI text at the depth does. It can't be refused and
+    /// takes no memory.
+    pub fn start_rollback(&mut self)
+        requires { 1 ≤ self.old.link.depth }
+        ensures { self.new ≡ after_start_rollback self.old }
+    {
+        self.store.start_rollback(&mut self.link);
+    }
+
+    /// Runs a statement. A refused one changes no row and no level.
+    pub fn statement(&mut self, text: &str, arguments: &[i64]) -> Result<Plain, Error>
+        // A refusal comes where text, arguments and state call for it, and for nothing else; it
+        // spends what was handed in.
+        ensures refused { (read : Option Held) (reason : Reason) → Reads text.now read → refusal_of (act_of read arguments.now) self.old ≡ Some reason → (result ≡ Err (error_of reason)) × (self.new ≡ refused self.old) }
+
+        // Else it runs, unless memory is wanting.
+        ensures ran { (read : Option Held) (act : Doing) → Reads text.now read → act_of read arguments.now ≡ Some act → refusal_of (Some act) self.old ≡ None → IfOk result (λ plain. (plain ≡ plain_of act self.old) × (self.new ≡ after_act act self.old)) }
+        ensures only { (read : Option Held) → Reads text.now read → refusal_of (act_of read arguments.now) self.old ≡ None → IsOkUnless result Error.OutOfMemory × OnErr result (self.new ≡ self.old) }
+    {
+        self.answer(with_arguments(statement_of(text), arguments))
+    }
+
+    /// Does what is asked for, unless it is refused or memory is wanting.
+    fn answer(&mut self, act: Option<Act>) -> Result<Plain, Error>
+        ensures refused { (reason : Reason) → refusal_of act self.old ≡ Some reason → (result ≡ Err (error_of reason)) × (self.new ≡ refused self.old) }
+        ensures ran { (doing : Doing) → act ≡ Some doing → refusal_of act self.old ≡ None → IfOk result (λ plain. (plain ≡ plain_of doing self.old) × (self.new ≡ after_act doing self.old)) }
+        ensures only { refusal_of act self.old ≡ None → IsOkUnless result Error.OutOfMemory × OnErr result (self.new ≡ self.old) }
+    {
+        match self.admitted(act) {
+            Ok(act) => {
+                let plain = self.plain(act);
+                match self.run(act) {
+                    Ok(()) => Ok(plain),
+                    Err(OutOfMemory) => Err(Error::OutOfMemory),
+                }
+            }
+            Err(refusal) => {
+                self.refuse();
+                Err(refusal.error())
+            }
+        }
+    }
+
+    /// Notes a refusal, which spends what was handed in.
+    pub fn refuse(&mut self)
+        ensures { self.new ≡ refused self.old }
+    {
+        self.answer = Answer::Accept;
+    }
+
+    /// The act, where it isn't refused.
+    pub fn admitted(&self, act: Option<Act>) -> Result<Act, Refusal>
+        ensures { MatchResult result (λ a. (act ≡ Some a) × (refusal_of act self.now ≡ None)) (λ r. refusal_of act self.now ≡ Some r) }
+    {
+        if let Some(fault) = self.fault() {
+            return Err(fault);
+        }
+        let Some(act) = act else {
+            return Err(Refusal::Unread);
+        };
+        match self.refusal(act) {
+            Some(refusal) => Err(refusal),
+            None => Ok(act),
+        }
+    }
+
+    /// What was handed in, as a refusal.
+    pub fn fault(&self) -> Option<Refusal>
+        ensures { result ≡ fault_of self.now.answer }
+    {
+        match self.answer {
+            Answer::Accept => None,
+            Answer::Io => Some(Refusal::Fault),
+            Answer::Refuse => Some(Refusal::Refused),
+        }
+    }
+
+    /// The refusal by state and other connections.
+    fn refusal(&self, act: Act) -> Option<Refusal>
+        ensures { result ≡ refusal_here (Some act) self.now }
+    {
+        match act {
+            Act::Put(_, _) | Act::Delete(_) => {
+                if self.store.others_in_level(self.link.number()) {
+                    Some(Refusal::Busy)
+                } else {
+                    None
+                }
+            }
+            Act::Get(_) | Act::SelectAll | Act::SelectOne => None,
+            Act::Level(level) => self.level_refusal(level),
+        }
+    }
+
+    fn level_refusal(&self, level: LevelText) -> Option<Refusal>
+        ensures { result ≡ level_refusal level (state_of self.now) }
+    {
+        if self.link.allows(level) {
+            return None;
+        }
+        match level {
+            LevelText::Savepoint(_) if self.link.depth() >= 100 => Some(Refusal::Deep),
+            _ => Some(Refusal::Unread),
+        }
+    }
+
+    /// The value of a key, as the connection sees it.
+    pub fn seen(&self, key: i64) -> Option<i64>
+        ensures { result ≡ seen_by key self.now }
+    {
+        self.store.seen_by(&self.link, key)
+    }
+
+    /// What an act that isn't refused answers. Nothing is done yet.
+    fn plain(&self, act: Act) -> Plain
+        ensures { result ≡ plain_of act self.now }
+    {
+        let (affected, value) = match act {
+            Act::Put(_, _) => (1, None),
+            Act::Delete(key) => (if self.seen(key).is_some() { 1 } else { 0 }, None),
+            Act::Get(key) => (0, self.seen(key)),
+            Act::SelectOne => (0, Some(1)),
+            Act::SelectAll | Act::Level(_) => (0, None),
+        };
+        Plain { affected, value }
+    }
+
+    /// Does an act that isn't refused.
+    pub fn run(&mut self, act: Act) -> Result<(), OutOfMemory>
+        requires { refusal_here (Some act) self.old ≡ None }
+        ensures ok { OnOk result (self.new ≡ after_act act self.old) }
+        ensures err { OnErr result (self.new ≡ self.old) }
+    {
+        match act {
+            Act::Put(key, value) => self.store.write(&mut self.link, key, Some(value)),
+            Act::Delete(key) => self.store.write(&mut self.link, key, None),
+            Act::Get(_) | Act::SelectAll | Act::SelectOne => {
+                self.store.count_read();
+                Ok(())
+            }
+            Act::Level(level) => self.store.run(&mut self.link, level),
+        }
+    }
+}

@@ -1,0 +1,185 @@
+//! A database: its committed rows, and which of its links have an open level.
+ghost use Rattle.std.specs.Prelude.{◌≡◌, ◌≤◌, ◌+◌, IfOk, OnOk, OnErr, IsSome};
+ghost use Rattle.std.specs.FinMap as finite;
+ghost use Rattle.sqlx_savepoints.specs.Rows.{sees};
+ghost use Rattle.sqlx_savepoints.specs.NamedSavepoints.{after, ran, wrote};
+
+use crate::answer::Answer;
+use crate::link::StoreLink;
+use crate::place::Place;
+use crate::rows::Rows;
+use crate::runs::Runs;
+use crate::session::StoreSession;
+use sqlx_savepoints::LevelText;
+use sqlx_text::OutOfMemory;
+use std::alloc::Global;
+use std::marker::Model;
+
+/// A database in memory. A connection to it is a [`StoreLink`], which runs statements in a session.
+#[derive(Drop)]
+pub struct MemStore {
+    rows: Rows,
+    places: Vec<Place>,
+    given: u64,
+    runs: Runs,
+}
+
+impl Model for MemStore {
+    ghost use Rattle.mem_store.specs.Store.{Store, store_code};
+
+    ghost Value = { Store };
+
+    ghost coded = { store_code };
+
+    ghost view = { λ a. record { rows = a.rows; places = a.places.items; given = a.given; runs = a.runs } };
+}
+
+impl MemStore {
+    ghost use Rattle.mem_store.specs.Store.{new_store, new_link, connected, others_in_level, marked, store_moved, without, named_by, moved};
+    ghost use Rattle.mem_store.specs.Acts.{level_counted, ended_counted, rolled_back, store_written, store_read};
+
+    /// A database without rows.
+    pub fn new(alloc: Global) -> MemStore
+        ensures { result ≡ new_store }
+    {
+        MemStore {
+            rows: Rows::new(alloc),
+            places: Vec::new(alloc),
+            given: 0,
+            runs: Runs {
+                begun: 0,
+                ended: 0,
+                writes: 0,
+                reads: 0,
+            },
+        }
+    }
+
+    /// A new connection. Where every number of a link was given, that counts as want of memory.
+    pub fn connect(&mut self, alloc: Global) -> Result<StoreLink, OutOfMemory>
+        ensures link { IfOk result (λ link. link ≡ new_link (self.old.given + 1)) }
+        ensures ok { OnOk result (self.new ≡ connected (self.old.given + 1) self.old) }
+        ensures err { OnErr result (self.new ≡ self.old) }
+    {
+        if self.given == u64::MAX {
+            return Err(OutOfMemory);
+        }
+        let number = self.given + 1;
+        let place = Place {
+            number,
+            in_level: false,
+        };
+        match self.places.push(place) {
+            Ok(()) => {
+                self.given = number;
+                Ok(StoreLink::new(alloc, number))
+            }
+            Err(_) => Err(OutOfMemory),
+        }
+    }
+
+    /// The store and a link of it, to run statements. The answer meets the first one.
+    pub fn session(self, link: StoreLink, answer: Answer) -> StoreSession
+        ensures { result ≡ record { store = self; link = link; answer = answer } }
+    {
+        StoreSession::new(self, link, answer)
+    }
+
+    /// Ends a connection, its levels as rolled back.
+    pub fn close(&mut self, link: StoreLink)
+        ensures { self.new ≡ record self.old { places = without link.number self.old.places } }
+    {
+        forget(&mut self.places, link.number());
+    }
+
+    /// How many texts its sessions ran.
+    pub fn runs(&self) -> Runs
+        ensures { result ≡ self.now.runs }
+    {
+        self.runs
+    }
+
+    /// The committed value of a key.
+    pub fn get(&self, key: i64) -> Option<i64>
+        ensures { result ≡ finite.get self.now.rows key }
+    {
+        self.rows.get(key)
+    }
+
+    /// The value of a key as the link sees it.
+    pub(crate) fn seen_by(&self, link: &StoreLink, key: i64) -> Option<i64>
+        ensures { result ≡ sees link.now.own self.now.rows key }
+    {
+        link.sees(&self.rows, key)
+    }
+
+    /// Whether another link than this one has an open level.
+    pub(crate) fn others_in_level(&self, number: u64) -> bool
+        ensures { result ≡ others_in_level number self.now.places }
+    {
+        self.places
+            .iter()
+            .any(|place| place.number != number && place.in_level)
+    }
+
+    pub(crate) fn write(
+        &mut self,
+        link: &mut StoreLink,
+        key: i64,
+        value: Option<i64>,
+    ) -> Result<(), OutOfMemory>
+        ensures store { OnOk result (self.new ≡ store_written (wrote key value (named_by self.old.rows link.old)) self.old) }
+        ensures link { OnOk result (link.new ≡ moved (wrote key value (named_by self.old.rows link.old)) link.old) }
+        ensures err { OnErr result ((self.new ≡ self.old) × (link.new ≡ link.old)) }
+    {
+        link.write(&mut self.rows, key, value)?;
+        self.runs.count_write();
+        Ok(())
+    }
+
+    pub(crate) fn count_read(&mut self)
+        ensures { self.new ≡ store_read self.old }
+    {
+        self.runs.count_read();
+    }
+
+    /// Runs a level text that may stand at the link's state.
+    pub(crate) fn run(&mut self, link: &mut StoreLink, level: LevelText) -> Result<(), OutOfMemory>
+        requires { IsSome (after level (named_by self.old.rows link.old)) }
+        ensures store { OnOk result (self.new ≡ store_moved (ran level (named_by self.old.rows link.old)) link.old.number (level_counted level self.old.runs) self.old) }
+        ensures link { OnOk result (link.new ≡ moved (ran level (named_by self.old.rows link.old)) link.old) }
+        ensures err { OnErr result ((self.new ≡ self.old) × (link.new ≡ link.old)) }
+    {
+        link.run(&mut self.rows, level)?;
+        self.runs.count_level(level);
+        mark(&mut self.places, link.number(), link.depth() > 0);
+        Ok(())
+    }
+
+    /// Rolls the link's innermost level back without a text.
+    pub(crate) fn start_rollback(&mut self, link: &mut StoreLink)
+        requires { 1 ≤ link.old.depth }
+        ensures store { self.new ≡ store_moved (rolled_back (named_by self.old.rows link.old)) link.old.number (ended_counted self.old.runs) self.old }
+        ensures link { link.new ≡ moved (rolled_back (named_by self.old.rows link.old)) link.old }
+    {
+        link.start_rollback();
+        self.runs.count_ended();
+        mark(&mut self.places, link.number(), link.depth() > 0);
+    }
+}
+
+ghost use Rattle.mem_store.specs.Store.{marked, without};
+
+fn mark(places: &mut Vec<Place>, number: u64, in_level: bool)
+    ensures { places.new.items ≡ marked number in_level places.old.items }
+{
+    for place in places.iter_mut() {
+        place.mark(number, in_level);
+    }
+}
+
+fn forget(places: &mut Vec<Place>, number: u64)
+    ensures { places.new.items ≡ without number places.old.items }
+{
+    places.retain(|place| place.number != number);
+}
