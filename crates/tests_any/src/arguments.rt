@@ -25,7 +25,7 @@ fn typed<DB: Database, T: SqlType<DB>>(
 }
 
 // Adds a value that is lent, the value itself, and no value; whether the last two count as null.
-fn bound<'t, DB: Database, T: Encode<'t, DB> + SqlType<DB>>(
+fn bound<'t, DB: Database, T: Encode<'t, DB> + SqlType<DB> + Drop>(
     alloc: Global,
     args: &mut DB::Arguments,
     value: T,
@@ -126,7 +126,7 @@ fn options_are_arguments(rt: HostRuntime) -> Result<(), Fail> {
     let some = Some(5i64);
     let mut list = AnyArgumentBuffer::new(alloc);
     let told = Encode::<Db>::encode_by_ref(&some, alloc, &mut list);
-    assert!(rt; matches!(told, Ok(IsNull::No)));
+    assert_eq!(rt; told.ok(), Some(IsNull::No));
     assert_eq!(rt; listed(alloc, list.as_slice())?.as_str(), "BigInt 5|");
     assert_eq!(rt; sized::<Db, Option<i64>>(&some), (8, false));
     assert_eq!(rt; sized::<Db, Option<i64>>(&None), (0, false));

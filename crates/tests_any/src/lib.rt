@@ -4,6 +4,8 @@
 #[cfg(test)]
 mod arguments;
 #[cfg(test)]
+mod callers;
+#[cfg(test)]
 mod connections;
 #[cfg(test)]
 mod drivers;

@@ -15,6 +15,7 @@ fn urls<O: ConnectOptions + Drop>(alloc: Global, text: &str) -> Result<String, E
     let url = options.to_url_lossy(alloc)?;
     let copy = options.try_clone(alloc)?.to_url_lossy(alloc)?;
     let again = O::from_url(alloc, &url)?.to_url_lossy(alloc)?;
+    let (url, copy, again) = (url.as_str(), copy.as_str(), again.as_str());
     Ok(format!(in alloc; "{url} {copy} {again}")?)
 }
 
@@ -40,7 +41,9 @@ fn options_keep_their_url(rt: HostRuntime) -> Result<(), Fail> {
 
 // The two levels of the log, and the slow threshold, of a copy.
 fn logs(alloc: Global, options: AnyConnectOptions) -> Result<String, Error> {
-    let settings = options.try_clone(alloc)?.log_settings;
+    let copy = options.try_clone(alloc)?;
+    drop(options);
+    let settings = copy.log_settings;
     let level = settings.statements_level;
     let slow = settings.slow_statements_level;
     let threshold = settings.slow_statements_duration;

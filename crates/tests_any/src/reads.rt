@@ -33,7 +33,7 @@ fn put<T: Debug + Drop>(
 }
 
 // What a type makes of a row's one value.
-fn reads<T: DecodeOwned<Db> + SqlType<Db> + Debug + Drop>(
+fn read_as<T: DecodeOwned<Db> + SqlType<Db> + Debug + Drop>(
     alloc: Global,
     row: &AnyRow,
     line: &mut String,
@@ -47,19 +47,19 @@ fn reads<T: DecodeOwned<Db> + SqlType<Db> + Debug + Drop>(
 }
 
 fn numbers(alloc: Global, row: &AnyRow, line: &mut String) -> Result<(), OutOfMemory> {
-    reads::<bool>(alloc, row, line)?;
-    reads::<i16>(alloc, row, line)?;
-    reads::<i32>(alloc, row, line)?;
-    reads::<i64>(alloc, row, line)
+    read_as::<bool>(alloc, row, line)?;
+    read_as::<i16>(alloc, row, line)?;
+    read_as::<i32>(alloc, row, line)?;
+    read_as::<i64>(alloc, row, line)
 }
 
 fn texts(alloc: Global, row: &AnyRow, line: &mut String) -> Result<(), OutOfMemory> {
     let lent = reads::try_get::<Db, &str, usize>(alloc, row, 0);
     put(alloc, line, "&str", lent)?;
-    reads::<String>(alloc, row, line)?;
+    read_as::<String>(alloc, row, line)?;
     let lent = reads::try_get::<Db, &[u8], usize>(alloc, row, 0);
     put(alloc, line, "&[u8]", lent)?;
-    reads::<Vec<u8>>(alloc, row, line)
+    read_as::<Vec<u8>>(alloc, row, line)
 }
 
 // The types that read a value, and what they read.

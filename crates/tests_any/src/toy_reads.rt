@@ -1,7 +1,7 @@
 //! Reads of a driver's rows, values and columns, at the toy database.
 
 use crate::present::Present;
-use sqlx_text::{AnyTypeInfoKind, Error, OutOfMemory, SqlStr};
+use sqlx_text::{Error, OutOfMemory, SqlStr};
 use sqlx_traits::*;
 use std::alloc::Global;
 use std::test::*;

@@ -5,8 +5,6 @@ pub mod backend;
 pub mod calls;
 pub mod cells;
 pub mod handed;
-pub mod unfit;
 
 pub use backend::StubBackend;
 pub use handed::{Call, Handed};
-pub use unfit::Unfit;

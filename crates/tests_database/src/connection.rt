@@ -52,6 +52,17 @@ impl ToyConnection {
         })
     }
 
+    /// A connection that hands out this row.
+    pub fn of_row(alloc: Global, row: ToyRow) -> Result<ToyConnection, Error> {
+        let mut conn = ToyConnection::new(alloc, "")?;
+        let mut steps = VecDeque::new(alloc);
+        if steps.push_back(Either::Right(row)).is_err() {
+            return Err(Error::OutOfMemory);
+        }
+        conn.steps = Some(steps);
+        Ok(conn)
+    }
+
     // The refusal of a call, which is counted.
     pub(crate) fn refused(&mut self) -> Error
         ensures error { result ≡ Error.Io IoFault.Other }

@@ -1,5 +1,5 @@
 //! Queries of a connection: what it is asked, and the steps that it hands out.
-ghost use Rattle.std.specs.Prelude.{◌≡◌, ◌≤◌, Err, IfErr, Option, Result};
+ghost use Rattle.std.specs.Prelude.{◌≡◌, ◌≤◌, Option, Result};
 ghost use Rattle.sqlx_text.specs.declared.fault.Fault.{Fault};
 ghost use Rattle.sqlx_traits.specs.StepList.{StepCauses};
 
@@ -19,24 +19,6 @@ pub struct Asked {
 }
 
 impl Asked {
-    // What a query asks, or why its arguments can't be had.
-    fn of<Q: Execute<Toy>>(alloc: Global, query: Q) -> Result<Asked, Fault>
-        ensures { IfErr result (λ f. Q.arguments query ≡ Err f) }
-    {
-        let mut query = query;
-        let kept = query.persistent();
-        let prepared = query.statement().is_some();
-        match query.take_arguments() {
-            Ok(arguments) => Ok(Asked {
-                sql: query.sql(alloc).ok(),
-                arguments,
-                kept,
-                prepared,
-            }),
-            Err(fault) => Err(fault),
-        }
-    }
-
     /// The text, whether its statement is to be kept, and each argument behind a bar, as `SELECT kept|5|x`.
     pub fn shown(&self, alloc: Global) -> Result<String, OutOfMemory> {
         let mut line = String::new(alloc);
@@ -100,13 +82,25 @@ impl Executor<Toy> for ToyConnection {
     ghost prepares = { λ _ _ _ _ _. ⊤ };
 
     fn fetch_many<Q: Execute<Toy>>(&mut self, alloc: Global, query: Q) -> FetchMany<Toy> {
-        match Asked::of(alloc, query) {
-            Ok(asked) => {
-                let list = self.hand_out(alloc);
-                self.asked = Some(asked);
-                list
+        let mut query = query;
+        let kept = query.persistent();
+        let prepared = query.statement().is_some();
+        let arguments = query.take_arguments();
+        let sql = query.sql(alloc).ok();
+        match arguments {
+            Ok(arguments) => {
+                self.asked = Some(Asked {
+                    sql,
+                    arguments,
+                    kept,
+                    prepared,
+                });
+                self.hand_out(alloc)
             }
-            Err(fault) => StepList::not_encoded(alloc, fault),
+            Err(fault) => {
+                drop(sql);
+                StepList::not_encoded(alloc, fault)
+            }
         }
     }
 

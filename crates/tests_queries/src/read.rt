@@ -11,6 +11,7 @@ use std::fmt::Debug;
 use std::test::*;
 use tests_backend::StubBackend;
 use tests_database::answers::told;
+use tests_database::letters::row_of;
 use tests_database::steps::Call;
 use tests_database::{Toy, ToyArguments, ToyConnection};
 
@@ -123,9 +124,11 @@ fn reads_with_arguments(rt: HostRuntime) -> Result<(), Fail> {
     Ok(())
 }
 
-fn notes_of_toy(alloc: Global) -> Result<String, Error> {
+fn note(alloc: Global, letters: &str) -> Result<String, Error> {
     let query = query_as::<Toy, Note, _>(alloc, "SELECT")?;
-    first(alloc, query)
+    let mut conn = ToyConnection::of_row(alloc, row_of(alloc, letters)?)?;
+    let given = of_read(alloc, Call::FetchOne, query, &mut conn);
+    Ok(asked(alloc, conn, given)?)
 }
 
 fn of_any(alloc: Global, letters: &str) -> Result<String, Error> {
@@ -142,7 +145,11 @@ fn reads_a_struct_and_of_any(rt: HostRuntime) -> Result<(), Fail> {
     let alloc = rt.alloc();
     for (answer, want) in [
         (
-            notes_of_toy(alloc),
+            note(alloc, "lt"),
+            "SELECT kept: Note { number: 7, title: \"x\" }",
+        ),
+        (
+            note(alloc, "l"),
             "SELECT kept: column index out of bounds: the len is 1, but the index is 1",
         ),
         (of_any(alloc, "ii"), "SELECT kept BigInt 1|: [(5,), (5,)]"),

@@ -61,15 +61,15 @@ fn makes_a_struct(rt: HostRuntime) -> Result<(), Fail> {
 }
 
 // The column and the value at a position: the number 101 at the first one, and so on; a text at one of them.
-fn at(ordinal: usize, text_at: usize) -> (ToyColumn, ToyValue) {
+fn at(ordinal: u8, text_at: u8) -> (ToyColumn, ToyValue) {
     let (kind, held) = if ordinal == text_at {
         (AnyTypeInfoKind::Text, Held::Text(UStr::from_static("x")))
     } else {
-        let number = 101i64.saturating_add(ordinal as i64);
+        let number = 101 + i64::from(ordinal);
         (AnyTypeInfoKind::BigInt, Held::Whole(number))
     };
     let column = ToyColumn {
-        ordinal,
+        ordinal: usize::from(ordinal),
         name: UStr::from_static(""),
         type_info: ToyType::of(kind),
     };
@@ -78,7 +78,7 @@ fn at(ordinal: usize, text_at: usize) -> (ToyColumn, ToyValue) {
 }
 
 // A row of so many columns.
-fn numbers(alloc: Global, count: usize, text_at: usize) -> Result<ToyRow, Error> {
+fn numbers(alloc: Global, count: u8, text_at: u8) -> Result<ToyRow, Error> {
     let mut columns = Vec::new(alloc);
     let mut values = Vec::new(alloc);
     for ordinal in 0..count {
