@@ -220,7 +220,12 @@ fn tells_of_types(rt: HostRuntime) -> Result<(), Fail> {
         assert_eq!(rt; ty.kind(), kind);
         assert_eq!(rt; ty.any_kind(), Some(kind));
         assert_eq!(rt; (ty.is_null(), ty.is_void()), (is_null, false));
-        assert_eq!(rt; ty.type_compatible(&AnyTypeInfo { kind: AnyTypeInfoKind::Null }), is_null);
+        assert_eq!(rt;
+            ty.type_compatible(&AnyTypeInfo {
+                kind: AnyTypeInfoKind::Null
+            }),
+            is_null
+        );
     }
     Ok(())
 }

@@ -23,7 +23,7 @@ enum Act {
     StartRollback,
 }
 
-fn act<DB: Database>(alloc: Global, act: Act, conn: &mut DB::Connection) -> Result<(), Error> {
+fn perform<DB: Database>(alloc: Global, act: Act, conn: &mut DB::Connection) -> Result<(), Error> {
     match act {
         Act::Ping => conn.ping(),
         Act::Clear => conn.clear_cached_statements(),
@@ -62,10 +62,10 @@ fn of_levels<DB: Database>(
 fn of_toy(alloc: Global, begun: bool, refuses: bool, call: Act) -> Result<String, Error> {
     let mut conn = ToyConnection::new(alloc, "")?;
     if begun {
-        act::<Toy>(alloc, Act::Begin, &mut conn)?;
+        perform::<Toy>(alloc, Act::Begin, &mut conn)?;
     }
     conn.refuses = refuses;
-    let answer = shown(alloc, act::<Toy>(alloc, call, &mut conn))?;
+    let answer = shown(alloc, perform::<Toy>(alloc, call, &mut conn))?;
     let depth = conn.depth();
     Ok(format!(in alloc; "{depth} {answer}")?)
 }
@@ -110,10 +110,10 @@ fn set(conn: AnyConnection<StubBackend>, refuses: bool) -> AnyConnection<StubBac
 fn of_any(alloc: Global, begun: bool, refuses: bool, call: Act) -> Result<String, Error> {
     let mut conn = AnyConnection::new(StubBackend::new(alloc, "")?);
     if begun {
-        act::<Any<StubBackend>>(alloc, Act::Begin, &mut conn)?;
+        perform::<Any<StubBackend>>(alloc, Act::Begin, &mut conn)?;
     }
     let mut conn = set(conn, refuses);
-    let answer = shown(alloc, act::<Any<StubBackend>>(alloc, call, &mut conn))?;
+    let answer = shown(alloc, perform::<Any<StubBackend>>(alloc, call, &mut conn))?;
     let last = conn.backend().last;
     let depth = conn.depth();
     Ok(format!(in alloc; "{last:?} {depth} {answer}")?)
@@ -215,7 +215,10 @@ fn closed_hard(alloc: Global) -> Result<String, Error> {
 #[test]
 fn connections_tell_of_themselves(rt: HostRuntime) -> Result<(), Fail> {
     let alloc = rt.alloc();
-    assert_eq!(rt; told(alloc, any_tells(alloc))?.as_str(), "stub false 0 false 0 ()");
+    assert_eq!(rt;
+        told(alloc, any_tells(alloc))?.as_str(),
+        "stub false 0 false 0 ()"
+    );
     assert_eq!(rt; told(alloc, closed_hard(alloc))?.as_str(), "() ()");
     Ok(())
 }

@@ -57,7 +57,11 @@ fn calls_filter_one_list(rt: HostRuntime) -> Result<(), Fail> {
         ),
         (Call::FetchMany, "", ""),
     ] {
-        assert_eq!(rt; told(alloc, of_toy(alloc, call, letters))?.as_str(), want, "of {letters}");
+        assert_eq!(rt;
+            told(alloc, of_toy(alloc, call, letters))?.as_str(),
+            want,
+            "of {letters}"
+        );
     }
     Ok(())
 }
@@ -86,16 +90,17 @@ fn a_connection_hands_on_its_backends_list(rt: HostRuntime) -> Result<(), Fail> 
             "number|AnyQueryResult { rows_affected: 2, last_insert_id: None }|error communicating with database: other error|",
         ),
     ] {
-        assert_eq!(rt; told(alloc, of_any(alloc, call, letters))?.as_str(), want, "of {letters}");
+        assert_eq!(rt;
+            told(alloc, of_any(alloc, call, letters))?.as_str(),
+            want,
+            "of {letters}"
+        );
     }
     Ok(())
 }
 
 // How many columns and parameters a statement has, and its text.
-fn statement<DB: Database>(
-    alloc: Global,
-    statement: DB::Statement,
-) -> Result<String, OutOfMemory> {
+fn statement<DB: Database>(alloc: Global, statement: DB::Statement) -> Result<String, OutOfMemory> {
     let columns = statement.columns().len();
     let parameters = match statement.parameters() {
         Some(Either::Left(types)) => types.len(),

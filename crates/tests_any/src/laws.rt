@@ -1,10 +1,10 @@
 //! The laws on what reads back as it was bound, each called once; what they say is their contracts.
 
 use sqlx_any::laws;
-use tests_backend::StubBackend;
 use sqlx_text::OutOfMemory;
 use std::alloc::Global;
 use std::test::*;
+use tests_backend::StubBackend;
 
 fn text(alloc: Global) -> Result<(), OutOfMemory> {
     let text = "x".to_string(alloc)?;

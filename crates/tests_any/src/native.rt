@@ -14,11 +14,7 @@ type Db = Any<StubBackend>;
 
 const UNMAPPED: &str = "error in Any driver mapping: no kind for type POINT";
 
-fn put_columns(
-    alloc: Global,
-    line: &mut String,
-    columns: &[AnyColumn],
-) -> Result<(), OutOfMemory> {
+fn put_columns(alloc: Global, line: &mut String, columns: &[AnyColumn]) -> Result<(), OutOfMemory> {
     for column in columns {
         let ordinal = column.ordinal;
         let name = column.name.as_str();
@@ -73,7 +69,11 @@ fn maps_rows(rt: HostRuntime) -> Result<(), Fail> {
         ("le", unread),
         ("eop", unread),
     ] {
-        assert_eq!(rt; told(alloc, mapped(alloc, letters))?.as_str(), want, "of {letters}");
+        assert_eq!(rt;
+            told(alloc, mapped(alloc, letters))?.as_str(),
+            want,
+            "of {letters}"
+        );
     }
     Ok(())
 }
@@ -121,6 +121,10 @@ fn maps_statements(rt: HostRuntime) -> Result<(), Fail> {
     Ok(())
 }
 
+fn nullable(alloc: Global) -> Result<Vec<Option<bool>>, OutOfMemory> {
+    Ok(vec![in alloc; Some(true), None]?)
+}
+
 // The form of what is told of two columns by letters, of which the first may be null, and of parameters.
 fn description(
     alloc: Global,
@@ -130,7 +134,7 @@ fn description(
     let own = Describe::<Toy> {
         columns: columns_of(alloc, letters)?,
         parameters,
-        nullable: vec![in alloc; Some(true), None]?,
+        nullable: nullable(alloc)?,
     };
     let form = own.try_into_any::<StubBackend>(alloc)?;
     let mut line = String::new(alloc);
@@ -249,8 +253,14 @@ fn hands_on_nulls(rt: HostRuntime) -> Result<(), Fail> {
     let alloc = rt.alloc();
     for (kind, want) in [
         (AnyTypeInfoKind::Bool, "null Some(Bool)|7 Some(BigInt)|"),
-        (AnyTypeInfoKind::SmallInt, "null Some(SmallInt)|7 Some(BigInt)|"),
-        (AnyTypeInfoKind::Integer, "null Some(Integer)|7 Some(BigInt)|"),
+        (
+            AnyTypeInfoKind::SmallInt,
+            "null Some(SmallInt)|7 Some(BigInt)|",
+        ),
+        (
+            AnyTypeInfoKind::Integer,
+            "null Some(Integer)|7 Some(BigInt)|",
+        ),
         (AnyTypeInfoKind::BigInt, "null Some(BigInt)|7 Some(BigInt)|"),
         (AnyTypeInfoKind::Text, "null Some(Text)|7 Some(BigInt)|"),
         (AnyTypeInfoKind::Blob, "null Some(Blob)|7 Some(BigInt)|"),

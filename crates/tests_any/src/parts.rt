@@ -4,8 +4,7 @@ use sqlx_any::*;
 use sqlx_text::{AnyTypeInfoKind, Error, OutOfMemory, SqlStr, UStr};
 use std::alloc::Global;
 use std::test::*;
-use tests_backend::StubBackend;
-use tests_backend::cells;
+use tests_backend::{StubBackend, cells};
 use tests_database::answers::told;
 
 type Db = Any<StubBackend>;
@@ -42,7 +41,12 @@ fn columns(alloc: Global) -> Result<Vec<AnyColumn>, OutOfMemory> {
 fn row(alloc: Global, count: usize, position: usize) -> Result<AnyRow, Error> {
     let mut values = Vec::new(alloc);
     for _ in 0..count {
-        cells::keep(&mut values, AnyValue { kind: cells::text("a") })?;
+        cells::keep(
+            &mut values,
+            AnyValue {
+                kind: cells::text("a"),
+            },
+        )?;
     }
     AnyRow::new(names(alloc, position)?, columns(alloc)?, values)
 }
@@ -115,7 +119,10 @@ fn finds_columns(rt: HostRuntime) -> Result<(), Fail> {
     let alloc = rt.alloc();
     for (at, want) in [
         (0, "0 y BIGINT Unknown, 0 y BIGINT Unknown, 0"),
-        (2, "column index out of bounds: the len is 2, but the index is 2"),
+        (
+            2,
+            "column index out of bounds: the len is 2, but the index is 2",
+        ),
     ] {
         assert_eq!(rt; told(alloc, column::<usize>(alloc, at))?.as_str(), want);
     }
@@ -146,7 +153,11 @@ fn copied(alloc: Global, statement: Result<AnyStatement, Error>) -> Result<Strin
 #[test]
 fn statements_fit(rt: HostRuntime) -> Result<(), Fail> {
     let alloc = rt.alloc();
-    let types = vec![in alloc; AnyTypeInfo { kind: AnyTypeInfoKind::Bool }]?;
+    let types = vec![in alloc;
+        AnyTypeInfo {
+            kind: AnyTypeInfoKind::Bool
+        },
+    ]?;
     for (parameters, position, want) in [
         (
             Some(Either::Left(types)),
@@ -183,6 +194,9 @@ fn results_add_up(rt: HostRuntime) -> Result<(), Fail> {
         all.extend(next);
         assert_eq!(rt; all, want);
     }
-    assert_eq!(rt; (three.rows_affected(), three.last_insert_id()), (3, Some(7)));
+    assert_eq!(rt;
+        (three.rows_affected(), three.last_insert_id()),
+        (3, Some(7))
+    );
     Ok(())
 }

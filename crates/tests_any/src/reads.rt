@@ -5,8 +5,7 @@ use sqlx_text::{AnyTypeInfoKind, Error, OutOfMemory};
 use std::alloc::Global;
 use std::fmt::Debug;
 use std::test::*;
-use tests_backend::StubBackend;
-use tests_backend::cells;
+use tests_backend::{StubBackend, cells};
 use tests_database::answers::{shown, told};
 
 type Db = Any<StubBackend>;
@@ -78,13 +77,25 @@ fn each_kind_has_its_readers(rt: HostRuntime) -> Result<(), Fail> {
         (AnyValueKind::Null(AnyTypeInfoKind::BigInt), ""),
         (AnyValueKind::Bool(true), "bool true|"),
         (AnyValueKind::SmallInt(-5), "i16 -5|i32 -5|i64 -5|"),
-        (AnyValueKind::Integer(-32_768), "i16 -32768|i32 -32768|i64 -32768|"),
+        (
+            AnyValueKind::Integer(-32_768),
+            "i16 -32768|i32 -32768|i64 -32768|",
+        ),
         (AnyValueKind::Integer(-32_769), "i32 -32769|i64 -32769|"),
-        (AnyValueKind::BigInt(32_767), "i16 32767|i32 32767|i64 32767|"),
+        (
+            AnyValueKind::BigInt(32_767),
+            "i16 32767|i32 32767|i64 32767|",
+        ),
         (AnyValueKind::BigInt(32_768), "i32 32768|i64 32768|"),
-        (AnyValueKind::BigInt(2_147_483_647), "i32 2147483647|i64 2147483647|"),
+        (
+            AnyValueKind::BigInt(2_147_483_647),
+            "i32 2147483647|i64 2147483647|",
+        ),
         (AnyValueKind::BigInt(2_147_483_648), "i64 2147483648|"),
-        (AnyValueKind::BigInt(-2_147_483_648), "i32 -2147483648|i64 -2147483648|"),
+        (
+            AnyValueKind::BigInt(-2_147_483_648),
+            "i32 -2147483648|i64 -2147483648|",
+        ),
         (AnyValueKind::BigInt(-2_147_483_649), "i64 -2147483649|"),
         (cells::text("5"), "&str \"5\"|String \"5\"|"),
         (cells::slice("5"), "&str \"5\"|String \"5\"|"),
@@ -201,7 +212,10 @@ fn finds_columns(rt: HostRuntime) -> Result<(), Fail> {
     for (at, want) in [
         (0, "5"),
         (1, "7"),
-        (2, "column index out of bounds: the len is 2, but the index is 2"),
+        (
+            2,
+            "column index out of bounds: the len is 2, but the index is 2",
+        ),
     ] {
         assert_eq!(rt; told(alloc, column::<usize>(alloc, at))?.as_str(), want);
     }

@@ -51,7 +51,10 @@ fn pairs_have_their_arguments(rt: HostRuntime) -> Result<(), Fail> {
         (asked(alloc, cow), "SELECT kept bare"),
         (asked(alloc, shared), "SELECT kept bare"),
         (asked(alloc, ("SELECT", None)), "SELECT kept bare"),
-        (asked(alloc, ("SELECT", two(alloc).ok())), "SELECT kept|x|null"),
+        (
+            asked(alloc, ("SELECT", two(alloc).ok())),
+            "SELECT kept|x|null",
+        ),
     ] {
         assert_eq!(rt; told(alloc, answer)?.as_str(), want);
     }

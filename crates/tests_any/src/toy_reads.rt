@@ -20,7 +20,10 @@ fn texts<I: ColumnIndex<ToyRow> + Drop>(
     let unchecked = reads::try_get_unchecked::<Toy, &str, &I>(alloc, row, &index);
     let unchecked = shown(alloc, unchecked)?;
     let owned = shown(alloc, row.try_get::<String, &I>(alloc, &index))?;
-    let option = shown(alloc, row.try_get_unchecked::<Option<String>, I>(alloc, index))?;
+    let option = shown(
+        alloc,
+        row.try_get_unchecked::<Option<String>, I>(alloc, index),
+    )?;
     Ok([lent, unchecked, owned, option])
 }
 
@@ -28,10 +31,14 @@ fn texts<I: ColumnIndex<ToyRow> + Drop>(
 fn reads_texts(rt: HostRuntime) -> Result<(), Fail> {
     let alloc = rt.alloc();
     let missing = "no column found for name: when";
-    let null = "error occurred while decoding column \"none\": unexpected null; try decoding as an `Option`";
-    let flag = "error occurred while decoding column \"flag\": mismatched types; Rust type `&str` (as SQL type `TEXT`) is not compatible with SQL type `BOOLEAN`";
-    let owned_flag = "error occurred while decoding column \"flag\": mismatched types; Rust type `String` (as SQL type `TEXT`) is not compatible with SQL type `BOOLEAN`";
-    let unread = "error occurred while decoding column \"flag\": out of range integral type conversion attempted";
+    let null =
+        "error occurred while decoding column \"none\": unexpected null; try decoding as an `Option`";
+    let flag =
+        "error occurred while decoding column \"flag\": mismatched types; Rust type `&str` (as SQL type `TEXT`) is not compatible with SQL type `BOOLEAN`";
+    let owned_flag =
+        "error occurred while decoding column \"flag\": mismatched types; Rust type `String` (as SQL type `TEXT`) is not compatible with SQL type `BOOLEAN`";
+    let unread =
+        "error occurred while decoding column \"flag\": out of range integral type conversion attempted";
     let row = row_of(alloc, "tnb")?;
     for (name, wants) in [
         ("text", ["\"x\"", "\"x\"", "\"x\"", "Some(\"x\")"]),
@@ -66,8 +73,10 @@ fn decoded(alloc: Global, letter: char) -> Result<[String; 4], Error> {
 fn decodes_values(rt: HostRuntime) -> Result<(), Fail> {
     let alloc = rt.alloc();
     let null = "error occurred while decoding: unexpected null; try decoding as an `Option`";
-    let number = "error occurred while decoding: mismatched types; Rust type `&str` (as SQL type `TEXT`) is not compatible with SQL type `INTEGER`";
-    let owned_number = "error occurred while decoding: mismatched types; Rust type `String` (as SQL type `TEXT`) is not compatible with SQL type `INTEGER`";
+    let number =
+        "error occurred while decoding: mismatched types; Rust type `&str` (as SQL type `TEXT`) is not compatible with SQL type `INTEGER`";
+    let owned_number =
+        "error occurred while decoding: mismatched types; Rust type `String` (as SQL type `TEXT`) is not compatible with SQL type `INTEGER`";
     let unread = "error occurred while decoding: out of range integral type conversion attempted";
     for (letter, wants) in [
         ('t', ["\"x\"", "Some(\"x\")", "\"x\"", "\"x\""]),
@@ -117,8 +126,14 @@ fn reads_what_is_known_to_be_there(rt: HostRuntime) -> Result<(), Fail> {
     let row = row_of(alloc, "tn")?;
     let empty = row_of(alloc, "")?;
     let all = Some([Present; 4]);
-    assert_eq!(rt; (of_value(alloc, &row)?, of_value(alloc, &empty)?), (all, None));
-    assert_eq!(rt; (of_row(alloc, &row, 1)?, of_row(alloc, &row, 2)?), (all, None));
+    assert_eq!(rt;
+        (of_value(alloc, &row)?, of_value(alloc, &empty)?),
+        (all, None)
+    );
+    assert_eq!(rt;
+        (of_row(alloc, &row, 1)?, of_row(alloc, &row, 2)?),
+        (all, None)
+    );
     Ok(())
 }
 

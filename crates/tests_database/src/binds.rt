@@ -119,11 +119,19 @@ impl<'q> Encode<'q, Toy> for i16 {
     ghost size = { λ _. 8 };
 
     fn encode(self, _alloc: Global, list: &mut ToyArgumentList) -> Result<IsNull, Fault> {
-        put(list, AnyTypeInfoKind::SmallInt, Held::Whole(i64::from(self)))
+        put(
+            list,
+            AnyTypeInfoKind::SmallInt,
+            Held::Whole(i64::from(self)),
+        )
     }
 
     fn encode_by_ref(&self, _alloc: Global, list: &mut ToyArgumentList) -> Result<IsNull, Fault> {
-        put(list, AnyTypeInfoKind::SmallInt, Held::Whole(i64::from(*self)))
+        put(
+            list,
+            AnyTypeInfoKind::SmallInt,
+            Held::Whole(i64::from(*self)),
+        )
     }
 
     fn produces(&self) -> Option<ToyType> {
@@ -181,7 +189,11 @@ impl<'q> Encode<'q, Toy> for i32 {
     }
 
     fn encode_by_ref(&self, _alloc: Global, list: &mut ToyArgumentList) -> Result<IsNull, Fault> {
-        put(list, AnyTypeInfoKind::Integer, Held::Whole(i64::from(*self)))
+        put(
+            list,
+            AnyTypeInfoKind::Integer,
+            Held::Whole(i64::from(*self)),
+        )
     }
 
     fn produces(&self) -> Option<ToyType> {
@@ -293,11 +305,19 @@ impl<'q> Encode<'q, Toy> for &str {
     ghost size = { λ _. 8 };
 
     fn encode(self, alloc: Global, list: &mut ToyArgumentList) -> Result<IsNull, Fault> {
-        put(list, AnyTypeInfoKind::Text, Held::Text(UStr::new(alloc, self)?))
+        put(
+            list,
+            AnyTypeInfoKind::Text,
+            Held::Text(UStr::new(alloc, self)?),
+        )
     }
 
     fn encode_by_ref(&self, alloc: Global, list: &mut ToyArgumentList) -> Result<IsNull, Fault> {
-        put(list, AnyTypeInfoKind::Text, Held::Text(UStr::new(alloc, *self)?))
+        put(
+            list,
+            AnyTypeInfoKind::Text,
+            Held::Text(UStr::new(alloc, *self)?),
+        )
     }
 
     fn produces(&self) -> Option<ToyType> {
@@ -357,11 +377,19 @@ impl<'q> Encode<'q, Toy> for String {
     ghost size = { λ _. 8 };
 
     fn encode(self, _alloc: Global, list: &mut ToyArgumentList) -> Result<IsNull, Fault> {
-        put(list, AnyTypeInfoKind::Text, Held::Text(UStr::from_string(self)))
+        put(
+            list,
+            AnyTypeInfoKind::Text,
+            Held::Text(UStr::from_string(self)),
+        )
     }
 
     fn encode_by_ref(&self, alloc: Global, list: &mut ToyArgumentList) -> Result<IsNull, Fault> {
-        put(list, AnyTypeInfoKind::Text, Held::Text(UStr::new(alloc, self.as_str())?))
+        put(
+            list,
+            AnyTypeInfoKind::Text,
+            Held::Text(UStr::new(alloc, self.as_str())?),
+        )
     }
 
     fn produces(&self) -> Option<ToyType> {
@@ -415,11 +443,19 @@ impl<'q> Encode<'q, Toy> for Vec<u8> {
     ghost size = { λ _. 8 };
 
     fn encode(self, _alloc: Global, list: &mut ToyArgumentList) -> Result<IsNull, Fault> {
-        put(list, AnyTypeInfoKind::Blob, Held::Bytes(Bytes::from_vec(self)))
+        put(
+            list,
+            AnyTypeInfoKind::Blob,
+            Held::Bytes(Bytes::from_vec(self)),
+        )
     }
 
     fn encode_by_ref(&self, alloc: Global, list: &mut ToyArgumentList) -> Result<IsNull, Fault> {
-        put(list, AnyTypeInfoKind::Blob, Held::Bytes(Bytes::from_vec(copied(alloc, self.as_slice())?)))
+        put(
+            list,
+            AnyTypeInfoKind::Blob,
+            Held::Bytes(Bytes::from_vec(copied(alloc, self.as_slice())?)),
+        )
     }
 
     fn produces(&self) -> Option<ToyType> {

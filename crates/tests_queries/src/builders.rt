@@ -170,7 +170,10 @@ fn pushes_tuples(rt: HostRuntime) -> Result<(), Fail> {
             tuples(alloc, 2),
             "SELECT $1 IN (($2, $3), ($4, $5))  kept|9|1|2|3|4: ToyQueryResult(2)",
         ),
-        (tuples(alloc, 0), "SELECT $1 IN ()  kept|9: ToyQueryResult(2)"),
+        (
+            tuples(alloc, 0),
+            "SELECT $1 IN ()  kept|9: ToyQueryResult(2)",
+        ),
     ] {
         assert_eq!(rt; told(alloc, answer)?.as_str(), want);
     }
@@ -212,7 +215,10 @@ fn a_refusal_leaves_the_builder(rt: HostRuntime) -> Result<(), Fail> {
         refused_tuples(alloc)?,
     ];
     for [answer, ran] in answers {
-        assert_eq!(rt; answer.as_str(), "out of range integral type conversion attempted");
+        assert_eq!(rt;
+            answer.as_str(),
+            "out of range integral type conversion attempted"
+        );
         assert_eq!(rt; ran.as_str(), "SELECT $1 kept|9: ToyQueryResult(2)");
     }
     Ok(())

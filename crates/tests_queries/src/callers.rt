@@ -17,11 +17,7 @@ use tests_database::steps::one_row;
 use tests_database::{Toy, ToyConnection};
 
 /// The first article of an author, by a statement that isn't kept.
-pub fn first_article<'t, DB, E, T>(
-    alloc: Global,
-    conn: &mut E,
-    author: T,
-) -> Result<DB::Row, Error>
+pub fn first_article<'t, DB, E, T>(alloc: Global, conn: &mut E, author: T) -> Result<DB::Row, Error>
 where
     DB: Database + HasStatementCache,
     E: Executor<DB>,
@@ -30,7 +26,7 @@ where
     ensures { IfErr result (λ e. e ≡ Error.OutOfMemory) ⊎ ((asked : Asked DB.Statement DB.Arguments)
         × (asked.text ≡ codes "SELECT title FROM articles WHERE author = ?") × (asked.kept ≡ false)
         × Ran E.runs conn.old (handed_over ⟦<DB::Arguments as IntoArguments<DB>>⟧.becomes asked) conn.new
-            (λ list. result ≡ one_or Error.RowNotFound (first_of (rows_of list)))) }
+        (λ list. result ≡ one_or Error.RowNotFound (first_of (rows_of list)))) }
 {
     query::<DB, _>(alloc, "SELECT title FROM articles WHERE author = ?")?
         .bind(alloc, author)

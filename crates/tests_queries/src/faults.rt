@@ -11,7 +11,8 @@ use tests_database::answers::{taken, told};
 use tests_database::steps::Call;
 use tests_database::{Toy, ToyArguments, ToyConnection};
 
-const FIRST: &str = "nothing: error occurred while encoding a value: Encoding argument $1 failed: out of range integral type conversion attempted";
+const FIRST: &str =
+    "nothing: error occurred while encoding a value: Encoding argument $1 failed: out of range integral type conversion attempted";
 
 const OUT_OF_RANGE: &str =
     "nothing: error occurred while encoding a value: out of range integral type conversion attempted";

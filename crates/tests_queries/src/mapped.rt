@@ -76,7 +76,8 @@ fn maps_rows(rt: HostRuntime) -> Result<(), Fail> {
 #[test]
 fn a_refused_row_is_the_last(rt: HostRuntime) -> Result<(), Fail> {
     let alloc = rt.alloc();
-    let mismatch = "error occurred while decoding column 0: mismatched types; Rust type `i64` (as SQL type `BIGINT`) is not compatible with SQL type `TEXT`";
+    let mismatch =
+        "error occurred while decoding column 0: mismatched types; Rust type `i64` (as SQL type `BIGINT`) is not compatible with SQL type `TEXT`";
     for (call, letters, given) in [
         (Call::FetchOne, "lt", "7"),
         (Call::FetchOptional, "lt", "Some(7)"),
@@ -84,10 +85,16 @@ fn a_refused_row_is_the_last(rt: HostRuntime) -> Result<(), Fail> {
         (Call::FetchOne, "t", mismatch),
     ] {
         let want = format!(in alloc; "SELECT kept|1: {given}")?;
-        assert_eq!(rt; told(alloc, tried(alloc, call, letters))?.as_str(), want.as_str());
+        assert_eq!(rt;
+            told(alloc, tried(alloc, call, letters))?.as_str(),
+            want.as_str()
+        );
     }
     let want = format!(in alloc; "SELECT kept|1: 7|{mismatch}|")?;
-    assert_eq!(rt; told(alloc, tried(alloc, Call::Fetch, "ltl"))?.as_str(), want.as_str());
+    assert_eq!(rt;
+        told(alloc, tried(alloc, Call::Fetch, "ltl"))?.as_str(),
+        want.as_str()
+    );
     Ok(())
 }
 

@@ -50,9 +50,15 @@ fn runs_queries_and_raw_texts(rt: HostRuntime) -> Result<(), Fail> {
         ),
     ] {
         let want = format!(in alloc; "SELECT kept|1|x: {given}")?;
-        assert_eq!(rt; told(alloc, bound(alloc, call, letters))?.as_str(), want.as_str());
+        assert_eq!(rt;
+            told(alloc, bound(alloc, call, letters))?.as_str(),
+            want.as_str()
+        );
         let want = format!(in alloc; "DELETE; SELECT bare: {given}")?;
-        assert_eq!(rt; told(alloc, raw(alloc, call, letters))?.as_str(), want.as_str());
+        assert_eq!(rt;
+            told(alloc, raw(alloc, call, letters))?.as_str(),
+            want.as_str()
+        );
     }
     Ok(())
 }

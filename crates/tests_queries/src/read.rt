@@ -33,7 +33,8 @@ fn scalars(alloc: Global, call: Call, letters: &str) -> Result<String, Error> {
     Ok(asked(alloc, conn, given)?)
 }
 
-const MISMATCH: &str = "error occurred while decoding column 0: mismatched types; Rust type `i64` (as SQL type `BIGINT`) is not compatible with SQL type `TEXT`";
+const MISMATCH: &str =
+    "error occurred while decoding column 0: mismatched types; Rust type `i64` (as SQL type `BIGINT`) is not compatible with SQL type `TEXT`";
 
 #[test]
 fn reads_rows_and_columns(rt: HostRuntime) -> Result<(), Fail> {
@@ -52,7 +53,10 @@ fn reads_rows_and_columns(rt: HostRuntime) -> Result<(), Fail> {
         (Call::FetchOne, "tl", MISMATCH),
     ] {
         let want = format!(in alloc; "SELECT|1: {given}")?;
-        assert_eq!(rt; told(alloc, scalars(alloc, call, letters))?.as_str(), want.as_str());
+        assert_eq!(rt;
+            told(alloc, scalars(alloc, call, letters))?.as_str(),
+            want.as_str()
+        );
     }
     for (call, letters, given) in [
         (Call::Fetch, "ll2", "(7,)|(7,)|"),
@@ -61,7 +65,10 @@ fn reads_rows_and_columns(rt: HostRuntime) -> Result<(), Fail> {
         (Call::FetchOne, "lt2", "(7,)"),
     ] {
         let want = format!(in alloc; "SELECT|1: {given}")?;
-        assert_eq!(rt; told(alloc, tuples(alloc, call, letters))?.as_str(), want.as_str());
+        assert_eq!(rt;
+            told(alloc, tuples(alloc, call, letters))?.as_str(),
+            want.as_str()
+        );
     }
     Ok(())
 }

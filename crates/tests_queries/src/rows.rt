@@ -60,21 +60,27 @@ fn makes_a_struct(rt: HostRuntime) -> Result<(), Fail> {
     Ok(())
 }
 
-// The column and the value at a position: the number 101 at the first one, and so on; a text at one of them.
-fn at(ordinal: u8, text_at: u8) -> (ToyColumn, ToyValue) {
+// Puts the column and the value of a position: the number 101 at the first one, and so on; a text at one of them.
+fn put(
+    columns: &mut Vec<ToyColumn>,
+    values: &mut Vec<ToyValue>,
+    ordinal: u8,
+    text_at: u8,
+) -> Result<(), OutOfMemory> {
     let (kind, held) = if ordinal == text_at {
         (AnyTypeInfoKind::Text, Held::Text(UStr::from_static("x")))
     } else {
         let number = 101 + i64::from(ordinal);
         (AnyTypeInfoKind::BigInt, Held::Whole(number))
     };
-    let column = ToyColumn {
+    columns.push(ToyColumn {
         ordinal: usize::from(ordinal),
         name: UStr::from_static(""),
         type_info: ToyType::of(kind),
-    };
+    })?;
     let kind = Some(kind);
-    (column, ToyValue { kind, held })
+    values.push(ToyValue { kind, held })?;
+    Ok(())
 }
 
 // A row of so many columns.
@@ -82,9 +88,7 @@ fn numbers(alloc: Global, count: u8, text_at: u8) -> Result<ToyRow, Error> {
     let mut columns = Vec::new(alloc);
     let mut values = Vec::new(alloc);
     for ordinal in 0..count {
-        let (column, value) = at(ordinal, text_at);
-        columns.push(column)?;
-        values.push(value)?;
+        put(&mut columns, &mut values, ordinal, text_at)?;
     }
     ToyRow::new(columns, values)
 }
@@ -92,7 +96,22 @@ fn numbers(alloc: Global, count: u8, text_at: u8) -> Result<ToyRow, Error> {
 type Eight = (i64, i64, i64, i64, i64, i64, i64, i64);
 
 type Sixteen = (
-    i64, i64, i64, i64, i64, i64, i64, i64, i64, i64, i64, i64, i64, i64, i64, i64,
+    i64,
+    i64,
+    i64,
+    i64,
+    i64,
+    i64,
+    i64,
+    i64,
+    i64,
+    i64,
+    i64,
+    i64,
+    i64,
+    i64,
+    i64,
+    i64,
 );
 
 // Sixteen numbers, each from the column at its position.
@@ -121,7 +140,10 @@ fn tuples_read_each_column_in_turn(rt: HostRuntime) -> Result<(), Fail> {
         shown(alloc, eight(alloc, &row))?.as_str(),
         "[101, 102, 103, 104, 105, 106, 107, 108]"
     );
-    assert_eq!(rt; shown(alloc, made::<Toy, (i64,)>(alloc, &row))?.as_str(), "(101,)");
+    assert_eq!(rt;
+        shown(alloc, made::<Toy, (i64,)>(alloc, &row))?.as_str(),
+        "(101,)"
+    );
     assert_eq!(rt; shown(alloc, made::<Toy, ()>(alloc, &row))?.as_str(), "()");
     Ok(())
 }

@@ -178,8 +178,14 @@ fn a_statement_is_asked(rt: HostRuntime) -> Result<(), Fail> {
         let bare = format!(in alloc; "SELECT kept prepared: {given}")?;
         let with = format!(in alloc; "SELECT kept prepared|3: {given}")?;
         for calls in [false, true] {
-            assert_eq!(rt; told(alloc, ran(alloc, ask, calls))?.as_str(), bare.as_str());
-            assert_eq!(rt; told(alloc, ran_with(alloc, ask, calls))?.as_str(), with.as_str());
+            assert_eq!(rt;
+                told(alloc, ran(alloc, ask, calls))?.as_str(),
+                bare.as_str()
+            );
+            assert_eq!(rt;
+                told(alloc, ran_with(alloc, ask, calls))?.as_str(),
+                with.as_str()
+            );
         }
     }
     Ok(())
