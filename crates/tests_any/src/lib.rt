@@ -12,8 +12,6 @@ mod drivers;
 #[cfg(test)]
 mod executors;
 #[cfg(test)]
-mod laws;
-#[cfg(test)]
 mod native;
 #[cfg(test)]
 mod options;

@@ -6,8 +6,8 @@ use sqlx_text::{Depth, Error};
 use std::alloc::Global;
 use std::test::*;
 use tests_backend::StubBackend;
+use tests_database::Toy;
 use tests_database::answers::told;
-use tests_database::{Toy, ToyConnectOptions};
 
 // The URL of options that are made of a text, of a copy, and of options that are made of the URL.
 fn urls<O: ConnectOptions + Drop>(alloc: Global, text: &str) -> Result<String, Error> {
@@ -32,8 +32,6 @@ fn options_keep_their_url(rt: HostRuntime) -> Result<(), Fail> {
         ("no url", none),
     ] {
         let answer = urls::<AnyConnectOptions>(alloc, text);
-        assert_eq!(rt; told(alloc, answer)?.as_str(), want);
-        let answer = urls::<ToyConnectOptions>(alloc, text);
         assert_eq!(rt; told(alloc, answer)?.as_str(), want);
     }
     Ok(())

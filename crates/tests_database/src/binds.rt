@@ -1,6 +1,10 @@
 //! What the database takes as arguments, and the types of the Rust types. It refuses truth values, but not their nulls.
-ghost use Rattle.std.specs.Prelude.{◌≡◌, ◌++◌, ◌∷◌, [], IfErr, IfOk, OnErr, OnOk, codes, length, take};
+ghost use Rattle.std.specs.Prelude.{◌≡◌, ◌++◌, ◌∷◌, [], IfErr, IfOk, None, OnErr, OnOk, Some, codes, length, string_bytes, take};
+ghost use Rattle.sqlx_text.specs.declared.fault.Fault.TheVariants as faults;
+ghost use Rattle.sqlx_text.specs.declared.kind.AnyTypeInfoKind.TheVariants as kinds;
 ghost use Rattle.sqlx_traits.specs.Arguments.{AddsOne, IsWantOfMemory};
+ghost use Rattle.sqlx_traits.specs.declared.encode.IsNull.TheVariants.{No, Yes};
+ghost use Rattle.tests_database.specs.declared.value.Held.TheVariants as holds;
 ghost use Rattle.tests_database.specs.Values.{null_of, of_kind};
 
 use crate::{Bytes, Held, Toy, ToyArgumentList, ToyType, ToyValue};
@@ -46,15 +50,11 @@ fn copied(alloc: Global, bytes: &[u8]) -> Result<Vec<u8>, OutOfMemory>
 }
 
 impl<'q> Encode<'q, Toy> for bool {
-    ghost use Rattle.std.specs.Prelude.{◌≡◌, None};
-    ghost use Rattle.sqlx_text.specs.declared.fault.Fault.TheVariants.{OutOfRange};
-    ghost use Rattle.sqlx_traits.specs.declared.encode.IsNull.TheVariants.{No};
-
     ghost encoded = { λ _ list. list };
 
     ghost null = { λ _. No };
 
-    ghost refuses = { λ _ fault. fault ≡ OutOfRange };
+    ghost refuses = { λ _ fault. fault ≡ faults.OutOfRange };
 
     ghost produced = { λ _. None };
 
@@ -78,14 +78,11 @@ impl<'q> Encode<'q, Toy> for bool {
 }
 
 impl SqlType<Toy> for bool {
-    ghost use Rattle.std.specs.Prelude.{Some, codes};
-    ghost use Rattle.sqlx_text.specs.declared.kind.AnyTypeInfoKind.TheVariants as kind;
-
     ghost called = { codes "bool" };
 
-    ghost own_type = { record { kind = Some kind.Bool } };
+    ghost own_type = { record { kind = Some kinds.Bool } };
 
-    ghost reads_type = { λ ty. ⟦<ToyType as TypeInfo>⟧.accepts (record { kind = Some kind.Bool }) ty };
+    ghost reads_type = { λ ty. ⟦<ToyType as TypeInfo>⟧.accepts (record { kind = Some kinds.Bool }) ty };
 
     fn name() -> &'static str {
         "bool"
@@ -101,14 +98,7 @@ impl SqlType<Toy> for bool {
 }
 
 impl<'q> Encode<'q, Toy> for i16 {
-    ghost use Rattle.std.specs.Prelude.{◌++◌, ◌∷◌, [], None};
-    ghost use Rattle.sqlx_text.specs.declared.kind.AnyTypeInfoKind.TheVariants as kind;
-    ghost use Rattle.sqlx_traits.specs.Arguments.{IsWantOfMemory};
-    ghost use Rattle.sqlx_traits.specs.declared.encode.IsNull.TheVariants.{No};
-    ghost use Rattle.tests_database.specs.declared.value.Held.TheVariants as held;
-    ghost use Rattle.tests_database.specs.Values.{of_kind};
-
-    ghost encoded = { λ x list. list ++ of_kind kind.SmallInt (held.Whole x) ∷ [] };
+    ghost encoded = { λ x list. list ++ of_kind kinds.SmallInt (holds.Whole x) ∷ [] };
 
     ghost null = { λ _. No };
 
@@ -144,14 +134,11 @@ impl<'q> Encode<'q, Toy> for i16 {
 }
 
 impl SqlType<Toy> for i16 {
-    ghost use Rattle.std.specs.Prelude.{Some, codes};
-    ghost use Rattle.sqlx_text.specs.declared.kind.AnyTypeInfoKind.TheVariants as kind;
-
     ghost called = { codes "i16" };
 
-    ghost own_type = { record { kind = Some kind.SmallInt } };
+    ghost own_type = { record { kind = Some kinds.SmallInt } };
 
-    ghost reads_type = { λ ty. ⟦<ToyType as TypeInfo>⟧.accepts (record { kind = Some kind.SmallInt }) ty };
+    ghost reads_type = { λ ty. ⟦<ToyType as TypeInfo>⟧.accepts (record { kind = Some kinds.SmallInt }) ty };
 
     fn name() -> &'static str {
         "i16"
@@ -167,14 +154,7 @@ impl SqlType<Toy> for i16 {
 }
 
 impl<'q> Encode<'q, Toy> for i32 {
-    ghost use Rattle.std.specs.Prelude.{◌++◌, ◌∷◌, [], None};
-    ghost use Rattle.sqlx_text.specs.declared.kind.AnyTypeInfoKind.TheVariants as kind;
-    ghost use Rattle.sqlx_traits.specs.Arguments.{IsWantOfMemory};
-    ghost use Rattle.sqlx_traits.specs.declared.encode.IsNull.TheVariants.{No};
-    ghost use Rattle.tests_database.specs.declared.value.Held.TheVariants as held;
-    ghost use Rattle.tests_database.specs.Values.{of_kind};
-
-    ghost encoded = { λ x list. list ++ of_kind kind.Integer (held.Whole x) ∷ [] };
+    ghost encoded = { λ x list. list ++ of_kind kinds.Integer (holds.Whole x) ∷ [] };
 
     ghost null = { λ _. No };
 
@@ -206,14 +186,11 @@ impl<'q> Encode<'q, Toy> for i32 {
 }
 
 impl SqlType<Toy> for i32 {
-    ghost use Rattle.std.specs.Prelude.{Some, codes};
-    ghost use Rattle.sqlx_text.specs.declared.kind.AnyTypeInfoKind.TheVariants as kind;
-
     ghost called = { codes "i32" };
 
-    ghost own_type = { record { kind = Some kind.Integer } };
+    ghost own_type = { record { kind = Some kinds.Integer } };
 
-    ghost reads_type = { λ ty. ⟦<ToyType as TypeInfo>⟧.accepts (record { kind = Some kind.Integer }) ty };
+    ghost reads_type = { λ ty. ⟦<ToyType as TypeInfo>⟧.accepts (record { kind = Some kinds.Integer }) ty };
 
     fn name() -> &'static str {
         "i32"
@@ -229,14 +206,7 @@ impl SqlType<Toy> for i32 {
 }
 
 impl<'q> Encode<'q, Toy> for i64 {
-    ghost use Rattle.std.specs.Prelude.{◌++◌, ◌∷◌, [], None};
-    ghost use Rattle.sqlx_text.specs.declared.kind.AnyTypeInfoKind.TheVariants as kind;
-    ghost use Rattle.sqlx_traits.specs.Arguments.{IsWantOfMemory};
-    ghost use Rattle.sqlx_traits.specs.declared.encode.IsNull.TheVariants.{No};
-    ghost use Rattle.tests_database.specs.declared.value.Held.TheVariants as held;
-    ghost use Rattle.tests_database.specs.Values.{of_kind};
-
-    ghost encoded = { λ x list. list ++ of_kind kind.BigInt (held.Whole x) ∷ [] };
+    ghost encoded = { λ x list. list ++ of_kind kinds.BigInt (holds.Whole x) ∷ [] };
 
     ghost null = { λ _. No };
 
@@ -264,14 +234,11 @@ impl<'q> Encode<'q, Toy> for i64 {
 }
 
 impl SqlType<Toy> for i64 {
-    ghost use Rattle.std.specs.Prelude.{Some, codes};
-    ghost use Rattle.sqlx_text.specs.declared.kind.AnyTypeInfoKind.TheVariants as kind;
-
     ghost called = { codes "i64" };
 
-    ghost own_type = { record { kind = Some kind.BigInt } };
+    ghost own_type = { record { kind = Some kinds.BigInt } };
 
-    ghost reads_type = { λ ty. ⟦<ToyType as TypeInfo>⟧.accepts (record { kind = Some kind.BigInt }) ty };
+    ghost reads_type = { λ ty. ⟦<ToyType as TypeInfo>⟧.accepts (record { kind = Some kinds.BigInt }) ty };
 
     fn name() -> &'static str {
         "i64"
@@ -287,14 +254,7 @@ impl SqlType<Toy> for i64 {
 }
 
 impl<'q> Encode<'q, Toy> for &str {
-    ghost use Rattle.std.specs.Prelude.{◌++◌, ◌∷◌, [], None};
-    ghost use Rattle.sqlx_text.specs.declared.kind.AnyTypeInfoKind.TheVariants as kind;
-    ghost use Rattle.sqlx_traits.specs.Arguments.{IsWantOfMemory};
-    ghost use Rattle.sqlx_traits.specs.declared.encode.IsNull.TheVariants.{No};
-    ghost use Rattle.tests_database.specs.declared.value.Held.TheVariants as held;
-    ghost use Rattle.tests_database.specs.Values.{of_kind};
-
-    ghost encoded = { λ x list. list ++ of_kind kind.Text (held.Text x.now) ∷ [] };
+    ghost encoded = { λ x list. list ++ of_kind kinds.Text (holds.Text x.now) ∷ [] };
 
     ghost null = { λ _. No };
 
@@ -330,14 +290,11 @@ impl<'q> Encode<'q, Toy> for &str {
 }
 
 impl<'s> SqlType<Toy> for &'s str {
-    ghost use Rattle.std.specs.Prelude.{Some, codes};
-    ghost use Rattle.sqlx_text.specs.declared.kind.AnyTypeInfoKind.TheVariants as kind;
-
     ghost called = { codes "&str" };
 
-    ghost own_type = { record { kind = Some kind.Text } };
+    ghost own_type = { record { kind = Some kinds.Text } };
 
-    ghost reads_type = { λ ty. ⟦<ToyType as TypeInfo>⟧.accepts (record { kind = Some kind.Text }) ty };
+    ghost reads_type = { λ ty. ⟦<ToyType as TypeInfo>⟧.accepts (record { kind = Some kinds.Text }) ty };
 
     fn name() -> &'static str
         ensures { result.now ≡ codes "&str" }
@@ -359,14 +316,7 @@ impl<'s> SqlType<Toy> for &'s str {
 }
 
 impl<'q> Encode<'q, Toy> for String {
-    ghost use Rattle.std.specs.Prelude.{◌++◌, ◌∷◌, [], None, string_bytes};
-    ghost use Rattle.sqlx_text.specs.declared.kind.AnyTypeInfoKind.TheVariants as kind;
-    ghost use Rattle.sqlx_traits.specs.Arguments.{IsWantOfMemory};
-    ghost use Rattle.sqlx_traits.specs.declared.encode.IsNull.TheVariants.{No};
-    ghost use Rattle.tests_database.specs.declared.value.Held.TheVariants as held;
-    ghost use Rattle.tests_database.specs.Values.{of_kind};
-
-    ghost encoded = { λ x list. list ++ of_kind kind.Text (held.Text (string_bytes x)) ∷ [] };
+    ghost encoded = { λ x list. list ++ of_kind kinds.Text (holds.Text (string_bytes x)) ∷ [] };
 
     ghost null = { λ _. No };
 
@@ -402,14 +352,11 @@ impl<'q> Encode<'q, Toy> for String {
 }
 
 impl SqlType<Toy> for String {
-    ghost use Rattle.std.specs.Prelude.{Some, codes};
-    ghost use Rattle.sqlx_text.specs.declared.kind.AnyTypeInfoKind.TheVariants as kind;
-
     ghost called = { codes "String" };
 
-    ghost own_type = { record { kind = Some kind.Text } };
+    ghost own_type = { record { kind = Some kinds.Text } };
 
-    ghost reads_type = { λ ty. ⟦<ToyType as TypeInfo>⟧.accepts (record { kind = Some kind.Text }) ty };
+    ghost reads_type = { λ ty. ⟦<ToyType as TypeInfo>⟧.accepts (record { kind = Some kinds.Text }) ty };
 
     fn name() -> &'static str {
         "String"
@@ -425,14 +372,7 @@ impl SqlType<Toy> for String {
 }
 
 impl<'q> Encode<'q, Toy> for Vec<u8> {
-    ghost use Rattle.std.specs.Prelude.{◌++◌, ◌∷◌, [], None};
-    ghost use Rattle.sqlx_text.specs.declared.kind.AnyTypeInfoKind.TheVariants as kind;
-    ghost use Rattle.sqlx_traits.specs.Arguments.{IsWantOfMemory};
-    ghost use Rattle.sqlx_traits.specs.declared.encode.IsNull.TheVariants.{No};
-    ghost use Rattle.tests_database.specs.declared.value.Held.TheVariants as held;
-    ghost use Rattle.tests_database.specs.Values.{of_kind};
-
-    ghost encoded = { λ x list. list ++ of_kind kind.Blob (held.Bytes x.items) ∷ [] };
+    ghost encoded = { λ x list. list ++ of_kind kinds.Blob (holds.Bytes x.items) ∷ [] };
 
     ghost null = { λ _. No };
 
@@ -468,14 +408,11 @@ impl<'q> Encode<'q, Toy> for Vec<u8> {
 }
 
 impl SqlType<Toy> for Vec<u8> {
-    ghost use Rattle.std.specs.Prelude.{Some, codes};
-    ghost use Rattle.sqlx_text.specs.declared.kind.AnyTypeInfoKind.TheVariants as kind;
-
     ghost called = { codes "Vec<u8>" };
 
-    ghost own_type = { record { kind = Some kind.Blob } };
+    ghost own_type = { record { kind = Some kinds.Blob } };
 
-    ghost reads_type = { λ ty. ⟦<ToyType as TypeInfo>⟧.accepts (record { kind = Some kind.Blob }) ty };
+    ghost reads_type = { λ ty. ⟦<ToyType as TypeInfo>⟧.accepts (record { kind = Some kinds.Blob }) ty };
 
     fn name() -> &'static str {
         "Vec<u8>"
@@ -491,11 +428,6 @@ impl SqlType<Toy> for Vec<u8> {
 }
 
 impl<'q, T: Encode<'q, Toy> + SqlType<Toy>> Encode<'q, Toy> for Option<T> {
-    ghost use Rattle.std.specs.Prelude.{◌++◌, ◌∷◌, [], None, Some};
-    ghost use Rattle.sqlx_traits.specs.Arguments.{IsWantOfMemory};
-    ghost use Rattle.sqlx_traits.specs.declared.encode.IsNull.TheVariants.{Yes};
-    ghost use Rattle.tests_database.specs.Values.{null_of};
-
     ghost encoded = { λ x list. elim x [ None ↦ list ++ null_of T.own_type.kind ∷ [] | Some y ↦ T.encoded y list ] };
 
     ghost null = { λ x. elim x [ None ↦ Yes | Some y ↦ T.null y ] };

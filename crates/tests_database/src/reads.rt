@@ -1,4 +1,5 @@
 //! What is read of values: each Rust type reads what it is encoded as.
+ghost use Rattle.std.specs.Prelude.{⊤};
 
 use crate::{Held, Toy, ToyValue};
 use sqlx_text::{Fault, OutOfMemory};
@@ -35,8 +36,6 @@ fn copied(alloc: Global, bytes: &[u8]) -> Result<Vec<u8>, OutOfMemory> {
 }
 
 impl DecodeOwned<Toy> for bool {
-    ghost use Rattle.std.specs.Prelude.{⊤};
-
     ghost reads = { λ _ _. ⊤ };
 
     fn decode_owned(_alloc: Global, value: &ToyValue) -> Result<bool, Fault> {
@@ -48,8 +47,6 @@ impl DecodeOwned<Toy> for bool {
 }
 
 impl DecodeOwned<Toy> for i16 {
-    ghost use Rattle.std.specs.Prelude.{⊤};
-
     ghost reads = { λ _ _. ⊤ };
 
     fn decode_owned(_alloc: Global, value: &ToyValue) -> Result<i16, Fault> {
@@ -61,8 +58,6 @@ impl DecodeOwned<Toy> for i16 {
 }
 
 impl DecodeOwned<Toy> for i32 {
-    ghost use Rattle.std.specs.Prelude.{⊤};
-
     ghost reads = { λ _ _. ⊤ };
 
     fn decode_owned(_alloc: Global, value: &ToyValue) -> Result<i32, Fault> {
@@ -74,8 +69,6 @@ impl DecodeOwned<Toy> for i32 {
 }
 
 impl DecodeOwned<Toy> for i64 {
-    ghost use Rattle.std.specs.Prelude.{⊤};
-
     ghost reads = { λ _ _. ⊤ };
 
     fn decode_owned(_alloc: Global, value: &ToyValue) -> Result<i64, Fault> {
@@ -84,8 +77,6 @@ impl DecodeOwned<Toy> for i64 {
 }
 
 impl<'r> Decode<'r, Toy> for &'r str {
-    ghost use Rattle.std.specs.Prelude.{⊤};
-
     ghost reads = { λ _ _. ⊤ };
 
     fn decode(_alloc: Global, value: &'r ToyValue) -> Result<&'r str, Fault> {
@@ -94,8 +85,6 @@ impl<'r> Decode<'r, Toy> for &'r str {
 }
 
 impl DecodeOwned<Toy> for String {
-    ghost use Rattle.std.specs.Prelude.{⊤};
-
     ghost reads = { λ _ _. ⊤ };
 
     fn decode_owned(alloc: Global, value: &ToyValue) -> Result<String, Fault> {
@@ -107,8 +96,6 @@ impl DecodeOwned<Toy> for String {
 }
 
 impl DecodeOwned<Toy> for Vec<u8> {
-    ghost use Rattle.std.specs.Prelude.{⊤};
-
     ghost reads = { λ _ _. ⊤ };
 
     fn decode_owned(alloc: Global, value: &ToyValue) -> Result<Vec<u8>, Fault> {
