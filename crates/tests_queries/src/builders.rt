@@ -1,15 +1,14 @@
 //! Statements that are built piece by piece, with the numbered placeholders of the toy database, and what is asked of them.
 ghost use Rattle.std.specs.Prelude.{◌≡◌, Bool, IfOk};
 
-use crate::calls::{asked, of_query, of_read};
+use crate::calls::{numbers, ran, ran_read};
 use sqlx_query::{PushTuple, QueryBuilder, Separated, placeholders_are_arguments};
 use sqlx_text::{Error, Fault, OutOfMemory};
-use sqlx_traits::*;
 use std::alloc::Global;
 use std::test::*;
+use tests_database::Toy;
 use tests_database::answers::{taken, told};
 use tests_database::steps::Call;
-use tests_database::{Toy, ToyArguments, ToyConnection};
 
 type Builder = QueryBuilder<Toy>;
 
@@ -17,8 +16,7 @@ type Builder = QueryBuilder<Toy>;
 fn started(alloc: Global, init: &str) -> Result<Builder, Error>
     ensures { IfOk result (λ builder. builder.built ≡ Bool.false) }
 {
-    let mut args = <ToyArguments as Arguments<Toy>>::new(alloc);
-    args.add(alloc, 9i64)?;
+    let args = numbers(alloc, &[9])?;
     Ok(QueryBuilder::with_arguments(alloc, init.to_string(alloc)?, args))
 }
 
@@ -28,9 +26,7 @@ fn run(alloc: Global, builder: &mut Builder) -> Result<String, Error> {
         return Ok("built".to_string(alloc)?);
     }
     let query = builder.build(alloc)?;
-    let mut conn = ToyConnection::new(alloc, "2")?;
-    let given = of_query::<Toy, ToyConnection>(alloc, Call::Execute, query, &mut conn);
-    Ok(asked(alloc, conn, given)?)
+    ran(alloc, "2", Call::Execute, query)
 }
 
 fn pushed(alloc: Global) -> Result<String, Error> {
@@ -227,17 +223,13 @@ fn a_refusal_leaves_the_builder(rt: HostRuntime) -> Result<(), Fail> {
 fn built_as(alloc: Global) -> Result<String, Error> {
     let mut builder = started(alloc, "SELECT $1")?;
     let query = builder.build_query_as::<(i64,)>(alloc)?;
-    let mut conn = ToyConnection::new(alloc, "l")?;
-    let given = of_read(alloc, Call::FetchOne, query, &mut conn);
-    Ok(asked(alloc, conn, given)?)
+    ran_read(alloc, "l", Call::FetchOne, query)
 }
 
 fn built_scalar(alloc: Global) -> Result<String, Error> {
     let mut builder = started(alloc, "SELECT $1")?;
     let query = builder.build_query_scalar::<i64>(alloc)?;
-    let mut conn = ToyConnection::new(alloc, "l")?;
-    let given = of_read(alloc, Call::FetchOne, query, &mut conn);
-    Ok(asked(alloc, conn, given)?)
+    ran_read(alloc, "l", Call::FetchOne, query)
 }
 
 fn built_anew(alloc: Global) -> Result<String, Error> {

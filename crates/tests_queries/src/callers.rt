@@ -55,7 +55,7 @@ fn article(alloc: Global) -> Result<String, Error> {
     let mut conn = ToyConnection::new(alloc, "t")?;
     let row = first_article::<Toy, ToyConnection, &str>(alloc, &mut conn, "x");
     let given = one_row::<Toy>(alloc, row);
-    Ok(asked(alloc, conn, given)?)
+    asked(alloc, conn, given)
 }
 
 fn notes(alloc: Global) -> Result<String, Error> {

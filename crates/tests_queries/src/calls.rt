@@ -1,14 +1,13 @@
 //! What each call that runs a query gives of it, through the bounds alone, as a text.
-ghost use Rattle.std.specs.Prelude.{◌≡◌};
 
 use sqlx_query::{Map, Mapper, Query, RawSql, ReadQuery, Reader};
-use sqlx_text::{Error, OutOfMemory};
+use sqlx_text::{Error, Fault, OutOfMemory};
 use sqlx_traits::*;
 use std::alloc::Global;
 use std::fmt::Debug;
-use tests_database::ToyConnection;
 use tests_database::answers::{shown, told};
 use tests_database::steps::*;
+use tests_database::{Toy, ToyArguments, ToyConnection, ToyRow};
 
 /// What a call gives of a query.
 pub fn of_query<'q, DB: Database, E: Executor<DB>>(
@@ -142,8 +141,60 @@ pub fn asked(
     alloc: Global,
     conn: ToyConnection,
     given: Result<String, Error>,
-) -> Result<String, OutOfMemory> {
+) -> Result<String, Error> {
     let given = told(alloc, given)?;
     let asked = conn.asked_shown(alloc)?;
     Ok(format!(in alloc; "{asked}: {given}")?)
+}
+
+/// What the toy database is asked by a query that runs, and what comes of the steps by letters.
+pub fn ran(
+    alloc: Global,
+    letters: &str,
+    call: Call,
+    query: Query<'_, Toy, ToyArguments>,
+) -> Result<String, Error> {
+    let mut conn = ToyConnection::new(alloc, letters)?;
+    let given = of_query::<Toy, ToyConnection>(alloc, call, query, &mut conn);
+    asked(alloc, conn, given)
+}
+
+/// The same of a query whose rows are read as values.
+pub fn ran_read<M: Reader<Toy>>(
+    alloc: Global,
+    letters: &str,
+    call: Call,
+    query: ReadQuery<'_, Toy, M, ToyArguments>,
+) -> Result<String, Error>
+where
+    M::Out: Debug,
+{
+    let mut conn = ToyConnection::new(alloc, letters)?;
+    let given = of_read::<Toy, M, ToyConnection>(alloc, call, query, &mut conn);
+    asked(alloc, conn, given)
+}
+
+/// The same of a query whose rows are mapped.
+pub fn ran_map<F: Mapper<ToyRow> + Drop>(
+    alloc: Global,
+    letters: &str,
+    call: Call,
+    query: Map<'_, Toy, F, ToyArguments>,
+) -> Result<String, Error>
+where
+    F::Out: Debug + Drop,
+    requires { F.ready query.mapper }
+{
+    let mut conn = ToyConnection::new(alloc, letters)?;
+    let given = of_map::<Toy, F, ToyConnection>(alloc, call, query, &mut conn);
+    asked(alloc, conn, given)
+}
+
+/// Arguments that are these numbers.
+pub fn numbers(alloc: Global, numbers: &[i64]) -> Result<ToyArguments, Fault> {
+    let mut args = <ToyArguments as Arguments<Toy>>::new(alloc);
+    for number in numbers {
+        args.add(alloc, *number)?;
+    }
+    Ok(args)
 }

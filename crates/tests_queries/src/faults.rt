@@ -1,15 +1,13 @@
 //! Arguments that can't be encoded: what a query says of them, and that nothing is run. The toy database refuses truth values.
 
-use crate::calls::{asked, of_query, of_read};
+use crate::calls::{ran, ran_read};
 use sqlx_query::*;
 use sqlx_text::{Error, Fault};
-use sqlx_traits::*;
 use std::alloc::Global;
-use std::fmt::Debug;
 use std::test::*;
 use tests_database::answers::{taken, told};
 use tests_database::steps::Call;
-use tests_database::{Toy, ToyArguments, ToyConnection};
+use tests_database::{Toy, ToyArguments};
 
 const FIRST: &str =
     "nothing: error occurred while encoding a value: Encoding argument $1 failed: out of range integral type conversion attempted";
@@ -17,26 +15,19 @@ const FIRST: &str =
 const OUT_OF_RANGE: &str =
     "nothing: error occurred while encoding a value: out of range integral type conversion attempted";
 
-// What comes of a query that runs.
-fn run(alloc: Global, call: Call, query: Query<'_, Toy, ToyArguments>) -> Result<String, Error> {
-    let mut conn = ToyConnection::new(alloc, "t2")?;
-    let given = of_query::<Toy, ToyConnection>(alloc, call, query, &mut conn);
-    Ok(asked(alloc, conn, given)?)
-}
-
 fn first(alloc: Global, call: Call) -> Result<String, Error> {
     let query = query::<Toy, _>(alloc, "SELECT")?
         .bind(alloc, true)
         .bind(alloc, 7i64)
         .bind(alloc, false);
-    run(alloc, call, query)
+    ran(alloc, "t2", call, query)
 }
 
 fn second(alloc: Global) -> Result<String, Error> {
     let query = query::<Toy, _>(alloc, "SELECT")?
         .bind(alloc, 7i64)
         .bind(alloc, true);
-    run(alloc, Call::Execute, query)
+    ran(alloc, "t2", Call::Execute, query)
 }
 
 #[test]
@@ -59,8 +50,8 @@ fn tells_the_first_fault(rt: HostRuntime) -> Result<(), Fail> {
 fn tried(alloc: Global) -> Result<String, Error> {
     let mut query = query::<Toy, _>(alloc, "SELECT")?.bind(alloc, 9i64);
     let answer = taken(alloc, query.try_bind(alloc, true))?;
-    let ran = run(alloc, Call::Execute, query)?;
-    Ok(format!(in alloc; "{answer}, {ran}")?)
+    let asked = ran(alloc, "t2", Call::Execute, query)?;
+    Ok(format!(in alloc; "{answer}, {asked}")?)
 }
 
 fn tried_behind_a_fault(alloc: Global) -> Result<String, Error> {
@@ -70,23 +61,9 @@ fn tried_behind_a_fault(alloc: Global) -> Result<String, Error> {
     Ok(taken(alloc, answer)?)
 }
 
-fn read<M: Reader<Toy>>(
-    alloc: Global,
-    query: ReadQuery<'_, Toy, M, ToyArguments>,
-) -> Result<String, Error>
-where
-    M::Out: Debug,
-{
-    let mut conn = ToyConnection::new(alloc, "l")?;
-    let given = of_read::<Toy, M, ToyConnection>(alloc, Call::FetchOne, query, &mut conn);
-    Ok(asked(alloc, conn, given)?)
-}
-
 fn of_scalar(alloc: Global) -> Result<String, Error> {
-    read(
-        alloc,
-        query_scalar::<Toy, i64, _>(alloc, "SELECT")?.bind(alloc, true),
-    )
+    let query = query_scalar::<Toy, i64, _>(alloc, "SELECT")?.bind(alloc, true);
+    ran_read(alloc, "l", Call::FetchOne, query)
 }
 
 #[test]
@@ -114,17 +91,17 @@ fn given() -> Result<ToyArguments, Fault> {
 
 fn with(alloc: Global) -> Result<String, Error> {
     let query = query_with_result::<Toy, _, _>(alloc, "INSERT", given())?;
-    run(alloc, Call::Execute, query)
+    ran(alloc, "t2", Call::Execute, query)
 }
 
 fn as_with(alloc: Global) -> Result<String, Error> {
     let query = query_as_with_result::<Toy, (i64,), _, _>(alloc, "SELECT", given())?;
-    read(alloc, query)
+    ran_read(alloc, "l", Call::FetchOne, query)
 }
 
 fn scalar_with(alloc: Global) -> Result<String, Error> {
     let query = query_scalar_with_result::<Toy, i64, _, _>(alloc, "SELECT", given())?;
-    read(alloc, query)
+    ran_read(alloc, "l", Call::FetchOne, query)
 }
 
 #[test]

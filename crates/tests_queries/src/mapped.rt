@@ -1,6 +1,6 @@
 //! Queries whose rows are mapped.
 
-use crate::calls::{asked, of_map};
+use crate::calls::ran_map;
 use sqlx_query::{Query, query};
 use sqlx_text::{Error, Fault, OutOfMemory};
 use sqlx_traits::*;
@@ -8,7 +8,7 @@ use std::alloc::Global;
 use std::test::*;
 use tests_database::answers::told;
 use tests_database::steps::Call;
-use tests_database::{Toy, ToyArguments, ToyConnection, ToyRow};
+use tests_database::{Toy, ToyArguments, ToyRow};
 
 // The number in a row's first column.
 fn number(alloc: Global, row: ToyRow) -> Result<i64, Error> {
@@ -45,16 +45,12 @@ fn mapped(alloc: Global, call: Call, letters: &str) -> Result<String, Error> {
     let map = select(alloc)?
         .persistent(false)
         .map(move |row: ToyRow| shown(alloc, row));
-    let mut conn = ToyConnection::new(alloc, letters)?;
-    let given = of_map(alloc, call, map, &mut conn);
-    Ok(asked(alloc, conn, given)?)
+    ran_map(alloc, letters, call, map)
 }
 
 fn tried(alloc: Global, call: Call, letters: &str) -> Result<String, Error> {
     let map = select(alloc)?.try_map(move |row: ToyRow| number(alloc, row));
-    let mut conn = ToyConnection::new(alloc, letters)?;
-    let given = of_map(alloc, call, map, &mut conn);
-    Ok(asked(alloc, conn, given)?)
+    ran_map(alloc, letters, call, map)
 }
 
 #[test]
@@ -103,18 +99,14 @@ fn mapped_twice(alloc: Global) -> Result<String, Error> {
         .persistent(false)
         .map(move |row: ToyRow| shown(alloc, row))
         .map(|number: i64| number > 0);
-    let mut conn = ToyConnection::new(alloc, "lt")?;
-    let given = of_map(alloc, Call::FetchAll, map, &mut conn);
-    Ok(asked(alloc, conn, given)?)
+    ran_map(alloc, "lt", Call::FetchAll, map)
 }
 
 fn tried_behind(alloc: Global) -> Result<String, Error> {
     let map = select(alloc)?
         .map(move |row: ToyRow| shown(alloc, row))
         .try_map(|number: i64| whole(number));
-    let mut conn = ToyConnection::new(alloc, "lt")?;
-    let given = of_map(alloc, Call::Fetch, map, &mut conn);
-    Ok(asked(alloc, conn, given)?)
+    ran_map(alloc, "lt", Call::Fetch, map)
 }
 
 #[test]

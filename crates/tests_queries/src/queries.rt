@@ -1,30 +1,27 @@
 //! The seven running calls of a query and of a raw text, and what a query takes its arguments from.
 
-use crate::calls::{asked, of_query, of_raw};
-use sqlx_query::{Query, query, query_with, query_with_result, raw_sql};
-use sqlx_text::{Error, Fault, OutOfMemory};
-use sqlx_traits::*;
+use crate::calls::{asked, numbers, of_raw, ran};
+use sqlx_query::{query, query_with, query_with_result, raw_sql};
+use sqlx_text::Error;
 use std::alloc::Global;
 use std::test::*;
 use tests_database::answers::told;
 use tests_database::steps::Call;
-use tests_database::{Toy, ToyArguments, ToyConnection};
+use tests_database::{Toy, ToyConnection};
 
 // A query of two arguments.
 fn bound(alloc: Global, call: Call, letters: &str) -> Result<String, Error> {
     let query = query::<Toy, _>(alloc, "SELECT")?
         .bind(alloc, 1i64)
         .bind(alloc, "x");
-    let mut conn = ToyConnection::new(alloc, letters)?;
-    let given = of_query::<Toy, ToyConnection>(alloc, call, query, &mut conn);
-    Ok(asked(alloc, conn, given)?)
+    ran(alloc, letters, call, query)
 }
 
 fn raw(alloc: Global, call: Call, letters: &str) -> Result<String, Error> {
     let raw = raw_sql(alloc, "DELETE; SELECT")?;
     let mut conn = ToyConnection::new(alloc, letters)?;
     let given = of_raw::<Toy, ToyConnection>(alloc, call, raw, &mut conn);
-    Ok(asked(alloc, conn, given)?)
+    asked(alloc, conn, given)
 }
 
 #[test]
@@ -63,41 +60,20 @@ fn runs_queries_and_raw_texts(rt: HostRuntime) -> Result<(), Fail> {
     Ok(())
 }
 
-// Arguments of these numbers.
-fn numbers(alloc: Global, numbers: &[i64]) -> Result<ToyArguments, Fault> {
-    let mut args = <ToyArguments as Arguments<Toy>>::new(alloc);
-    for number in numbers {
-        args.add(alloc, *number)?;
-    }
-    Ok(args)
-}
-
-// What is asked of a query that is executed.
-fn executed(
-    alloc: Global,
-    query: Result<Query<'_, Toy, ToyArguments>, OutOfMemory>,
-) -> Result<String, Error> {
-    let query = query?;
-    let mut conn = ToyConnection::new(alloc, "1")?;
-    let given = of_query::<Toy, ToyConnection>(alloc, Call::Execute, query, &mut conn);
-    Ok(asked(alloc, conn, given)?)
-}
-
 fn with(alloc: Global) -> Result<String, Error> {
-    let arguments = numbers(alloc, &[6, 7])?;
-    executed(alloc, query_with::<Toy, _, _>(alloc, "UPDATE", arguments))
+    let query = query_with::<Toy, _, _>(alloc, "UPDATE", numbers(alloc, &[6, 7])?)?;
+    ran(alloc, "1", Call::Execute, query)
 }
 
 fn with_result(alloc: Global) -> Result<String, Error> {
-    let arguments = numbers(alloc, &[8]);
-    let query = query_with_result::<Toy, _, _>(alloc, "UPDATE", arguments);
-    executed(alloc, query)
+    let query = query_with_result::<Toy, _, _>(alloc, "UPDATE", numbers(alloc, &[8]))?;
+    ran(alloc, "1", Call::Execute, query)
 }
 
 fn unkept(alloc: Global) -> Result<String, Error> {
     let mut query = query::<Toy, _>(alloc, "UPDATE")?.persistent(false);
     query.try_bind(alloc, 9i64)?;
-    executed(alloc, Ok(query))
+    ran(alloc, "1", Call::Execute, query)
 }
 
 #[test]

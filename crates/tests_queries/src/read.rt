@@ -1,36 +1,30 @@
 //! Queries whose rows become values, and queries of the first column; at the toy database and at a connection of `Any`.
 
-use crate::calls::{asked, of_read};
+use crate::calls::{asked, numbers, of_read, ran_read};
 use crate::rows::Note;
 use sqlx_any::{Any, AnyConnection};
 use sqlx_query::*;
-use sqlx_text::{Error, Fault};
-use sqlx_traits::*;
+use sqlx_text::Error;
 use std::alloc::Global;
-use std::fmt::Debug;
 use std::test::*;
 use tests_backend::StubBackend;
 use tests_database::answers::told;
 use tests_database::letters::row_of;
 use tests_database::steps::Call;
-use tests_database::{Toy, ToyArguments, ToyConnection};
+use tests_database::{Toy, ToyConnection};
 
 fn tuples(alloc: Global, call: Call, letters: &str) -> Result<String, Error> {
     let query = query_as::<Toy, (i64,), _>(alloc, "SELECT")?
         .bind(alloc, 1i64)
         .persistent(false);
-    let mut conn = ToyConnection::new(alloc, letters)?;
-    let given = of_read(alloc, call, query, &mut conn);
-    Ok(asked(alloc, conn, given)?)
+    ran_read(alloc, letters, call, query)
 }
 
 fn scalars(alloc: Global, call: Call, letters: &str) -> Result<String, Error> {
     let query = query_scalar::<Toy, i64, _>(alloc, "SELECT")?
         .bind(alloc, 1i64)
         .persistent(false);
-    let mut conn = ToyConnection::new(alloc, letters)?;
-    let given = of_read(alloc, call, query, &mut conn);
-    Ok(asked(alloc, conn, given)?)
+    ran_read(alloc, letters, call, query)
 }
 
 const MISMATCH: &str =
@@ -73,48 +67,28 @@ fn reads_rows_and_columns(rt: HostRuntime) -> Result<(), Fail> {
     Ok(())
 }
 
-// Arguments of a number.
-fn number(alloc: Global, number: i64) -> Result<ToyArguments, Fault> {
-    let mut args = <ToyArguments as Arguments<Toy>>::new(alloc);
-    args.add(alloc, number)?;
-    Ok(args)
-}
-
-// What a query's first row is read as.
-fn first<M: Reader<Toy>>(
-    alloc: Global,
-    query: ReadQuery<'_, Toy, M, ToyArguments>,
-) -> Result<String, Error>
-where
-    M::Out: Debug,
-{
-    let mut conn = ToyConnection::new(alloc, "l")?;
-    let given = of_read::<Toy, M, ToyConnection>(alloc, Call::FetchOne, query, &mut conn);
-    Ok(asked(alloc, conn, given)?)
-}
-
 fn as_with(alloc: Global) -> Result<String, Error> {
-    let arguments = number(alloc, 6)?;
+    let arguments = numbers(alloc, &[6])?;
     let query = query_as_with::<Toy, (i64,), _, _>(alloc, "SELECT", arguments)?;
-    first(alloc, query)
+    ran_read(alloc, "l", Call::FetchOne, query)
 }
 
 fn as_with_result(alloc: Global) -> Result<String, Error> {
-    let arguments = number(alloc, 7);
+    let arguments = numbers(alloc, &[7]);
     let query = query_as_with_result::<Toy, (i64,), _, _>(alloc, "SELECT", arguments)?;
-    first(alloc, query)
+    ran_read(alloc, "l", Call::FetchOne, query)
 }
 
 fn scalar_with(alloc: Global) -> Result<String, Error> {
-    let arguments = number(alloc, 8)?;
+    let arguments = numbers(alloc, &[8])?;
     let query = query_scalar_with::<Toy, i64, _, _>(alloc, "SELECT", arguments)?;
-    first(alloc, query)
+    ran_read(alloc, "l", Call::FetchOne, query)
 }
 
 fn scalar_with_result(alloc: Global) -> Result<String, Error> {
-    let arguments = number(alloc, 9);
+    let arguments = numbers(alloc, &[9]);
     let query = query_scalar_with_result::<Toy, i64, _, _>(alloc, "SELECT", arguments)?;
-    first(alloc, query)
+    ran_read(alloc, "l", Call::FetchOne, query)
 }
 
 #[test]
@@ -135,7 +109,7 @@ fn note(alloc: Global, letters: &str) -> Result<String, Error> {
     let query = query_as::<Toy, Note, _>(alloc, "SELECT")?;
     let mut conn = ToyConnection::of_row(alloc, row_of(alloc, letters)?)?;
     let given = of_read(alloc, Call::FetchOne, query, &mut conn);
-    Ok(asked(alloc, conn, given)?)
+    asked(alloc, conn, given)
 }
 
 fn of_any(alloc: Global, letters: &str) -> Result<String, Error> {
