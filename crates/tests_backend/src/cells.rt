@@ -59,13 +59,23 @@ pub fn row_of(
     let mut columns = Vec::new(alloc);
     let mut values = Vec::new(alloc);
     for kind in kinds {
-        let ordinal = columns.len();
-        let name = names.get(ordinal).copied().unwrap_or("");
-        keep(&mut columns, column(ordinal, name, kind.kind()))?;
-        positions.insert(alloc, UStr::from_static(name), ordinal)?;
-        keep(&mut values, AnyValue { kind })?;
+        let name = names.get(values.len()).copied().unwrap_or("");
+        positions.insert(alloc, UStr::from_static(name), values.len())?;
+        put(&mut columns, &mut values, name, kind)?;
     }
     AnyRow::new(positions, columns, values)
+}
+
+// Puts a column and its value behind those that are there.
+fn put(
+    columns: &mut Vec<AnyColumn>,
+    values: &mut Vec<AnyValue>,
+    name: &'static str,
+    kind: AnyValueKind,
+) -> Result<(), OutOfMemory> {
+    let ordinal = columns.len();
+    keep(columns, column(ordinal, name, kind.kind()))?;
+    keep(values, AnyValue { kind })
 }
 
 /// A column.
