@@ -1,10 +1,9 @@
-//! A connection that hands out given steps, and whose other calls are refused on demand; and its levels.
-ghost use Rattle.std.specs.Prelude.{◌≡◌, ◌≤◌, IfErr, IfOk};
-ghost use Rattle.sqlx_traits.specs.Faults.{FaultCause, HasRisen};
+//! A connection that hands out given steps, and its levels.
+ghost use Rattle.std.specs.Prelude.{◌≡◌, IfOk};
 
 use crate::letters::single;
 use crate::{Asked, Toy, ToyQueryResult, ToyRow};
-use sqlx_text::{Depth, Error, IoFault, SqlStr};
+use sqlx_text::{Depth, Error, SqlStr};
 use sqlx_traits::*;
 use std::alloc::Global;
 use std::collections::VecDeque;
@@ -16,8 +15,6 @@ pub struct ToyConnection {
     pub(crate) breaks: bool,
     pub(crate) depth: usize,
     pub(crate) faults: u64,
-    /// Whether each call besides queries is refused that may be.
-    pub refuses: bool,
     /// What it was asked last.
     pub asked: Option<Asked>,
 }
@@ -47,7 +44,6 @@ impl ToyConnection {
             breaks,
             depth: 0,
             faults: 0,
-            refuses: false,
             asked: None,
         })
     }
@@ -61,31 +57,6 @@ impl ToyConnection {
         }
         conn.steps = Some(steps);
         Ok(conn)
-    }
-
-    // The refusal of a call, which is counted.
-    pub(crate) fn refused(&mut self) -> Error
-        ensures error { result ≡ Error.Io IoFault.Other }
-        ensures depth { self.new.depth ≡ self.old.depth }
-        ensures rises { self.old.faults ≤ self.new.faults }
-        ensures risen { HasRisen self.old.faults self.new.faults }
-    {
-        self.faults = self.faults.saturating_add(1);
-        Error::Io(IoFault::Other)
-    }
-
-    // A call that is refused on demand, and leaves the depth.
-    fn called(&mut self) -> Result<(), Error>
-        ensures error { IfErr result (λ e. e ≡ Error.Io IoFault.Other) }
-        ensures depth { self.new.depth ≡ self.old.depth }
-        ensures rises { self.old.faults ≤ self.new.faults }
-        ensures cause { IfErr result (λ e. FaultCause self.old.faults self.new.faults e) }
-    {
-        if self.refuses {
-            Err(self.refused())
-        } else {
-            Ok(())
-        }
     }
 }
 
@@ -125,7 +96,7 @@ impl Connection<Toy> for ToyConnection {
     }
 
     fn ping(&mut self) -> Result<(), Error> {
-        self.called()
+        Ok(())
     }
 
     fn cached_statements_size(&self) -> usize {
@@ -133,13 +104,13 @@ impl Connection<Toy> for ToyConnection {
     }
 
     fn clear_cached_statements(&mut self) -> Result<(), Error> {
-        self.called()
+        Ok(())
     }
 
     fn shrink_buffers(&mut self) {}
 
     fn flush(&mut self) -> Result<(), Error> {
-        self.called()
+        Ok(())
     }
 
     fn should_flush(&self) -> bool {
@@ -163,25 +134,22 @@ impl TransactionManager<Toy> for ToyTransactionManager {
             }
         }
         match conn.depth.checked_add(1) {
-            Some(depth) => match conn.called() {
-                Ok(()) => {
-                    conn.depth = depth;
-                    Ok(())
-                }
-                Err(error) => Err(error),
-            },
-            None => Err(conn.refused()),
+            Some(depth) => {
+                conn.depth = depth;
+                Ok(())
+            }
+            None => Err(Error::OutOfMemory),
         }
     }
 
     fn commit(_alloc: Global, conn: &mut ToyConnection) -> Result<(), Error> {
         conn.depth -= 1;
-        conn.called()
+        Ok(())
     }
 
     fn rollback(_alloc: Global, conn: &mut ToyConnection) -> Result<(), Error> {
         conn.depth -= 1;
-        conn.called()
+        Ok(())
     }
 
     fn start_rollback(conn: &mut ToyConnection) {
