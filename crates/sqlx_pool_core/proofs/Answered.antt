@@ -1,6 +1,6 @@
 -- What each step makes, from what it answered and what it left.
 use Rattle.std.proofs.Common.{◌≡◌, ℕ, ◌≤◌, Bool, true, false, List, [], Option, is_some, refl, sym, subst}
-use Rattle.sqlx_pool_core.specs.declared.mark.Mark.{Mark}
+use Rattle.sqlx_log.specs.declared.mark.Mark.{Mark}
 use Rattle.sqlx_pool_core.specs.declared.steps.Idle.{Idle}
 use Rattle.sqlx_pool_core.specs.declared.steps.Lent.{Lent as LentValue}
 use Rattle.sqlx_pool_core.specs.declared.steps.Start.{Start}
@@ -13,7 +13,7 @@ use Rattle.sqlx_pool_core.specs.Core.{Core, ticket_of, loan_of, waiting, free}
 use Rattle.sqlx_pool_core.specs.Sound.{IsSound}
 use Rattle.sqlx_pool_core.specs.StandsFor.{StandsFor}
 use Rattle.sqlx_pool_core.specs.OwnTurn.{own_turn}
-use Rattle.sqlx_pool_core.specs.EventTable.{may_pass}
+use Rattle.sqlx_log.specs.EventTable.{may_pass}
 use Rattle.sqlx_pool_core.specs.PollSteps.{phase_for, start_answer, start_marks, started, judged, tested_at, test_answer, test_marks, after_test, connect_answer, connect_marks, after_connect, may_cancel, cancel_marks, cancelled, try_lent, try_marks, after_try}
 use Rattle.sqlx_pool_core.specs.ReturnSteps.{give_answer, give_marks, gave, end_marks, detach_marks, leak_marks, released, leaked}
 use Rattle.sqlx_pool_core.specs.KeepingSteps.{reap_answer, reap_marks, reaped, placed, done_marks, done, close_answer, close_marks, closed_from}

@@ -1,14 +1,15 @@
 -- What holds of every core's value holds after an ask and after a try.
-use Rattle.std.proofs.Common.{◌≡◌, ℕ, ◌+◌, ◌^◌, ◌<◌, ◌≤◌, ◌==◌, List, [], ◌∷◌, ◌++◌, length, refl, ap, sym, ◌∙◌, subst, arith, map, Bool, true, false, cond, count_by, length-append}
+use Rattle.std.proofs.Common.{◌≡◌, ℕ, ◌+◌, ◌^◌, ◌<◌, ◌≤◌, ◌==◌, List, [], ◌∷◌, ◌++◌, length, ap, sym, ◌∙◌, subst, arith, map, cond, count_by, length-append}
 use Rattle.std.proofs.lemmas.List.{map-append}
 use Rattle.sqlx_pool_core.specs.declared.ticket.Ticket.{Ticket}
 use Rattle.sqlx_pool_core.specs.declared.ticket.Held.{Held}
 use Rattle.sqlx_pool_core.specs.declared.ticket.Phase.{Phase}
 use Rattle.sqlx_pool_core.specs.declared.ticket.Phase.TheVariants as phase
 use Rattle.sqlx_pool_core.specs.declared.steps.Idle.{Idle}
-use Rattle.sqlx_pool_core.specs.Core.{Core, has_gone, size, gone, is_out}
+use Rattle.sqlx_pool_core.specs.Core.{Core, has_gone, is_out}
 use Rattle.sqlx_pool_core.specs.Sound.{IsSound, IsRising, number_of, tests, holds, rests, places_of, is_tested}
-use Rattle.sqlx_pool_core.proofs.Counting.{one, count-push, count-cons, rising-push}
+use Rattle.sqlx_log.proofs.Counting.{one, count-push, count-cons}
+use Rattle.sqlx_pool_core.proofs.Counting.{rising-push}
 use Rattle.sqlx_pool_core.proofs.Found.{rising-bound}
 
 -- a new ticket waits

@@ -1,36 +1,11 @@
 -- Counts of tickets after one of them changed or ended.
-use Rattle.std.proofs.Common.{◌≡◌, ℕ, ◌+◌, ◌<◌, ◌≤◌, List, [], ◌∷◌, ◌++◌, length, refl, ap, sym, ◌∙◌, arith, map, filter, Bool, true, false, cond, count_by, if◌then◌else◌, length-append}
+use Rattle.std.proofs.Common.{◌≡◌, ℕ, ◌+◌, ◌<◌, ◌≤◌, List, [], ◌∷◌, ◌++◌, ap, sym, ◌∙◌, arith, map, filter, Bool, true, false, count_by, if◌then◌else◌}
 use Rattle.std.proofs.lemmas.List.{map-append}
-use Rattle.std.proofs.lemmas.List.Sums.{sum_by-append, sum_by-cons}
+use Rattle.sqlx_log.proofs.Counting.{one, count-append, count-among}
 use Rattle.sqlx_pool_core.specs.declared.ticket.Ticket.{Ticket}
 use Rattle.sqlx_pool_core.specs.Sound.{IsRising, number_of}
 use Rattle.sqlx_pool_core.specs.Edits.{with_ticket, without_ticket}
 use Rattle.sqlx_pool_core.specs.Place.{IsAmong}
-
--- one where the test holds, else none
-abbrev pub one : {X : Type 0} → (X → Bool) → X → ℕ
-one p x = cond (p x) 1 0
-
-pub count-append : {X : Type 0} (p : X → Bool) (xs ys : List X) → count_by p (xs ++ ys) ≡ count_by p xs + count_by p ys
-count-append p xs ys = sum_by-append (λ x. cond (p x) 1 0) xs ys
-
-pub count-cons : {X : Type 0} (p : X → Bool) (x : X) (xs : List X) → count_by p (x ∷ xs) ≡ one p x + count_by p xs
-count-cons p x xs = sum_by-cons (λ x. cond (p x) 1 0) x xs
-
-pub count-among : {X : Type 0} (p : X → Bool) (front : List X) (x : X) (back : List X) → count_by p (front ++ x ∷ back) ≡ count_by p front + one p x + count_by p back
-count-among p front x back = let e = count-append p front (x ∷ back) in let f = count-cons p x back in omega (arith, e, f)
-
-pub count-push : {X : Type 0} (p : X → Bool) (xs : List X) (x : X) → count_by p (xs ++ x ∷ []) ≡ count_by p xs + one p x
-count-push p xs x = let e = count-among p xs x [] in omega (arith, e)
-
--- a filter counts no more
-filter_at : {X : Type 0} (p : X → Bool) (x : X) (xs ys : List X) (b : Bool) → count_by p ys ≤ count_by p xs → count_by p (if b then x ∷ ys else ys) ≤ count_by p (x ∷ xs)
-filter_at p x xs ys true h = let e = count-cons p x ys in let f = count-cons p x xs in omega (arith, e, f, h)
-filter_at p x xs ys false h = let f = count-cons p x xs in omega (arith, f, h)
-
-pub count-filter : {X : Type 0} (p q : X → Bool) (xs : List X) → count_by p (filter q xs) ≤ count_by p xs
-count-filter p q [] = omega arith
-count-filter p q (x ∷ xs) = filter_at p x xs (filter q xs) (q x) (count-filter p q xs)
 
 pub count-changed : (p : Ticket → Bool) (t : ℕ) (x : Ticket) (tickets : List Ticket) (f : Ticket → Ticket) → IsAmong t x tickets → count_by p (with_ticket t f tickets) + one p x ≡ count_by p tickets + one p (f x)
 count-changed p t x tickets f is =

@@ -2,29 +2,31 @@
 use Rattle.std.proofs.Common.{◌≡◌, ℕ, ◌+◌, ◌≤◌, ◌<◌, Bool, true, false, cond, not, ◌||◌, ◌==◌, List, [], ◌∷◌, ◌++◌, map, filter, drop, count_by, All, None, refl, sym, ap, ◌∙◌, subst, append-nil, map-id, arith}
 use Rattle.std.proofs.lemmas.List.Elements.{All-nil, All-cons, All-head, All-tail, All-push, All-filter, filter_agree}
 use Rattle.sqlx_text.specs.declared.Moment.{Moment}
-use Rattle.sqlx_pool_core.specs.declared.mark.Mark.{Mark}
-use Rattle.sqlx_pool_core.specs.declared.mark.Mark.TheVariants.{Asked, Left, Taken, Opened, Lent, Kept, Ended, Shut}
+use Rattle.sqlx_log.specs.declared.mark.Mark.{Mark}
+use Rattle.sqlx_log.specs.declared.mark.Mark.TheVariants.{Asked, Left, Taken, Opened, Lent, Kept, Ended, Shut}
 use Rattle.sqlx_pool_core.specs.declared.ticket.Ticket.{Ticket}
 use Rattle.sqlx_pool_core.specs.declared.ticket.Held.{Held}
 use Rattle.sqlx_pool_core.specs.declared.ticket.Phase.TheVariants as phase
 use Rattle.sqlx_pool_core.specs.declared.steps.Idle.{Idle}
 use Rattle.sqlx_pool_core.specs.declared.steps.Lent.{Lent as LentValue}
-use Rattle.sqlx_pool_core.specs.Marks.{Asking, Loan, Resting}
-use Rattle.sqlx_pool_core.specs.View.{leaving}
+use Rattle.sqlx_log.specs.Marks.{PendingTicket, Loan, IdleEntry}
+use Rattle.sqlx_log.specs.View.{leaving}
 use Rattle.sqlx_pool_core.specs.Core.{Core, asking, loan, resting, is_out}
 use Rattle.sqlx_pool_core.specs.Sound.{holds, rests}
-use Rattle.sqlx_pool_core.specs.StandsFor.{StandsFor, IsBorn}
+use Rattle.sqlx_log.specs.Born.{IsBorn}
+use Rattle.sqlx_pool_core.specs.StandsFor.{StandsFor}
 use Rattle.sqlx_pool_core.specs.Edits.{without_ticket, with_ticket, without_loan, without_idle, is_another_ticket, is_another_loan, is_another_idle, ended, lent_to, unlent, kept as rested_last, took, asked, opened}
-use Rattle.sqlx_pool_core.proofs.ListFacts.{or-false, or-true, same_number, number_comm, filter_none, filter-map, map-push, count_by-cons}
-use Rattle.sqlx_pool_core.proofs.Pushed.{IsBorn-push, IsBorn-opened}
-use Rattle.sqlx_pool_core.proofs.Stands.{stands-push, IsHeldBorn, IsIdleBorn, IsTicketBorn, kept, same, kept_tickets, same_tickets, held_spared, idle_spared, tested_spared}
+use Rattle.sqlx_log.proofs.ListFacts.{or-false, or-true, same_number, number_comm, filter_none, filter-map, map-push, count_by-cons}
+use Rattle.sqlx_log.proofs.Pushed.{IsBorn-push, IsBorn-opened}
+use Rattle.sqlx_log.proofs.Same.{kept, same, kept_tickets, same_tickets}
+use Rattle.sqlx_pool_core.proofs.Stands.{stands-push, IsHeldBorn, IsIdleBorn, IsTicketBorn, held_spared, idle_spared, tested_spared}
 
 -- ---- edits of a list, as the marks tell them
 
 pub ticket_gone : (t : ℕ) (tickets : List Ticket) → map asking (without_ticket t tickets) ≡ filter (λ a. not (a.ticket == t)) (map asking tickets)
 ticket_gone t tickets =
     ap (map asking) (filter_agree (is_another_ticket t) (λ x. not (x.number == t)) (λ x. ap not (number_comm t x.number)) tickets)
-    ∙ sym (filter-map asking (λ (a : Asking). not (a.ticket == t)) tickets)
+    ∙ sym (filter-map asking (λ (a : PendingTicket). not (a.ticket == t)) tickets)
 
 pub loan_gone : (c : ℕ) (held : List Held) → map loan (without_loan c held) ≡ filter (λ l. not (l.conn == c)) (map loan held)
 loan_gone c held =
@@ -34,7 +36,7 @@ loan_gone c held =
 pub idle_gone : {C : Type 0} (c : ℕ) (idle : List (Idle C)) → map resting (without_idle c idle) ≡ filter (λ r. not (r.conn == c)) (map resting idle)
 idle_gone c idle =
     ap (map resting) (filter_agree (is_another_idle c) (λ x. not (x.lent.id == c)) (λ x. ap not (number_comm c x.lent.id)) idle)
-    ∙ sym (filter-map resting (λ (r : Resting). not (r.conn == c)) idle)
+    ∙ sym (filter-map resting (λ (r : IdleEntry). not (r.conn == c)) idle)
 
 -- the change of a ticket, told by its Left
 abbrev pub Leaves : (Ticket → Ticket) → Type 0
@@ -104,8 +106,8 @@ stands-left core marks t f leaves born lt s =
 pub stands-ended : {C : Type 0} (core : Core C) (marks : List Mark) (t : ℕ) → t < core.next_ticket → StandsFor core marks → StandsFor (ended t core) (marks ++ Ended t ∷ [])
 stands-ended core marks t lt s =
     stands-push core (ended t core) marks (Ended t) s record {
-      tickets = ticket_gone t core.tickets ∙ sym (map-id (filter (λ (a : Asking). not (a.ticket == t)) (map asking core.tickets)))
-          ∙ sym (append-nil (map (λ (a : Asking). a) (filter (λ (a : Asking). not (a.ticket == t)) (map asking core.tickets))));
+      tickets = ticket_gone t core.tickets ∙ sym (map-id (filter (λ (a : PendingTicket). not (a.ticket == t)) (map asking core.tickets)))
+          ∙ sym (append-nil (map (λ (a : PendingTicket). a) (filter (λ (a : PendingTicket). not (a.ticket == t)) (map asking core.tickets))));
       loans = same (map loan core.held);
       idle = same (map resting core.idle);
       leaked = omega arith;
@@ -211,7 +213,7 @@ stands-taken {C} core marks i rest e once lt s =
     stands-push core (took core) marks n s record {
       tickets = same_tickets (map asking core.tickets);
       loans = same (map loan core.held);
-      idle = ap (map resting) gone ∙ idle_gone i.lent.id core.idle ∙ sym (append-nil (filter (λ (r : Resting). not (r.conn == i.lent.id)) (map resting core.idle)));
+      idle = ap (map resting) gone ∙ idle_gone i.lent.id core.idle ∙ sym (append-nil (filter (λ (r : IdleEntry). not (r.conn == i.lent.id)) (map resting core.idle)));
       leaked = omega arith;
       shut = sym (or-false core.shut);
       ticket_number = refl;

@@ -1,11 +1,12 @@
 -- Worked rows of reaping, the minimum and closing.
 use Rattle.std.proofs.Common.{◌≡◌, ℕ, true, false, List, [], ◌∷◌, ◌++◌, Some, None, refl}
+use Rattle.sqlx_pool_core.specs.Limits.{limits_of}
 use Rattle.log.specs.declared.level.LevelFilter.TheVariants.{Off}
-use Rattle.sqlx_pool_core.specs.declared.mark.Mark.{Mark}
-use Rattle.sqlx_pool_core.specs.declared.mark.Mark.TheVariants.{Asked, Opened, Lent, Kept, Leaked, Ended, Shut}
+use Rattle.sqlx_log.specs.declared.mark.Mark.{Mark}
+use Rattle.sqlx_log.specs.declared.mark.Mark.TheVariants.{Asked, Opened, Lent, Kept, Leaked, Ended, Shut}
 use Rattle.sqlx_pool_core.specs.declared.options.PoolOptions.{PoolOptions}
 use Rattle.sqlx_pool_core.specs.declared.steps.CloseState.TheVariants as state
-use Rattle.sqlx_pool_core.specs.EventsAtMarks.{reaped_at, has_place_at, closed_at}
+use Rattle.sqlx_log.specs.EventTable.{reaped_at, has_place_at, closed_at}
 use Rattle.sqlx_pool_core.specs.KeepingSteps.{close_state_of}
 
 -- a pool of this maximum, in which a connection is idle for 10 at most and lives for 100
@@ -31,47 +32,47 @@ two_idle = Opened 1 0 ∷ Kept 1 5 ∷ Opened 2 0 ∷ Kept 2 7 ∷ []
 
 -- ---- reaped
 
-at_the_limit : reaped_at (options 3) 0 two_idle 15 ≡ None
+at_the_limit : reaped_at (limits_of (options 3)) 0 two_idle 15 ≡ None
 at_the_limit = refl
 
-above_the_limit : reaped_at (options 3) 0 two_idle 16 ≡ Some 1
+above_the_limit : reaped_at (limits_of (options 3)) 0 two_idle 16 ≡ Some 1
 above_the_limit = refl
 
-the_first_first : reaped_at (options 3) 0 two_idle 60 ≡ Some 1
+the_first_first : reaped_at (limits_of (options 3)) 0 two_idle 60 ≡ Some 1
 the_first_first = refl
 
 -- what is idle since 5, and then kept again at 50, is beyond its lifetime alone
-too_old : reaped_at (options 3) 0 (two_idle ++ Kept 1 95 ∷ Kept 2 95 ∷ []) 101 ≡ Some 1
+too_old : reaped_at (limits_of (options 3)) 0 (two_idle ++ Kept 1 95 ∷ Kept 2 95 ∷ []) 101 ≡ Some 1
 too_old = refl
 
-in_its_lifetime : reaped_at (options 3) 0 (two_idle ++ Kept 1 95 ∷ Kept 2 95 ∷ []) 100 ≡ None
+in_its_lifetime : reaped_at (limits_of (options 3)) 0 (two_idle ++ Kept 1 95 ∷ Kept 2 95 ∷ []) 100 ≡ None
 in_its_lifetime = refl
 
-one_waits : reaped_at (options 2) 0 (two_idle ++ Asked 1 7 90 ∷ []) 60 ≡ Some 1
+one_waits : reaped_at (limits_of (options 2)) 0 (two_idle ++ Asked 1 7 90 ∷ []) 60 ≡ Some 1
 one_waits = refl
 
-as_many_wait : reaped_at (options 2) 0 (two_idle ++ Asked 1 7 90 ∷ Asked 2 7 90 ∷ []) 60 ≡ None
+as_many_wait : reaped_at (limits_of (options 2)) 0 (two_idle ++ Asked 1 7 90 ∷ Asked 2 7 90 ∷ []) 60 ≡ None
 as_many_wait = refl
 
 -- a place that is held for the minimum takes its permit
-place_held : reaped_at (options 2) 1 (two_idle ++ Asked 1 7 90 ∷ []) 60 ≡ None
+place_held : reaped_at (limits_of (options 2)) 1 (two_idle ++ Asked 1 7 90 ∷ []) 60 ≡ None
 place_held = refl
 
-closed_pool : reaped_at (options 3) 0 (two_idle ++ Shut ∷ []) 60 ≡ None
+closed_pool : reaped_at (limits_of (options 3)) 0 (two_idle ++ Shut ∷ []) 60 ≡ None
 closed_pool = refl
 
 -- ---- the minimum
 
-below_both : has_place_at (options 3) 0 two_idle 3 ≡ true
+below_both : has_place_at (limits_of (options 3)) 0 two_idle 3 ≡ true
 below_both = refl
 
-at_the_minimum : has_place_at (options 3) 0 two_idle 2 ≡ false
+at_the_minimum : has_place_at (limits_of (options 3)) 0 two_idle 2 ≡ false
 at_the_minimum = refl
 
-at_the_maximum : has_place_at (options 2) 0 two_idle 5 ≡ false
+at_the_maximum : has_place_at (limits_of (options 2)) 0 two_idle 5 ≡ false
 at_the_maximum = refl
 
-places_count : has_place_at (options 3) 1 two_idle 3 ≡ false
+places_count : has_place_at (limits_of (options 3)) 1 two_idle 3 ≡ false
 places_count = refl
 
 -- ---- closed

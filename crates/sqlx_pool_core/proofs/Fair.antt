@@ -2,36 +2,49 @@
 use Rattle.std.proofs.Common.{◌≡◌, ℕ, ◌≤◌, ◌<◌, inl, inr, Bool, true, false, not, ◌&&◌, ◌==◌, IsTrue, List, [], ◌∷◌, ◌++◌, map, find, count_by, Option, Some, None, option_map, refl, sym, ap, ap₂, ◌∙◌, subst, append-nil, append_assoc, arith}
 use Rattle.std.specs.List.{list_any}
 use Rattle.std.proofs.lemmas.Bool.{and_parts}
-use Rattle.sqlx_pool_core.specs.declared.mark.Mark.{Mark}
-use Rattle.sqlx_pool_core.specs.declared.mark.Mark.TheVariants.{Asked, Taken, Reaped, Opened, Lent, Kept, Closed, Detached, Leaked, Ended, Shut}
+use Rattle.sqlx_log.specs.declared.mark.Mark.{Mark}
+use Rattle.sqlx_log.specs.declared.mark.Mark.TheVariants.{Asked, Taken, Reaped, Opened, Lent, Kept, Closed, Detached, Leaked, Ended, Shut}
 use Rattle.sqlx_pool_core.specs.declared.ticket.Ticket.{Ticket}
 use Rattle.sqlx_pool_core.specs.declared.ticket.Held.{Held}
 use Rattle.sqlx_pool_core.specs.declared.steps.Idle.{Idle}
-use Rattle.sqlx_pool_core.specs.Standing.{last_mark}
-use Rattle.sqlx_pool_core.specs.Marks.{Asking, Birth, tickets_of, idle_of, live_of, is_birth_of, is_loan_of, is_shut}
-use Rattle.sqlx_pool_core.specs.View.{view_of, free as free_at, size as size_at, waiting as waiting_at}
+use Rattle.sqlx_log.specs.Standing.{last_mark}
+use Rattle.sqlx_log.specs.Marks.{PendingTicket, LiveConn, tickets_of, idle_of, live_of, is_live_conn, is_loan_of, is_shut}
+use Rattle.sqlx_log.specs.View.{view_of, free as free_at, size as size_at, waiting as waiting_at}
 use Rattle.sqlx_pool_core.specs.Core.{Core, asking, loan, resting, is_out, is_of, ticket_of, is_held_by, loan_of, size}
 use Rattle.sqlx_pool_core.specs.Sound.{holds, rests}
 use Rattle.sqlx_pool_core.specs.Makes.{Makes}
-use Rattle.sqlx_pool_core.specs.StandsFor.{StandsFor, IsBorn}
-use Rattle.sqlx_pool_core.specs.FairLog.{is_owned, is_idle, is_live, is_ticket, is_left_ticket_of, is_first, opens_it, Unless, serves, IsFairMark, first_of_marks, IsFair, rests as rests_at}
-use Rattle.sqlx_pool_core.proofs.ListFacts.{found_passes, found_any, list_any-map, none_any, same_number}
+use Rattle.sqlx_log.specs.Born.{IsBorn}
+use Rattle.sqlx_pool_core.specs.StandsFor.{StandsFor}
+use Rattle.sqlx_log.specs.FairLog.{is_owned, is_idle, is_live, is_ticket, is_left_ticket_of, is_first, opens_it, Unless, serves, first_of_marks, rests as rests_at}
+use Rattle.sqlx_log.proofs.FairLaws.{fair-append}
+use Rattle.sqlx_log.proofs.ViewSteps.{IsFairMark}
+use Rattle.sqlx_log.proofs.ListFacts.{found_passes, found_any, list_any-map, none_any, same_number}
 use Rattle.sqlx_pool_core.proofs.TurnAtMarks.{size-stands}
 
 -- a step that makes no mark
 pub makes-none : {C : Type 0} (max : ℕ) (marks : List Mark) (new : Core C) → StandsFor new marks → Makes max marks [] new
-makes-none max marks new s = record { stands = subst (StandsFor new) (sym (append-nil marks)) s; fair = tt }
+makes-none max marks new s = record { stands = subst (StandsFor new) (sym (append-nil marks)) s; fair = record { safe = tt; order = tt } }
 
 -- a step that makes one mark
 pub makes-one : {C : Type 0} (max : ℕ) (marks : List Mark) (n : Mark) (new : Core C) → StandsFor new (marks ++ n ∷ [])
     → IsFairMark max (view_of marks) (view_of (marks ++ n ∷ [])) (last_mark None marks) n None → Makes max marks (n ∷ []) new
-makes-one max marks n new s f = record { stands = s; fair = (f, tt) }
+makes-one max marks n new s f = record { stands = s; fair = record { safe = (record { finds = f.finds; keeps = f.keeps }, tt); order = (f.order, tt) } }
 
 -- a mark, and what is made behind it
 pub makes-more : {C : Type 0} (max : ℕ) (marks : List Mark) (n : Mark) (later : List Mark) (new : Core C)
     → IsFairMark max (view_of marks) (view_of (marks ++ n ∷ [])) (last_mark None marks) n (first_of_marks later)
     → Makes max (marks ++ n ∷ []) later new → Makes max marks (n ∷ later) new
-makes-more max marks n later new f rest = record { stands = subst (StandsFor new) (append_assoc marks (n ∷ []) later) rest.stands; fair = (f, rest.fair) }
+makes-more max marks n later new f rest = record {
+  stands = subst (StandsFor new) (append_assoc marks (n ∷ []) later) rest.stands;
+  fair = record { safe = (record { finds = f.finds; keeps = f.keeps }, rest.fair.safe); order = (f.order, rest.fair.order) };
+}
+
+-- a step, and another behind it
+pub makes-then : {C : Type 0} (max : ℕ) (marks one two : List Mark) (mid new : Core C) → Makes max marks one mid → Makes max (marks ++ one) two new → Makes max marks (one ++ two) new
+makes-then max marks one two mid new a b = record {
+  stands = subst (StandsFor new) (append_assoc marks one two) b.stands;
+  fair = fair-append max marks one two a.fair b.fair;
+}
 
 -- ---- what a core says of the view
 
@@ -51,17 +64,17 @@ module _ {C : Type 0} (core : Core C) (marks : List Mark) (s : StandsFor core ma
   pub first-is : (i : Idle C) (rest : List (Idle C)) → core.idle ≡ i ∷ rest → IsTrue (is_first i.lent.id (idle_of marks))
   first-is i rest e = ap (is_first i.lent.id) (sym s.idle ∙ ap (map resting) e) ∙ same_number i.lent.id
 
-  pub ticket-any : (q : Asking → Bool) (k t : ℕ) (x : Ticket) → ticket_of k t core.tickets ≡ Some x → q (asking x) ≡ true → list_any q (tickets_of marks) ≡ true
+  pub ticket-any : (q : PendingTicket → Bool) (k t : ℕ) (x : Ticket) → ticket_of k t core.tickets ≡ Some x → q (asking x) ≡ true → list_any q (tickets_of marks) ≡ true
   ticket-any q k t x e is =
       ap (list_any q) (sym s.tickets) ∙ list_any-map asking q core.tickets ∙ found_any (is_of k t) (λ (y : Ticket). q (asking y)) core.tickets x e is
 
 -- a connection that was born and isn't gone
 pub live-born : (marks : List Mark) (c m : ℕ) → IsBorn marks c m → IsTrue (is_live c (view_of marks))
-live-born marks c m born = by (find (is_birth_of c) (live_of marks)) refl born
+live-born marks c m born = by (find (is_live_conn c) (live_of marks)) refl born
   where
-    by : (o : Option Birth) → find (is_birth_of c) (live_of marks) ≡ o → option_map (λ (b : Birth). b.moment) o ≡ Some m → list_any (is_birth_of c) (live_of marks) ≡ true
+    by : (o : Option LiveConn) → find (is_live_conn c) (live_of marks) ≡ o → option_map (λ (b : LiveConn). b.moment) o ≡ Some m → list_any (is_live_conn c) (live_of marks) ≡ true
     by None e k = absurd (cc)
-    by (Some b) e k = found_any (is_birth_of c) (is_birth_of c) (live_of marks) b e (found_passes (is_birth_of c) (live_of marks) b e)
+    by (Some b) e k = found_any (is_live_conn c) (is_live_conn c) (live_of marks) b e (found_passes (is_live_conn c) (live_of marks) b e)
 
 pub both-true : (a b : Bool) → a ≡ true → b ≡ true → (a && b) ≡ true
 both-true a b p q = ap₂ ◌&&◌ p q

@@ -1,18 +1,19 @@
 -- What the code of a poll's last steps writes is what the steps make of the core.
-use Rattle.std.proofs.Common.{◌≡◌, ℕ, ◌+◌, ◌<◌, ◌≤◌, ◌==◌, List, [], ◌∷◌, ◌++◌, length, refl, ap, sym, ◌∙◌, subst, arith, Bool, true, false, Option, Some, None, inl, inr, if◌then◌else◌, cond}
+use Rattle.std.proofs.Common.{◌≡◌, ℕ, ◌+◌, ◌<◌, ◌==◌, List, [], ◌∷◌, ◌++◌, length, refl, ap, ◌∙◌, subst, arith, Bool, true, false, Option, Some, None, inl, inr, if◌then◌else◌, cond}
 use Rattle.std.proofs.lemmas.Bool.Decides.{eqb_tells}
 use Rattle.sqlx_text.specs.declared.Moment.{Moment}
 use Rattle.sqlx_pool_core.specs.declared.ticket.Ticket.{Ticket}
 use Rattle.sqlx_pool_core.specs.declared.ticket.Held.{Held}
 use Rattle.sqlx_pool_core.specs.declared.ticket.Phase.{Phase}
 use Rattle.sqlx_pool_core.specs.declared.ticket.Phase.TheVariants as phase
-use Rattle.sqlx_pool_core.specs.Core.{Core, ticket_of, is_out, has_gone, gone}
+use Rattle.sqlx_pool_core.specs.Core.{Core, ticket_of, is_out, has_gone}
 use Rattle.sqlx_pool_core.specs.Sound.{IsSound, is_tested}
-use Rattle.sqlx_pool_core.specs.Edits.{with_ticket, without_ticket, to_connect, to_back_off}
+use Rattle.sqlx_pool_core.specs.Edits.{with_ticket, without_ticket, to_back_off}
 use Rattle.sqlx_pool_core.specs.Place.{IsAmong}
 use Rattle.sqlx_pool_core.specs.PollSteps.{tested_at, wait_of}
 use Rattle.sqlx_pool_core.proofs.PollCode.{among, changed-const}
-use Rattle.sqlx_pool_core.proofs.Counting.{one, count-ended}
+use Rattle.sqlx_log.proofs.Counting.{one}
+use Rattle.sqlx_pool_core.proofs.Counting.{count-ended}
 use Rattle.sqlx_pool_core.proofs.Soundness.{sound-served_tested, sound-served_new, sound-goes_on}
 
 tested_here : (c d : ℕ) (kept created : Moment) → (b : Bool) → (c == d) ≡ b → c ≡ d → (if b then Some kept else None) ≡ Some created → phase.Testing d kept ≡ phase.Testing c created

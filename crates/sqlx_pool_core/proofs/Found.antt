@@ -1,5 +1,5 @@
 -- The ticket that a look-up finds is the only one of its number.
-use Rattle.std.proofs.Common.{◌≡◌, ℕ, ◌+◌, ◌<◌, ◌≤◌, List, [], ◌∷◌, ◌++◌, length, refl, ap, sym, ◌∙◌, arith, map, filter, find, Bool, true, false, not, ◌&&◌, ◌==◌, if◌then◌else◌, Option, Some, None, inl, inr, cond, ◌≢◌}
+use Rattle.std.proofs.Common.{◌≡◌, ℕ, ◌+◌, ◌<◌, ◌≤◌, List, [], ◌∷◌, refl, ap, sym, ◌∙◌, arith, map, Bool, true, false, ◌==◌, Option, Some, None, inl, inr}
 use Rattle.std.proofs.lemmas.Bool.Decides.{eqb_tells}
 use Rattle.sqlx_pool_core.specs.declared.ticket.Ticket.{Ticket}
 use Rattle.sqlx_pool_core.specs.Core.{is_of, ticket_of}

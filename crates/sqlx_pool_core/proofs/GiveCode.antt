@@ -1,13 +1,12 @@
 -- What holds of every core's value holds after the steps that end a loan.
-use Rattle.std.proofs.Common.{◌≡◌, ℕ, ◌+◌, ◌<◌, ◌≤◌, ◌==◌, ◌&&◌, List, [], ◌∷◌, ◌++◌, length, refl, ap, sym, ◌∙◌, subst, arith, filter, find, Bool, true, false, not, cond, count_by, Option, Some, None, is_some, IfSome, inl, inr, if◌then◌else◌, length-append}
+use Rattle.std.proofs.Common.{◌≡◌, ℕ, ◌+◌, ◌≤◌, ◌==◌, ◌&&◌, List, [], ◌∷◌, ◌++◌, length, refl, ap, sym, ◌∙◌, subst, arith, find, Bool, true, false, not, cond, count_by, Option, Some, None, is_some, IfSome, inl, inr, if◌then◌else◌, length-append}
 use Rattle.std.proofs.lemmas.Bool.Decides.{eqb_tells}
-use Rattle.std.proofs.lemmas.List.Sums.{length-filter}
 use Rattle.sqlx_pool_core.specs.declared.ticket.Held.{Held}
 use Rattle.sqlx_pool_core.specs.declared.steps.Idle.{Idle}
 use Rattle.sqlx_pool_core.specs.Core.{Core, loan_of, is_held_by}
-use Rattle.sqlx_pool_core.specs.Sound.{IsSound, tests, holds, rests, places_of}
+use Rattle.sqlx_pool_core.specs.Sound.{IsSound, holds, rests}
 use Rattle.sqlx_pool_core.specs.Edits.{without_loan, is_another_loan}
-use Rattle.sqlx_pool_core.proofs.Counting.{one, count-filter, count-push, count-cons}
+use Rattle.sqlx_log.proofs.Counting.{one, count-filter, count-push, count-cons}
 use Rattle.sqlx_pool_core.proofs.Soundness.{one-le}
 
 -- ---- what a look-up finds

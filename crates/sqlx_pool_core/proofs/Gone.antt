@@ -1,22 +1,24 @@
 -- The marks by which a connection goes from the pool, and what each makes of a core that stands for the marks before it.
 use Rattle.std.proofs.Common.{◌≡◌, ℕ, ◌≤◌, ◌<◌, true, not, ◌==◌, List, [], ◌∷◌, ◌++◌, map, filter, drop, count_by, All, refl, sym, ◌∙◌, subst, append-nil, arith}
 use Rattle.std.proofs.lemmas.Bool.{not-true}
-use Rattle.sqlx_pool_core.specs.declared.mark.Mark.{Mark}
-use Rattle.sqlx_pool_core.specs.declared.mark.Mark.TheVariants.{Reaped, Closed, Detached, Leaked}
+use Rattle.sqlx_log.specs.declared.mark.Mark.{Mark}
+use Rattle.sqlx_log.specs.declared.mark.Mark.TheVariants.{Reaped, Closed, Detached, Leaked}
 use Rattle.sqlx_pool_core.specs.declared.ticket.Ticket.{Ticket}
 use Rattle.sqlx_pool_core.specs.declared.ticket.Held.{Held}
 use Rattle.sqlx_pool_core.specs.declared.ticket.Phase.{Phase}
 use Rattle.sqlx_pool_core.specs.declared.ticket.Phase.TheVariants as phase
 use Rattle.sqlx_pool_core.specs.declared.steps.Idle.{Idle}
-use Rattle.sqlx_pool_core.specs.Marks.{Loan, Resting, ends_conn}
+use Rattle.sqlx_log.specs.Marks.{Loan, IdleEntry, ends_conn}
 use Rattle.sqlx_pool_core.specs.Core.{Core, asking, loan, resting}
 use Rattle.sqlx_pool_core.specs.Sound.{holds, rests, tests, is_tested}
-use Rattle.sqlx_pool_core.specs.StandsFor.{StandsFor, IsBorn, IsTestedBorn}
+use Rattle.sqlx_log.specs.Born.{IsBorn}
+use Rattle.sqlx_pool_core.specs.StandsFor.{StandsFor, IsTestedBorn}
 use Rattle.sqlx_pool_core.specs.Edits.{without_loan, without_idle, is_another_loan, is_another_idle, unlent, took}
 use Rattle.sqlx_pool_core.specs.ReturnSteps.{leaked}
-use Rattle.sqlx_pool_core.proofs.ListFacts.{or-false, number_comm, filter_none, All-filter_if, All-passing}
-use Rattle.sqlx_pool_core.proofs.Pushed.{IsBorn-push}
-use Rattle.sqlx_pool_core.proofs.Stands.{stands-push, IsHeldBorn, IsIdleBorn, IsTicketBorn, same, same_tickets}
+use Rattle.sqlx_log.proofs.ListFacts.{or-false, number_comm, filter_none, All-filter_if, All-passing}
+use Rattle.sqlx_log.proofs.Pushed.{IsBorn-push}
+use Rattle.sqlx_log.proofs.Same.{same, same_tickets}
+use Rattle.sqlx_pool_core.proofs.Stands.{stands-push, IsHeldBorn, IsIdleBorn, IsTicketBorn}
 use Rattle.sqlx_pool_core.proofs.EachMark.{loan_gone, idle_gone, drop_first}
 
 -- ---- the others stay born
@@ -61,7 +63,7 @@ stands-closed core marks c tickets alike born untested lt s =
     stands-push core (record core { tickets = tickets; held = without_loan c core.held; idle = without_idle c core.idle }) marks n s record {
       tickets = alike ∙ same_tickets (map asking core.tickets);
       loans = loan_gone c core.held ∙ sym (append-nil (filter (λ (l : Loan). not (l.conn == c)) (map loan core.held)));
-      idle = idle_gone c core.idle ∙ sym (append-nil (filter (λ (r : Resting). not (r.conn == c)) (map resting core.idle)));
+      idle = idle_gone c core.idle ∙ sym (append-nil (filter (λ (r : IdleEntry). not (r.conn == c)) (map resting core.idle)));
       leaked = omega arith;
       shut = sym (or-false core.shut);
       ticket_number = refl;
@@ -108,7 +110,7 @@ stands-reaped core marks c untested unowned lt s =
     stands-push core (record core { idle = without_idle c core.idle }) marks n s record {
       tickets = same_tickets (map asking core.tickets);
       loans = same (map loan core.held);
-      idle = idle_gone c core.idle ∙ sym (append-nil (filter (λ (r : Resting). not (r.conn == c)) (map resting core.idle)));
+      idle = idle_gone c core.idle ∙ sym (append-nil (filter (λ (r : IdleEntry). not (r.conn == c)) (map resting core.idle)));
       leaked = omega arith;
       shut = sym (or-false core.shut);
       ticket_number = refl;

@@ -4,15 +4,15 @@ use Rattle.std.proofs.lemmas.List.Elements.{All-nil, All-push}
 use Rattle.sqlx_pool_core.specs.declared.steps.Idle.{Idle}
 use Rattle.sqlx_pool_core.specs.declared.options.PoolOptions.{PoolOptions}
 use Rattle.sqlx_pool_core.specs.Edits.{at_moment, opened, kept}
-use Rattle.sqlx_pool_core.proofs.FairLaws.{makes-then}
+use Rattle.sqlx_pool_core.proofs.Fair.{makes-then}
 use Rattle.sqlx_text.specs.declared.error.Error.{Error}
 use Rattle.sqlx_text.specs.declared.error.Error.TheVariants.{OutOfMemory}
 use Rattle.sqlx_pool_core.specs.declared.filled.Filled.{Filled}
 use Rattle.sqlx_pool_core.specs.declared.filled.Filled.TheVariants as filled
 use Rattle.sqlx_pool_core.specs.Outside.{HasRisen}
 use Rattle.sqlx_pool_core.specs.PollParts.{IsForGood}
-use Rattle.sqlx_pool_core.specs.declared.mark.Mark.{Mark}
-use Rattle.sqlx_pool_core.specs.declared.mark.Mark.TheVariants.{Opened, Kept}
+use Rattle.sqlx_log.specs.declared.mark.Mark.{Mark}
+use Rattle.sqlx_log.specs.declared.mark.Mark.TheVariants.{Opened, Kept}
 use Rattle.sqlx_pool_core.specs.Core.{Core, size, free, waiting}
 use Rattle.sqlx_pool_core.specs.StandsFor.{StandsFor}
 use Rattle.sqlx_pool_core.specs.Makes.{Makes}

@@ -2,20 +2,21 @@
 use Rattle.std.proofs.Common.{◌≡◌, ℕ, ◌+◌, ◌-◌, ◌≤◌, Bool, true, false, not, nat_lt, IsTrue, List, [], ◌∷◌, ◌++◌, map, find, length, Option, Some, None, refl, sym, subst, arith}
 use Rattle.std.proofs.lemmas.Bool.{and_parts, not-true}
 use Rattle.std.proofs.lemmas.List.Elements.{All-head}
-use Rattle.sqlx_pool_core.specs.declared.mark.Mark.{Mark}
-use Rattle.sqlx_pool_core.specs.declared.mark.Mark.TheVariants.{Reaped, Opened, Kept, Closed, Shut}
+use Rattle.sqlx_log.specs.declared.mark.Mark.{Mark}
+use Rattle.sqlx_log.specs.declared.mark.Mark.TheVariants.{Reaped, Opened, Kept, Closed, Shut}
 use Rattle.sqlx_pool_core.specs.declared.steps.Idle.{Idle}
 use Rattle.sqlx_pool_core.specs.declared.steps.Lent.{Lent as LentValue}
-use Rattle.sqlx_pool_core.specs.Standing.{last_mark}
+use Rattle.sqlx_log.specs.Standing.{last_mark}
 use Rattle.sqlx_pool_core.specs.Core.{Core, waiting, free}
 use Rattle.sqlx_pool_core.specs.Sound.{IsSound, rests}
-use Rattle.sqlx_pool_core.specs.StandsFor.{StandsFor, IsBorn}
-use Rattle.sqlx_pool_core.specs.FairLog.{opens_it, first_of_marks}
-use Rattle.sqlx_pool_core.specs.EventTable.{may_pass}
+use Rattle.sqlx_log.specs.Born.{IsBorn}
+use Rattle.sqlx_pool_core.specs.StandsFor.{StandsFor}
+use Rattle.sqlx_log.specs.FairLog.{opens_it, first_of_marks}
+use Rattle.sqlx_log.specs.EventTable.{may_pass}
 use Rattle.sqlx_pool_core.specs.Edits.{without_idle, kept, opened, at_moment}
 use Rattle.sqlx_pool_core.specs.KeepingSteps.{is_reaped_at, reap_answer, reap_marks, reaped, placed, done_marks, placed_back, done_at, done, closed_idle, close_marks, closed, closed_from}
-use Rattle.sqlx_pool_core.proofs.ListFacts.{found_counts, found_any, length-filter_not, length-push, count_by-cons, same_number}
-use Rattle.sqlx_pool_core.proofs.Pushed.{last_mark-push}
+use Rattle.sqlx_log.proofs.ListFacts.{found_counts, found_any, length-filter_not, length-push, count_by-cons, same_number}
+use Rattle.sqlx_log.proofs.Pushed.{last_mark-push}
 use Rattle.sqlx_pool_core.proofs.Stands.{stands-beside, IsIdleBorn}
 use Rattle.sqlx_pool_core.proofs.EachMark.{stands-opened, born-opened, stands-kept_new, stands-shut}
 use Rattle.sqlx_pool_core.proofs.Gone.{stands-closed_first, stands-reaped}

@@ -8,7 +8,7 @@ use Rattle.sqlx_pool_core.specs.declared.steps.Idle.{Idle}
 use Rattle.sqlx_pool_core.specs.Core.{Core, is_out, is_of, ticket_of, is_held_by, loan_of, asking, gone, has_gone}
 use Rattle.sqlx_pool_core.specs.Sound.{IsSound, IsRising, number_of, holds, rests, tests, places_of}
 use Rattle.sqlx_pool_core.specs.Edits.{without_ticket, with_ticket}
-use Rattle.sqlx_pool_core.proofs.ListFacts.{found_passes, found_All, found_counts, same_number, count_by-cons, count_by-filter_parts}
+use Rattle.sqlx_log.proofs.ListFacts.{found_passes, found_All, found_counts, same_number, count_by-cons, count_by-filter_parts}
 
 -- ---- rising numbers
 

@@ -3,8 +3,6 @@ pub mod Found
 pub mod Counting
 pub mod Soundness
 pub mod TurnCases
-pub mod ListFacts
-pub mod Pushed
 pub mod Stands
 pub mod EachMark
 pub mod Gone
@@ -18,7 +16,6 @@ pub mod ReturnMakes
 pub mod Answered
 pub mod PollCode
 pub mod FinishCode
-pub mod FairLaws
 pub mod AskSoundness
 pub mod GiveCode
 pub mod AskCode
@@ -26,10 +23,6 @@ pub mod KeepingCode
 pub mod Moving
 pub mod KeepingAtMarks
 mod EventRows
-pub mod LogLaws
-pub mod ViewSteps
-pub mod SoundViews
-pub mod FairSteps
 pub mod WholePoll
 pub mod PollOutcome
 pub mod KeepRuns

@@ -3,8 +3,8 @@ use Rattle.std.proofs.Common.{◌≡◌, ℕ, suc, ◌+◌, ◌≤◌, ◌<◌, 
 use Rattle.std.proofs.lemmas.Bool.{eqb-true, ltb-true, and_parts, not-true}
 use Rattle.std.proofs.lemmas.List.Elements.{All-head}
 use Rattle.sqlx_text.specs.declared.Moment.{Moment}
-use Rattle.sqlx_pool_core.specs.declared.mark.Mark.{Mark}
-use Rattle.sqlx_pool_core.specs.declared.mark.Mark.TheVariants.{Asked, Taken, Opened, Lent, Closed, Ended}
+use Rattle.sqlx_log.specs.declared.mark.Mark.{Mark}
+use Rattle.sqlx_log.specs.declared.mark.Mark.TheVariants.{Asked, Taken, Opened, Lent, Closed, Ended}
 use Rattle.sqlx_pool_core.specs.declared.ticket.Ticket.{Ticket}
 use Rattle.sqlx_pool_core.specs.declared.ticket.Phase.{Phase}
 use Rattle.sqlx_pool_core.specs.declared.ticket.Phase.TheVariants as phase
@@ -13,15 +13,16 @@ use Rattle.sqlx_pool_core.specs.declared.steps.Verdict.{Verdict}
 use Rattle.sqlx_pool_core.specs.declared.steps.Verdict.TheVariants as verdict
 use Rattle.sqlx_pool_core.specs.declared.steps.Tried.{Tried}
 use Rattle.sqlx_pool_core.specs.declared.steps.Tried.TheVariants as tried
-use Rattle.sqlx_pool_core.specs.Counts.{left_in}
+use Rattle.sqlx_log.specs.Counts.{left_in}
 use Rattle.sqlx_pool_core.specs.Core.{Core, asking, is_out, is_of, ticket_of, size, free, waiting, gone}
 use Rattle.sqlx_pool_core.specs.Sound.{IsSound, rests, holds, tests, is_tested}
-use Rattle.sqlx_pool_core.specs.StandsFor.{StandsFor, IsBorn, IsTestedBorn}
-use Rattle.sqlx_pool_core.specs.EventTable.{may_pass}
+use Rattle.sqlx_log.specs.Born.{IsBorn}
+use Rattle.sqlx_pool_core.specs.StandsFor.{StandsFor, IsTestedBorn}
+use Rattle.sqlx_log.specs.EventTable.{may_pass}
 use Rattle.sqlx_pool_core.specs.Edits.{with_ticket, without_ticket, to_connect, to_back_off, ended, lent_to, took, opened, asked, at_moment}
 use Rattle.sqlx_pool_core.specs.PollSteps.{phase_for, judged, tested_at, test_answer, test_marks, after_test, wait_of, try_answer_at, connect_answer, connect_marks, after_connect, may_cancel, cancel_marks, cancelled, try_lent, try_marks, after_try}
-use Rattle.sqlx_pool_core.proofs.ListFacts.{found_All, count_by-cons, count_by-push, length-push, same_number}
-use Rattle.sqlx_pool_core.proofs.Pushed.{IsBorn-push}
+use Rattle.sqlx_log.proofs.ListFacts.{found_All, count_by-cons, count_by-push, length-push, same_number}
+use Rattle.sqlx_log.proofs.Pushed.{IsBorn-push}
 use Rattle.sqlx_pool_core.proofs.Stands.{stands-beside, stands-alike, IsIdleBorn, IsTicketBorn}
 use Rattle.sqlx_pool_core.proofs.EachMark.{stands-asked, stands-ended, stands-taken, stands-opened, stands-lent, born-opened, changed_born}
 use Rattle.sqlx_pool_core.proofs.Gone.{stands-closed_tested}

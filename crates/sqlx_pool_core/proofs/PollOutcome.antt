@@ -1,11 +1,11 @@
 -- The outcome of a whole poll, by its turn and by what each of its parts came to.
 use Rattle.std.proofs.Common.{◌≡◌, ℕ, ◌+◌, ◌≤◌, Bool, true, false, ◌⊎◌, inl, inr, List, [], ◌∷◌, ◌++◌, Option, Some, None, IfSome, refl, sym, ap, ◌∙◌, subst, arith}
 use Rattle.sqlx_text.specs.declared.error.Error.{Error}
-use Rattle.sqlx_pool_core.specs.declared.mark.Mark.{Mark}
-use Rattle.sqlx_pool_core.specs.declared.mark.Mark.TheVariants as mark
+use Rattle.sqlx_log.specs.declared.mark.Mark.{Mark}
+use Rattle.sqlx_log.specs.declared.mark.Mark.TheVariants as mark
 use Rattle.sqlx_pool_core.specs.declared.ticket.Phase.{Phase}
-use Rattle.sqlx_pool_core.specs.declared.turn.Turn.{Turn}
-use Rattle.sqlx_pool_core.specs.declared.turn.Turn.TheVariants as turn
+use Rattle.sqlx_log.specs.declared.turn.Turn.{Turn}
+use Rattle.sqlx_log.specs.declared.turn.Turn.TheVariants as turn
 use Rattle.sqlx_pool_core.specs.declared.steps.Idle.{Idle}
 use Rattle.sqlx_pool_core.specs.declared.steps.Lent.{Lent}
 use Rattle.sqlx_pool_core.specs.declared.steps.Start.{Start}
@@ -22,7 +22,7 @@ use Rattle.sqlx_pool_core.specs.Outside.{HasRisen, Told, Reach}
 use Rattle.sqlx_pool_core.specs.PollSteps.{start_answer, start_marks, started, phase_for, wait_of}
 use Rattle.sqlx_pool_core.specs.PollWith.{Try, Opens, Again, Fails, Outcome, Ready, says, try_says, try_made, after_try, untested, poll_says, poll_made, after_poll, until_if, told_passes, told_try, IsWant, tests, connects, first_depth, IsOutcome, Polls}
 use Rattle.sqlx_pool_core.specs.PollParts.{KeepsConnects, IsForGood, IfRefused, after_check, check_made, due}
-use Rattle.sqlx_pool_core.proofs.FairLaws.{makes-then}
+use Rattle.sqlx_pool_core.proofs.Fair.{makes-then}
 use Rattle.sqlx_pool_core.proofs.WholePoll.{Takes, Tries, untested-ticket, trying-ticket}
 
 -- the outcome of a poll that asks nothing

@@ -1,19 +1,22 @@
 -- What the steps that end a loan make of a core that stands for the marks.
 use Rattle.std.proofs.Common.{◌≡◌, ℕ, ◌+◌, Bool, true, false, cond, not, ◌&&◌, List, [], ◌∷◌, ◌++◌, length, Option, Some, None, is_some, refl, sym, subst, arith}
 use Rattle.std.proofs.lemmas.Bool.{and_parts, not-true, or_parts}
-use Rattle.sqlx_pool_core.specs.declared.mark.Mark.{Mark}
-use Rattle.sqlx_pool_core.specs.declared.mark.Mark.TheVariants.{Kept, Closed, Detached, Leaked}
+use Rattle.sqlx_pool_core.specs.Limits.{limits_of}
+use Rattle.sqlx_log.specs.declared.mark.Mark.{Mark}
+use Rattle.sqlx_log.specs.declared.mark.Mark.TheVariants.{Kept, Closed, Detached, Leaked}
 use Rattle.sqlx_pool_core.specs.declared.ticket.Held.{Held}
 use Rattle.sqlx_pool_core.specs.declared.steps.Lent.{Lent as LentValue}
 use Rattle.sqlx_pool_core.specs.declared.steps.Given.TheVariants as given
 use Rattle.sqlx_pool_core.specs.Core.{Core, is_held_by, loan_of}
 use Rattle.sqlx_pool_core.specs.Sound.{IsSound, holds}
-use Rattle.sqlx_pool_core.specs.StandsFor.{StandsFor, IsBorn}
-use Rattle.sqlx_pool_core.specs.EventTable.{is_too_old}
+use Rattle.sqlx_log.specs.Born.{IsBorn}
+use Rattle.sqlx_pool_core.specs.StandsFor.{StandsFor}
+use Rattle.sqlx_log.specs.EventTable.{is_too_old}
 use Rattle.sqlx_pool_core.specs.Edits.{without_loan, unlent, kept, at_moment}
 use Rattle.sqlx_pool_core.specs.PollSteps.{lent_since}
-use Rattle.sqlx_pool_core.specs.ReturnSteps.{closes, give_answer, give_marks, gave, end_marks, detach_marks, leak_marks, released, leaked}
-use Rattle.sqlx_pool_core.proofs.ListFacts.{found_All, length-filter_not, length-push}
+use Rattle.sqlx_log.specs.EventTable.{closes}
+use Rattle.sqlx_pool_core.specs.ReturnSteps.{give_answer, give_marks, gave, end_marks, detach_marks, leak_marks, released, leaked}
+use Rattle.sqlx_log.proofs.ListFacts.{found_All, length-filter_not, length-push}
 use Rattle.sqlx_pool_core.proofs.Stands.{stands-beside, IsHeldBorn}
 use Rattle.sqlx_pool_core.proofs.EachMark.{stands-kept}
 use Rattle.sqlx_pool_core.proofs.Gone.{stands-closed_owned, stands-detached, stands-leaked}
@@ -109,18 +112,18 @@ module _ {C : Type 0} (core : Core C) (marks : List Mark) (sound : IsSound core)
       makes-one core.options.max_connections marks n new after
       (fair-kept core.options.max_connections core new marks s k lent.id m h None open_yet e after (omega (arith, less, more, all)))
 
-  give-loan : (h : Held) → loan_of k lent.id core.held ≡ Some h → (b : Bool) → (accepted && not (closes core.options core.shut h.created.0 m)) ≡ b
+  give-loan : (h : Held) → loan_of k lent.id core.held ≡ Some h → (b : Bool) → (accepted && not (closes (limits_of core.options) core.shut h.created.0 m)) ≡ b
       → Makes core.options.max_connections marks (give_marks lent.id m (cond b given.Kept (given.Closed lent.raw))) (gave (Some h) lent m (cond b given.Kept (given.Closed lent.raw)) core)
   give-loan h e true is =
-      let parts = and_parts accepted (not (closes core.options core.shut h.created.0 m)) is in
-      let keeps : closes core.options core.shut h.created.0 m ≡ false = not-true (closes core.options core.shut h.created.0 m) parts.1 in
-      makes-rested h e (or_parts core.shut (is_too_old core.options h.created.0 m) keeps).0
+      let parts = and_parts accepted (not (closes (limits_of core.options) core.shut h.created.0 m)) is in
+      let keeps : closes (limits_of core.options) core.shut h.created.0 m ≡ false = not-true (closes (limits_of core.options) core.shut h.created.0 m) parts.1 in
+      makes-rested h e (or_parts core.shut (is_too_old (limits_of core.options) h.created.0 m) keeps).0
   give-loan h e false is = makes-closed core marks sound s k lent.id h e m
 
   give-at : (o : Option Held) → loan_of k lent.id core.held ≡ o
       → Makes core.options.max_connections marks (give_marks lent.id m (give_answer core.options core.shut m accepted o lent)) (gave o lent m (give_answer core.options core.shut m accepted o lent) core)
   give-at None e = makes-none core.options.max_connections marks core s
-  give-at (Some h) e = give-loan h e (accepted && not (closes core.options core.shut h.created.0 m)) refl
+  give-at (Some h) e = give-loan h e (accepted && not (closes (limits_of core.options) core.shut h.created.0 m)) refl
 
   -- What giving a connection back makes.
   pub makes-give : Makes core.options.max_connections marks (give_marks lent.id m (give_answer core.options core.shut m accepted (loan_of k lent.id core.held) lent))

@@ -1,7 +1,6 @@
 -- What holds of every core's value holds after each step of a poll.
-use Rattle.std.proofs.Common.{◌≡◌, ℕ, ◌+◌, ◌^◌, ◌<◌, ◌≤◌, ◌==◌, List, [], ◌∷◌, ◌++◌, length, refl, ap, sym, ◌∙◌, subst, arith, map, filter, Bool, true, false, cond, count_by, Option, Some, None, inl, inr, length-append}
+use Rattle.std.proofs.Common.{◌≡◌, ℕ, ◌+◌, ◌^◌, ◌<◌, ◌≤◌, ◌==◌, List, [], ◌∷◌, ◌++◌, length, refl, ap, sym, ◌∙◌, subst, arith, Bool, true, false, cond, count_by, inl, inr, length-append}
 use Rattle.std.proofs.lemmas.Bool.Decides.{eqb_tells}
-use Rattle.sqlx_text.specs.declared.Moment.{Moment}
 use Rattle.sqlx_pool_core.specs.declared.ticket.Ticket.{Ticket}
 use Rattle.sqlx_pool_core.specs.declared.ticket.Held.{Held}
 use Rattle.sqlx_pool_core.specs.declared.ticket.Phase.{Phase}
@@ -9,9 +8,10 @@ use Rattle.sqlx_pool_core.specs.declared.ticket.Phase.TheVariants as phase
 use Rattle.sqlx_pool_core.specs.declared.steps.Idle.{Idle}
 use Rattle.sqlx_pool_core.specs.Core.{Core, has_gone, size, gone, is_out, free}
 use Rattle.sqlx_pool_core.specs.Sound.{IsSound, IsRising, number_of, tests, holds, rests, places_of, is_tested}
-use Rattle.sqlx_pool_core.specs.Edits.{with_ticket, without_ticket, is_another_ticket, ended, lent_to, opened, at_moment, to_test, to_try, to_try_at, to_connect, to_back_off}
+use Rattle.sqlx_pool_core.specs.Edits.{with_ticket, without_ticket, is_another_ticket, ended, at_moment, to_test, to_try, to_try_at, to_connect}
 use Rattle.sqlx_pool_core.specs.Place.{IsAmong}
-use Rattle.sqlx_pool_core.proofs.Counting.{one, count-filter, count-changed, count-ended, count-push, count-cons, numbers-changed, rising-filter, rising-push}
+use Rattle.sqlx_log.proofs.Counting.{one, count-filter, count-push, count-cons}
+use Rattle.sqlx_pool_core.proofs.Counting.{count-changed, count-ended, numbers-changed, rising-filter}
 
 pub sound-ended : {C : Type 0} (t m : ℕ) (core : Core C) → IsSound core → IsSound (at_moment m (ended t core))
 sound-ended t m core s = record {

@@ -1,21 +1,21 @@
 -- A core's value goes on standing for the marks, one more mark at a time.
-use Rattle.std.proofs.Common.{◌≡◌, ℕ, ◌≤◌, true, false, ◌||◌, List, [], ◌∷◌, ◌++◌, map, filter, All, refl, sym, ap, ◌∙◌, append-nil, map-id, arith}
+use Rattle.std.proofs.Common.{◌≡◌, ℕ, ◌≤◌, false, ◌||◌, List, [], ◌∷◌, ◌++◌, map, All, sym, ap, ◌∙◌, arith}
 use Rattle.std.proofs.lemmas.List.Elements.{All-push, All-weaker}
-use Rattle.sqlx_pool_core.specs.declared.mark.Mark.{Mark}
-use Rattle.sqlx_pool_core.specs.declared.mark.Mark.TheVariants.{Asked, Left, Taken, Reaped, Opened, Lent, Kept, Closed, Detached, Leaked, Ended, Shut}
+use Rattle.sqlx_log.specs.declared.mark.Mark.{Mark}
+use Rattle.sqlx_log.specs.declared.mark.Mark.TheVariants.{Asked, Left, Taken, Reaped, Opened, Lent, Kept, Closed, Detached, Leaked, Ended, Shut}
 use Rattle.sqlx_pool_core.specs.declared.options.PoolOptions.{PoolOptions}
 use Rattle.sqlx_pool_core.specs.declared.ticket.Ticket.{Ticket}
 use Rattle.sqlx_pool_core.specs.declared.ticket.Held.{Held}
 use Rattle.sqlx_pool_core.specs.declared.ticket.Phase.{Phase}
 use Rattle.sqlx_pool_core.specs.declared.ticket.Phase.TheVariants as phase
 use Rattle.sqlx_pool_core.specs.declared.steps.Idle.{Idle}
-use Rattle.sqlx_pool_core.specs.Standing.{next_after}
-use Rattle.sqlx_pool_core.specs.Marks.{lends, ends_loan, keeps, ends_rest, ends_conn, is_shut, asked_number, opened_number}
-use Rattle.sqlx_pool_core.specs.View.{stands_after, tickets_after, leaked_after}
+use Rattle.sqlx_log.specs.Standing.{next_after}
+use Rattle.sqlx_log.specs.Marks.{lends, ends_loan, keeps, ends_rest, ends_conn, is_shut, asked_number, opened_number}
+use Rattle.sqlx_log.specs.View.{stands_after, tickets_after, leaked_after}
 use Rattle.sqlx_pool_core.specs.Core.{Core, asking, loan, resting}
-use Rattle.sqlx_pool_core.specs.StandsFor.{StandsFor, IsNamedBelow, IsBorn, IsTestedBorn}
-use Rattle.sqlx_pool_core.proofs.ListFacts.{filter_all}
-use Rattle.sqlx_pool_core.proofs.Pushed.{loans_of-push, idle_of-push, tickets_of-push, leaked_of-push, shut-push, next_ticket-push, next_conn-push, IsBorn-push}
+use Rattle.sqlx_log.specs.Born.{IsNamedBelow, IsBorn}
+use Rattle.sqlx_pool_core.specs.StandsFor.{StandsFor, IsTestedBorn}
+use Rattle.sqlx_log.proofs.Pushed.{loans_of-push, idle_of-push, tickets_of-push, leaked_of-push, shut-push, next_ticket-push, next_conn-push, IsBorn-push}
 
 -- ---- what the core keeps of births
 
@@ -79,20 +79,6 @@ stands-push old new marks n s a = record {
 }
 
 -- ---- what a mark leaves as it is
-
--- nothing is ended
-pub kept : {X : Type 0} (xs : List X) → xs ≡ filter (λ x. true) xs
-kept xs = sym (filter_all (λ x. true) xs (λ x. refl))
-
--- nothing is ended and nothing begun
-pub same : {X : Type 0} (xs : List X) → xs ≡ filter (λ x. true) xs ++ []
-same xs = kept xs ∙ sym (append-nil (filter (λ x. true) xs))
-
-pub kept_tickets : {X : Type 0} (xs : List X) → xs ≡ map (λ x. x) (filter (λ x. true) xs)
-kept_tickets xs = kept xs ∙ sym (map-id (filter (λ x. true) xs))
-
-pub same_tickets : {X : Type 0} (xs : List X) → xs ≡ map (λ x. x) (filter (λ x. true) xs) ++ []
-same_tickets xs = kept_tickets xs ∙ sym (append-nil (map (λ x. x) (filter (λ x. true) xs)))
 
 tested_push : (marks : List Mark) (n : Mark) → ((c : ℕ) → ends_conn c n ≡ false) → (p : Phase) → IsTestedBorn marks p → IsTestedBorn (marks ++ n ∷ []) p
 tested_push marks n spares (phase.Testing c created) h = IsBorn-push marks n c created.0 (spares c) h

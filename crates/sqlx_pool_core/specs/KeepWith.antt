@@ -2,8 +2,8 @@
 use Rattle.std.specs.Prelude.{◌≡◌, ℕ, ◌+◌, Bool, true, false, zero, suc, max, List, [], ◌∷◌, ◌++◌, Some, None, length, All}
 use Rattle.sqlx_text.specs.declared.error.Error.{Error}
 use Rattle.sqlx_text.specs.declared.error.Error.TheVariants.{OutOfMemory}
-use Rattle.sqlx_pool_core.specs.declared.mark.Mark.{Mark}
-use Rattle.sqlx_pool_core.specs.declared.mark.Mark.TheVariants.{Opened, Kept}
+use Rattle.sqlx_log.specs.declared.mark.Mark.{Mark}
+use Rattle.sqlx_log.specs.declared.mark.Mark.TheVariants.{Opened, Kept}
 use Rattle.sqlx_pool_core.specs.declared.filled.Filled.{Filled}
 use Rattle.sqlx_pool_core.specs.declared.filled.Filled.TheVariants as filled
 use Rattle.sqlx_pool_core.specs.declared.steps.Idle.{Idle}

@@ -1,18 +1,11 @@
 pub mod Defaults
-pub mod Standing
-pub mod Marks
-pub mod Counts
-pub mod View
-pub mod FairLog
+pub mod Limits
 pub mod Core
 pub mod Sound
 pub mod StandsFor
 pub mod Makes
 pub mod PollTable
 pub mod OwnTurn
-pub mod EventTable
-pub mod EventsAtMarks
-pub mod Backoff
 pub mod Outside
 pub mod Edits
 pub mod InPlace
@@ -23,6 +16,5 @@ pub mod PollWith
 pub mod PollParts
 pub mod KeepingSteps
 pub mod Moves
-pub mod Laws
 pub mod KeepWith
 pub mod ToldTries

@@ -1,8 +1,7 @@
 -- What the outside of a pool means: its counts, the depth of a connection, and what it tells of its next answers.
-use Rattle.std.specs.Prelude.{◌≡◌, ℕ, ◌+◌, ◌-◌, ◌^◌, ◌<◌, ◌≤◌, ◌⊎◌, ⊤, Bool, true, false, ◌==◌, ◌&&◌, List, [], ◌∷◌, Option, Some, None, Result, Ok, Err, IfSome, option_map, is_ok, drop, if◌then◌else◌}
+use Rattle.std.specs.Prelude.{◌≡◌, ℕ, ◌-◌, ◌^◌, ◌<◌, ◌≤◌, ◌⊎◌, ⊤, Bool, true, false, ◌==◌, List, [], ◌∷◌, Option, Some, None, Result, Ok, Err, drop, if◌then◌else◌}
 use Rattle.sqlx_text.specs.declared.error.Error.{Error}
 use Rattle.sqlx_text.specs.declared.error.Error.TheVariants.{OutOfMemory, Io, Database}
-use Rattle.sqlx_text.specs.declared.io_fault.IoFault.{IoFault}
 use Rattle.sqlx_text.specs.declared.io_fault.IoFault.TheVariants.{ConnectionRefused, Other}
 
 -- the count rose, or it stands at its last value
@@ -29,6 +28,7 @@ abbrev pub refusal : Error → Option Reach
 refusal OutOfMemory = None
 refusal error = if is_transient error then Some RefusedTransiently else Some RefusedForGood
 
+-- what a connect came to
 abbrev pub reach_of : {C : Type 0} → Result C Error → Option Reach
 reach_of (Ok conn) = Some Connected
 reach_of (Err error) = refusal error
@@ -66,17 +66,22 @@ abbrev pub IsFirstIfAny : {A : Type 0} → List A → Option A → Type 0
 IsFirstIfAny told None = ⊤
 IsFirstIfAny told (Some given) = IsFirst told given
 
+-- what is told after a connect
 abbrev pub connected_once : Told → Told
 connected_once t = record t { connects = drop 1 t.connects }
 
+-- what is told after a ping
 abbrev pub pinged_once : Told → Told
 pinged_once t = record t { pings = drop 1 t.pings }
 
+-- what is told after the hook after a connect
 abbrev pub set_up_once : Told → Told
 set_up_once t = record t { after_connects = drop 1 t.after_connects }
 
+-- what is told after the hook before an acquire
 abbrev pub tested_once : Told → Told
 tested_once t = record t { before_acquires = drop 1 t.before_acquires }
 
+-- what is told after the hook after a release
 abbrev pub released_once : Told → Told
 released_once t = record t { after_releases = drop 1 t.after_releases }

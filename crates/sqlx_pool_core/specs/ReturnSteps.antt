@@ -1,26 +1,24 @@
 -- The steps that end a loan: what each answers, the marks that it makes, and what it makes of the core.
-use Rattle.std.specs.Prelude.{ℕ, ◌+◌, Bool, true, false, not, ◌&&◌, ◌||◌, List, [], ◌∷◌, Option, Some, None, if◌then◌else◌}
-use Rattle.sqlx_pool_core.specs.declared.mark.Mark.{Mark}
-use Rattle.sqlx_pool_core.specs.declared.mark.Mark.TheVariants.{Kept, Closed, Detached, Leaked}
+use Rattle.std.specs.Prelude.{ℕ, ◌+◌, Bool, true, false, not, ◌&&◌, List, [], ◌∷◌, Option, Some, None, if◌then◌else◌}
+use Rattle.sqlx_pool_core.specs.Limits.{limits_of}
+use Rattle.sqlx_log.specs.declared.mark.Mark.{Mark}
+use Rattle.sqlx_log.specs.declared.mark.Mark.TheVariants.{Kept, Closed, Detached, Leaked}
 use Rattle.sqlx_pool_core.specs.declared.options.PoolOptions.{PoolOptions}
 use Rattle.sqlx_pool_core.specs.declared.ticket.Held.{Held}
 use Rattle.sqlx_pool_core.specs.declared.steps.Lent.{Lent as LentValue}
 use Rattle.sqlx_pool_core.specs.declared.steps.Given.{Given}
 use Rattle.sqlx_pool_core.specs.declared.steps.Given.TheVariants as given
 use Rattle.sqlx_pool_core.specs.Core.{Core}
-use Rattle.sqlx_pool_core.specs.EventTable.{is_too_old}
+use Rattle.sqlx_log.specs.EventTable.{closes}
 use Rattle.sqlx_pool_core.specs.PollSteps.{lent_since}
 use Rattle.sqlx_pool_core.specs.Edits.{unlent, kept, at_moment}
-
--- a connection is closed rather than kept: the pool is closed, or it is too old
-abbrev pub closes : PoolOptions → Bool → ℕ → ℕ → Bool
-closes options shut created m = shut || is_too_old options created m
 
 -- the answer to a connection that comes back, by the loan that the pool keeps of it
 abbrev pub give_answer : {C : Type 0} → PoolOptions → Bool → ℕ → Bool → Option Held → LentValue C → Given C
 give_answer options shut m accepted None lent = given.NotHeld lent.raw
-give_answer options shut m accepted (Some h) lent = if accepted && not (closes options shut h.created.0 m) then given.Kept else given.Closed lent.raw
+give_answer options shut m accepted (Some h) lent = if accepted && not (closes (limits_of options) shut h.created.0 m) then given.Kept else given.Closed lent.raw
 
+-- the marks of a return
 abbrev pub give_marks : {C : Type 0} → ℕ → ℕ → Given C → List Mark
 give_marks c m given.Kept = Kept c m ∷ []
 give_marks c m (given.Closed raw) = Closed c ∷ []
@@ -31,6 +29,7 @@ abbrev pub rested : {C : Type 0} → Option Held → LentValue C → ℕ → Cor
 rested (Some h) lent m core = kept (lent_since h.created lent) m core
 rested None lent m core = core
 
+-- the core after a return
 abbrev pub gave : {C : Type 0} → Option Held → LentValue C → ℕ → Given C → Core C → Core C
 gave h lent m given.Kept core = at_moment m (rested h lent m (unlent lent.id core))
 gave h lent m (given.Closed raw) core = at_moment m (unlent lent.id core)
@@ -38,14 +37,17 @@ gave h lent m (given.NotHeld raw) core = core
 
 -- ---- end, detach, leak
 
+-- the marks of an end
 abbrev pub end_marks : ℕ → Bool → List Mark
 end_marks c true = Closed c ∷ []
 end_marks c false = []
 
+-- the marks of a detach
 abbrev pub detach_marks : ℕ → Bool → List Mark
 detach_marks c true = Detached c ∷ []
 detach_marks c false = []
 
+-- the marks of a leak
 abbrev pub leak_marks : ℕ → Bool → List Mark
 leak_marks c true = Leaked c ∷ []
 leak_marks c false = []

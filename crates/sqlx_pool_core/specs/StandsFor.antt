@@ -1,34 +1,15 @@
 -- When a core's value is what a list of marks comes to.
-use Rattle.std.specs.Prelude.{◌≡◌, ℕ, ◌<◌, List, Some, map, All, ⊤}
+use Rattle.std.specs.Prelude.{◌≡◌, List, map, All, ⊤}
 use Rattle.std.specs.List.{list_any}
-use Rattle.sqlx_pool_core.specs.declared.mark.Mark.{Mark}
-use Rattle.sqlx_pool_core.specs.declared.mark.Mark.TheVariants.{Asked, Left, Taken, Reaped, Opened, Lent, Kept, Closed, Detached, Leaked, Ended, Shut}
+use Rattle.sqlx_log.specs.declared.mark.Mark.{Mark}
 use Rattle.sqlx_pool_core.specs.declared.steps.Idle.{Idle}
 use Rattle.sqlx_pool_core.specs.declared.ticket.Ticket.{Ticket}
 use Rattle.sqlx_pool_core.specs.declared.ticket.Held.{Held}
 use Rattle.sqlx_pool_core.specs.declared.ticket.Phase.{Phase}
 use Rattle.sqlx_pool_core.specs.declared.ticket.Phase.TheVariants as phase
-use Rattle.sqlx_pool_core.specs.Marks.{tickets_of, loans_of, idle_of, opened_at, leaked_of, is_shut, next_ticket, next_conn}
+use Rattle.sqlx_log.specs.Marks.{tickets_of, loans_of, idle_of, leaked_of, is_shut, next_ticket, next_conn}
+use Rattle.sqlx_log.specs.Born.{IsBorn, IsNamedBelow}
 use Rattle.sqlx_pool_core.specs.Core.{Core, asking, loan, resting}
-
--- the mark names no ticket and no connection from these numbers on
-abbrev pub IsNamedBelow : ℕ → ℕ → Mark → Type 0
-IsNamedBelow tickets conns (Asked t k d) = t < tickets
-IsNamedBelow tickets conns (Left t) = t < tickets
-IsNamedBelow tickets conns (Taken c) = c < conns
-IsNamedBelow tickets conns (Reaped c) = c < conns
-IsNamedBelow tickets conns (Opened c m) = c < conns
-IsNamedBelow tickets conns (Lent k c) = c < conns
-IsNamedBelow tickets conns (Kept c m) = c < conns
-IsNamedBelow tickets conns (Closed c) = c < conns
-IsNamedBelow tickets conns (Detached c) = c < conns
-IsNamedBelow tickets conns (Leaked c) = c < conns
-IsNamedBelow tickets conns (Ended t) = t < tickets
-IsNamedBelow tickets conns Shut = ⊤
-
--- the connection was opened at this moment, and isn't gone
-abbrev pub IsBorn : List Mark → ℕ → ℕ → Type 0
-IsBorn marks c m = opened_at c marks ≡ Some m
 
 -- a connection under test was opened at the moment that the ticket keeps, and isn't gone
 abbrev pub IsTestedBorn : List Mark → Phase → Type 0

@@ -6,26 +6,19 @@
 #![tactic(auto)]
 
 mod filled;
-pub mod laws;
 mod lists;
-mod mark;
 mod options;
 mod outside;
 mod pool_core;
 mod probe;
 mod steps;
 mod ticket;
-mod turn;
 
-pub use mark::Mark;
 pub use options::PoolOptions;
 pub use outside::{Outside, PoolConnectionMetadata};
 pub use pool_core::PoolCore;
+pub use sqlx_log::{Mark, laws};
 pub use steps::{
-    AfterConnect, AfterTest, CloseState, Given, Idle, Lent, Openings, Polled, Start, Tried, Verdict,
+    AfterConnect, AfterTest, CloseState, Given, Idle, Lent, Numbers, Openings, Polled, Start,
+    Tried, Verdict,
 };
-
-#[cfg(test)]
-mod minimum_tests;
-#[cfg(test)]
-mod tests;

@@ -1,9 +1,8 @@
 //! The state of a pool, and the questions that change nothing. The steps stand in the modules below.
 
 ghost use Rattle.std.specs.Prelude.{◌≡◌, ℕ, ◌+◌, ◌<◌, ◌≤◌, max, List, [], Option, Some, None, IfOk, length, if◌then◌else◌, not};
-ghost use Rattle.sqlx_pool_core.specs.declared.mark.Mark.{Mark};
+ghost use Rattle.sqlx_log.specs.declared.mark.Mark.{Mark};
 ghost use Rattle.sqlx_pool_core.specs.Core.{waiting, gone, free, size};
-ghost use Rattle.sqlx_pool_core.specs.OwnTurn.{own_turn_at};
 ghost use Rattle.sqlx_pool_core.specs.Moves.{due, IsBounded};
 ghost use Rattle.sqlx_pool_core.specs.Sound.{IsSound};
 ghost use Rattle.sqlx_pool_core.specs.StandsFor.{StandsFor};
@@ -22,7 +21,7 @@ use crate::lists;
 use crate::options::PoolOptions;
 use crate::steps::Idle;
 use crate::ticket::{Held, Phase, Ticket};
-use crate::turn::Turn;
+use sqlx_log::Turn;
 use sqlx_text::{Moment, OutOfMemory};
 use std::alloc::Global;
 use std::collections::VecDeque;

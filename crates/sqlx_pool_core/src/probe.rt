@@ -52,7 +52,14 @@ fn pongs<C, O, X: Outside<C, O>>(ping: bool, raw: &mut C, out: &mut X) -> bool
     ensures faults { X.faults out.old ≤ X.faults out.new }
     ensures refusals { X.refusals out.old ≤ X.refusals out.new }
 {
-    if ping { out.ping(raw).is_ok() } else { true }
+    if ping {
+        let answer = out.ping(raw);
+        let answered = answer.is_ok();
+        drop(answer);
+        answered
+    } else {
+        true
+    }
 }
 
 // What the hook before an acquire makes of a connection, where it is set.
@@ -74,11 +81,13 @@ fn hook_check<C, O, X: Outside<C, O>>(
     }
     let said = out.before_acquire(raw, meta);
     let depth = out.depth(raw);
-    match said {
+    let check = match &said {
         Ok(true) if depth == 0 => Check::Pass,
         Ok(false) => Check::Close,
         _ => Check::CloseHard,
-    }
+    };
+    drop(said);
+    check
 }
 
 /// Tests an idle connection: by a ping, then by the hook before an acquire, where they are set.
@@ -119,7 +128,9 @@ fn sets_up<C, O, X: Outside<C, O>>(hook: bool, raw: &mut C, out: &mut X) -> bool
         idle_for: 0,
     };
     let said = out.after_connect(raw, meta);
-    said.is_ok() && out.depth(raw) == 0
+    let passed = said.is_ok();
+    drop(said);
+    passed && out.depth(raw) == 0
 }
 
 // Sets a new connection up, or closes it.
@@ -148,6 +159,7 @@ fn refused<C>(error: Error) -> Opening<C>
     ensures { result ≡ refused error }
 {
     if is_transient(&error) {
+        drop(error);
         Opening::Transient
     } else {
         Opening::Failed(error)

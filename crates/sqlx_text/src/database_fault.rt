@@ -23,7 +23,7 @@ pub enum ErrorKind {
 }
 
 /// A refusal of the database.
-#[derive(Debug, Drop)]
+#[derive(Drop)]
 pub struct DatabaseFault {
     /// The message, for a human.
     pub message: UStr,

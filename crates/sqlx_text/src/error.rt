@@ -3,73 +3,53 @@ ghost use Rattle.std.specs.Prelude.{◌≡◌};
 ghost use Rattle.std.specs.Option.{option_copied};
 
 use crate::{DatabaseFault, Fault, IoFault, UStr};
-use thiserror::Error;
+use std::fmt;
 
 /// What a call answers: its value, or an [`Error`].
 pub type Result<T, E = Error> = std::result::Result<T, E>;
 
 /// Why a call answers no value.
-#[derive(Debug, Drop, Error)]
+#[derive(Drop)]
 pub enum Error {
     /// The options of a connection can't be read.
-    #[error("error with configuration: {0}")]
     Configuration(Fault),
     /// An argument isn't one that the call takes.
-    #[error("{0}")]
     InvalidArgument(UStr),
     /// The database refused.
-    #[error("error returned from database: {0}")]
     Database(DatabaseFault),
     /// The database couldn't be reached.
-    #[error("error communicating with database: {0}")]
     Io(IoFault),
     /// The database sent what a driver doesn't understand.
-    #[error("encountered unexpected or invalid data: {0}")]
     Protocol(UStr),
     /// A row was asked for and there is none.
-    #[error("no rows returned by a query that expected to return at least one row")]
     RowNotFound,
     /// The database has no type of the name.
-    #[error("type named {type_name} not found")]
     TypeNotFound { type_name: UStr },
     /// The row has no column at the position.
-    #[error("column index out of bounds: the len is {len}, but the index is {index}")]
     ColumnIndexOutOfBounds { index: usize, len: usize },
     /// The row has no column of the name.
-    #[error("no column found for name: {0}")]
     ColumnNotFound(UStr),
     /// The value of a column can't be read; the label is its position, or its name in quotes.
-    #[error("error occurred while decoding column {index}: {source}")]
     ColumnDecode { index: UStr, source: Fault },
     /// An argument can't be encoded.
-    #[error("error occurred while encoding a value: {0}")]
     Encode(Fault),
     /// A value can't be read.
-    #[error("error occurred while decoding: {0}")]
     Decode(Fault),
     /// A native value, type or statement has no form in `Any`.
-    #[error("error in Any driver mapping: {0}")]
     AnyDriverError(Fault),
     /// The deadline of an acquire came.
-    #[error("pool timed out while waiting for an open connection")]
     PoolTimedOut,
     /// The pool was closed.
-    #[error("attempted to acquire a connection on a closed pool")]
     PoolClosed,
     /// A custom begin inside of a transaction.
-    #[error("attempted to call begin_with at non-zero transaction depth")]
     InvalidSavePointStatement,
     /// A custom begin ran and no transaction is open.
-    #[error("got unexpected connection status after attempting to begin transaction")]
     BeginFailed,
     /// Want of memory.
-    #[error("out of memory")]
     OutOfMemory,
     /// A count that numbers things stands at its last value.
-    #[error("numbers are used up")]
     Exhausted,
     /// The caller holds no such connection.
-    #[error("not held")]
     NotHeld,
 }
 
@@ -151,6 +131,16 @@ impl Error {
         }
     }
 
+    /// A value that can't be encoded. Want of memory stays want of memory.
+    pub fn encode(fault: Fault) -> Error
+        ensures { result ≡ error_of Error.Encode fault }
+    {
+        match fault {
+            Fault::OutOfMemory => Error::OutOfMemory,
+            fault => Error::Encode(fault),
+        }
+    }
+
     /// A value that can't be read. Want of memory stays want of memory.
     pub fn decode(fault: Fault) -> Error
         ensures { result ≡ error_of Error.Decode fault }
@@ -159,6 +149,83 @@ impl Error {
             Fault::OutOfMemory => Error::OutOfMemory,
             fault => Error::Decode(fault),
         }
+    }
+
+    // The message, or what stands of it before the first thing that the error holds.
+    fn words(&self) -> &'static str {
+        match self {
+            Error::Configuration(_) => "error with configuration: ",
+            Error::InvalidArgument(_) => "",
+            Error::Database(_) => "error returned from database: ",
+            Error::Io(_) => "error communicating with database: ",
+            Error::Protocol(_) => "encountered unexpected or invalid data: ",
+            Error::RowNotFound => {
+                "no rows returned by a query that expected to return at least one row"
+            }
+            Error::TypeNotFound { .. } => "type named ",
+            Error::ColumnIndexOutOfBounds { .. } => "column index out of bounds: the len is ",
+            Error::ColumnNotFound(_) => "no column found for name: ",
+            Error::ColumnDecode { .. } => "error occurred while decoding column ",
+            Error::Encode(_) => "error occurred while encoding a value: ",
+            Error::Decode(_) => "error occurred while decoding: ",
+            Error::AnyDriverError(_) => "error in Any driver mapping: ",
+            Error::PoolTimedOut => "pool timed out while waiting for an open connection",
+            Error::PoolClosed => "attempted to acquire a connection on a closed pool",
+            Error::InvalidSavePointStatement => {
+                "attempted to call begin_with at non-zero transaction depth"
+            }
+            Error::BeginFailed => {
+                "got unexpected connection status after attempting to begin transaction"
+            }
+            Error::OutOfMemory => "out of memory",
+            Error::Exhausted => "numbers are used up",
+            Error::NotHeld => "not held",
+        }
+    }
+}
+
+impl fmt::Display for Error {
+    fn fmt<W: fmt::Write>(&self, f: &mut fmt::Formatter<W>) -> fmt::Result {
+        f.write_str(self.words())?;
+        match self {
+            Error::InvalidArgument(text) | Error::Protocol(text) | Error::ColumnNotFound(text) => {
+                f.write_str(text.as_str())
+            }
+            Error::Configuration(fault)
+            | Error::Encode(fault)
+            | Error::Decode(fault)
+            | Error::AnyDriverError(fault) => write!(f, "{fault}"),
+            Error::Database(fault) => f.write_str(fault.message()),
+            Error::Io(fault) => write!(f, "{fault}"),
+            Error::TypeNotFound { type_name } => write!(f, "{type_name} not found"),
+            Error::ColumnIndexOutOfBounds { index, len } => {
+                write!(f, "{len}, but the index is {index}")
+            }
+            Error::ColumnDecode { index, source } => write!(f, "{index}: {source}"),
+            _ => Ok(()),
+        }
+    }
+}
+
+// The message: a derived text would be a case for each variant.
+impl fmt::Debug for Error {
+    fn fmt<W: fmt::Write>(&self, f: &mut fmt::Formatter<W>) -> fmt::Result {
+        fmt::Display::fmt(self, f)
+    }
+}
+
+impl std::error::Error for Error {}
+
+/// The fault of a value that can't be encoded. Want of memory stays want of memory.
+impl From<Fault> for Error {
+    ghost use Rattle.std.specs.Prelude.{◌≡◌};
+    ghost use Rattle.sqlx_text.specs.declared.error.Error.TheVariants.{Encode};
+    ghost use Rattle.sqlx_text.specs.Errors.{error_of};
+
+    ghost from_gives = { λ fault error. error ≡ error_of Encode fault };
+
+    fn from(fault: Fault) -> Error {
+        Error::encode(fault)
     }
 }
 

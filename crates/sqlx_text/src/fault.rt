@@ -5,13 +5,11 @@ use std::fmt;
 use thiserror::Error;
 
 /// What is wrong with a value, a type or a setting.
-#[derive(Debug, Drop, Error)]
+#[derive(Drop)]
 pub enum Fault {
     /// A null that was read into a type without null.
-    #[error("unexpected null; try decoding as an `Option`")]
     UnexpectedNull,
     /// The type of a value isn't one that the Rust type reads.
-    #[error("mismatched types; Rust type `{rust}`{sql_of_rust} is not compatible with SQL type `{sql}`", sql_of_rust = AsSqlType {name: .sql_of_rust})]
     Mismatched {
         /// The name of the Rust type.
         rust: UStr,
@@ -21,41 +19,69 @@ pub enum Fault {
         sql: UStr,
     },
     /// A value of another kind than the one that is read.
-    #[error("expected {expected}, got {got}")]
     Unexpected {
         expected: AnyTypeInfoKind,
         got: AnyTypeInfoKind,
     },
     /// A whole number outside of the range of the Rust type.
-    #[error("out of range integral type conversion attempted")]
     OutOfRange,
     /// A type that has no kind.
-    #[error("no kind for type {0}")]
     NoKind(UStr),
     /// Any other fault, in words.
-    #[error("{0}")]
     Text(UStr),
     /// Want of memory.
-    #[error("out of memory")]
     OutOfMemory,
 }
+
+impl Fault {
+    // The message, or what stands of it before the first thing that the fault holds.
+    fn words(&self) -> &'static str {
+        match self {
+            Fault::UnexpectedNull => "unexpected null; try decoding as an `Option`",
+            Fault::Mismatched { .. } => "mismatched types; Rust type `",
+            Fault::Unexpected { .. } => "expected ",
+            Fault::OutOfRange => "out of range integral type conversion attempted",
+            Fault::NoKind(_) => "no kind for type ",
+            Fault::Text(_) => "",
+            Fault::OutOfMemory => "out of memory",
+        }
+    }
+}
+
+impl fmt::Display for Fault {
+    fn fmt<W: fmt::Write>(&self, f: &mut fmt::Formatter<W>) -> fmt::Result {
+        f.write_str(self.words())?;
+        match self {
+            Fault::Mismatched {
+                rust,
+                sql_of_rust: Some(own),
+                sql,
+            } => write!(
+                f,
+                "{rust}` (as SQL type `{own}`) is not compatible with SQL type `{sql}`"
+            ),
+            Fault::Mismatched {
+                rust,
+                sql_of_rust: None,
+                sql,
+            } => write!(f, "{rust}` is not compatible with SQL type `{sql}`"),
+            Fault::Unexpected { expected, got } => write!(f, "{expected}, got {got}"),
+            Fault::NoKind(text) | Fault::Text(text) => f.write_str(text.as_str()),
+            _ => Ok(()),
+        }
+    }
+}
+
+// The message: a derived text would be a case for each variant.
+impl fmt::Debug for Fault {
+    fn fmt<W: fmt::Write>(&self, f: &mut fmt::Formatter<W>) -> fmt::Result {
+        fmt::Display::fmt(self, f)
+    }
+}
+
+impl std::error::Error for Fault {}
 
 /// A null came where none is expected.
 #[derive(Debug, Drop, Error)]
 #[error("unexpected null; try decoding as an `Option`")]
 pub struct UnexpectedNullError;
-
-/// The SQL type beside a Rust type, in parentheses, and nothing where it isn't told.
-#[derive(Drop)]
-struct AsSqlType<'a> {
-    name: &'a Option<UStr>,
-}
-
-impl fmt::Display for AsSqlType<'_> {
-    fn fmt<W: fmt::Write>(&self, f: &mut fmt::Formatter<W>) -> fmt::Result {
-        match self.name {
-            Some(name) => write!(f, " (as SQL type `{name}`)"),
-            None => Ok(()),
-        }
-    }
-}

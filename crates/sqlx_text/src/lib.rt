@@ -13,8 +13,6 @@ mod out_of_memory;
 mod sql_str;
 mod statement_cache;
 mod summary;
-#[cfg(test)]
-mod tests;
 mod ustr;
 
 pub use database_fault::{DatabaseFault, ErrorKind};

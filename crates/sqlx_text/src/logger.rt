@@ -67,7 +67,7 @@ impl Model for QueryLogger {
 }
 
 /// What a log shows of a statement that ran.
-#[derive(Debug, Drop)]
+#[derive(Drop)]
 pub struct QueryRecord {
     pub level: LevelFilter,
     pub slow: bool,

@@ -2,9 +2,10 @@
 
 ghost use Rattle.std.specs.Prelude.{◌≡◌, ℕ, ◌+◌, List, Bool, true, false, not, map, length};
 ghost use Rattle.std.specs.VecDeque.{deque_capacity};
-ghost use Rattle.sqlx_pool_core.specs.declared.mark.Mark.{Mark};
-ghost use Rattle.sqlx_pool_core.specs.Marks.{is_open};
-ghost use Rattle.sqlx_pool_core.specs.EventsAtMarks.{idle_conn, closed_at};
+ghost use Rattle.sqlx_log.specs.declared.mark.Mark.{Mark};
+ghost use Rattle.sqlx_log.specs.Marks.{is_open};
+ghost use Rattle.sqlx_log.specs.EventTable.{closed_at};
+ghost use Rattle.sqlx_pool_core.specs.KeepingSteps.{idle_conn};
 ghost use Rattle.sqlx_pool_core.specs.KeepingSteps.{close_marks, close_answer, closed_from, close_state, close_state_of};
 ghost use Rattle.sqlx_pool_core.specs.Makes.{Makes};
 ghost use Rattle.sqlx_pool_core.specs.Moves.{Moves};

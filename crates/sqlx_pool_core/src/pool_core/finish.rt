@@ -3,12 +3,12 @@
 ghost use Rattle.std.specs.Prelude.{◌≡◌, ℕ, ◌+◌, ◌-◌, ◌*◌, ◌/◌, ◌^◌, ◌<◌, ◌≤◌, max, min, List, [], ◌∷◌, Option, Some, None, IfSome, length, true, if◌then◌else◌, not};
 ghost use Rattle.sqlx_pool_core.specs.Core.{ticket_of, is_out};
 ghost use Rattle.sqlx_pool_core.specs.declared.ticket.Phase.{Phase};
-ghost use Rattle.sqlx_pool_core.specs.declared.mark.Mark.{Mark};
+ghost use Rattle.sqlx_log.specs.declared.mark.Mark.{Mark};
 ghost use Rattle.sqlx_pool_core.specs.Makes.{Makes};
 ghost use Rattle.sqlx_pool_core.specs.Moves.{Moves};
 ghost use Rattle.sqlx_pool_core.specs.Sound.{IsSound};
 ghost use Rattle.sqlx_pool_core.specs.StandsFor.{StandsFor};
-ghost use Rattle.sqlx_pool_core.specs.Backoff.{next_wait, cap};
+ghost use Rattle.sqlx_log.specs.Backoff.{next_wait, cap};
 ghost use Rattle.sqlx_pool_core.specs.PollSteps.{phase_for, accepted_raw, opened_raw, tested_at, judged, test_answer, test_marks, after_test, connect_answer, connect_marks, after_connect, wait_of};
 ghost use Rattle.sqlx_pool_core.specs.Edits.{at_moment, ended, to_connect, to_back_off, with_ticket, lent_to, opened};
 

@@ -1,14 +1,16 @@
 //! The steps that end a loan: giving a connection back, ending, detaching and leaking it.
 
 ghost use Rattle.std.specs.Prelude.{◌≡◌, ℕ, ◌+◌, ◌-◌, ◌<◌, ◌≤◌, max, List, Option, Some, None, IfSome, is_some, ◌||◌, true, false};
+ghost use Rattle.sqlx_pool_core.specs.Limits.{limits_of};
 ghost use Rattle.sqlx_pool_core.specs.Core.{loan_of};
-ghost use Rattle.sqlx_pool_core.specs.declared.mark.Mark.{Mark};
+ghost use Rattle.sqlx_log.specs.declared.mark.Mark.{Mark};
 ghost use Rattle.sqlx_pool_core.specs.Makes.{Makes};
 ghost use Rattle.sqlx_pool_core.specs.Moves.{Moves, given_back, one_if};
 ghost use Rattle.sqlx_pool_core.specs.Sound.{IsSound};
 ghost use Rattle.sqlx_pool_core.specs.StandsFor.{StandsFor};
-ghost use Rattle.sqlx_pool_core.specs.EventTable.{is_beyond, is_too_old};
-ghost use Rattle.sqlx_pool_core.specs.ReturnSteps.{closes, give_answer, give_marks, gave, end_marks, detach_marks, leak_marks, released, leaked, rested};
+ghost use Rattle.sqlx_log.specs.EventTable.{is_beyond, is_too_old};
+ghost use Rattle.sqlx_log.specs.EventTable.{closes};
+ghost use Rattle.sqlx_pool_core.specs.ReturnSteps.{give_answer, give_marks, gave, end_marks, detach_marks, leak_marks, released, leaked, rested};
 ghost use Rattle.sqlx_pool_core.specs.PollSteps.{lent_since};
 ghost use Rattle.sqlx_pool_core.specs.Edits.{at_moment, unlent, kept};
 
@@ -31,7 +33,7 @@ pub(super) fn beyond(limit: Option<u64>, duration: u64) -> bool
 impl<C> PoolCore<C> {
     // A connection of this opening is too old at the moment.
     pub(super) fn too_old(&self, created: Moment, moment: Moment) -> bool
-        ensures { result ≡ is_too_old self.now.options created.0 moment.0 }
+        ensures { result ≡ is_too_old (limits_of self.now.options) created.0 moment.0 }
     {
         let age = moment.0.saturating_sub(created.0);
         beyond(self.options.get_max_lifetime(), age)
@@ -40,7 +42,7 @@ impl<C> PoolCore<C> {
     /// Whether a connection of this opening would be closed rather than kept: the pool is closed, or the
     /// connection's age is above the lifetime.
     pub fn must_close(&self, created: Moment, now: Moment) -> bool
-        ensures { result ≡ closes self.now.options self.now.shut created.0 (max self.now.last now.0) }
+        ensures { result ≡ closes (limits_of self.now.options) self.now.shut created.0 (max self.now.last now.0) }
     {
         let moment = self.moment(now);
         self.closes(created, moment)
@@ -48,7 +50,7 @@ impl<C> PoolCore<C> {
 
     // A connection of this opening is closed rather than kept at the moment.
     fn closes(&self, created: Moment, moment: Moment) -> bool
-        ensures { result ≡ closes self.now.options self.now.shut created.0 moment.0 }
+        ensures { result ≡ closes (limits_of self.now.options) self.now.shut created.0 moment.0 }
     {
         self.shut || self.too_old(created, moment)
     }

@@ -2,13 +2,14 @@
 
 ghost use Rattle.std.specs.Prelude.{◌≡◌, ℕ, ◌+◌, ◌<◌, ◌≤◌, ◌⊎◌, max, nat_lt, Bool, true, false, not, List, [], Option, Some, None, IfNone};
 ghost use Rattle.sqlx_text.specs.declared.error.Error.{Error};
-ghost use Rattle.sqlx_pool_core.specs.declared.mark.Mark.{Mark};
+ghost use Rattle.sqlx_pool_core.specs.Limits.{limits_of};
+ghost use Rattle.sqlx_log.specs.declared.mark.Mark.{Mark};
 ghost use Rattle.sqlx_pool_core.specs.Makes.{Makes};
 ghost use Rattle.sqlx_pool_core.specs.StandsFor.{StandsFor};
 ghost use Rattle.sqlx_pool_core.specs.Outside.{HasRisen};
 ghost use Rattle.sqlx_pool_core.specs.KeepingSteps.{done, placed, has_place, done_marks, lacks};
 ghost use Rattle.sqlx_pool_core.specs.KeepWith.{failed, is_full, filled_made, IsFilled, openings_made, Opens};
-ghost use Rattle.sqlx_pool_core.specs.EventsAtMarks.{lacking_at};
+ghost use Rattle.sqlx_log.specs.EventTable.{lacking_at};
 ghost use Rattle.sqlx_pool_core.specs.ToldTries.{tries_told, IsNext, filled_by, IsToldEnough, OpensAsTold};
 
 use super::PoolCore;
@@ -83,7 +84,9 @@ impl<C> PoolCore<C> {
             }
             Opening::Failed(error) => {
                 self.let_go(now);
-                failed(&error)
+                let filled = failed(&error);
+                drop(error);
+                filled
             }
             Opening::Rejected | Opening::Transient => {
                 self.let_go(now);
@@ -134,7 +137,7 @@ impl<C> PoolCore<C> {
         // A place is left where fewer are opened than lack, and want of memory leaves one.
         ensures place { has_place self.old.options.min_connections self.new ≡ nat_lt result.opened (lacks self.old) }
         ensures short { result.short ≡ true → (has_place self.old.options.min_connections self.new ≡ true) × X.IsShort out.new }
-        ensures lacks { (marks : List Mark) → StandsFor self.old marks → lacks self.old ≡ lacking_at self.old.options self.old.places marks }
+        ensures lacks { (marks : List Mark) → StandsFor self.old marks → lacks self.old ≡ lacking_at (limits_of self.old.options) self.old.places marks }
         ensures ends { (has_place self.old.options.min_connections self.new ≡ false) ⊎ (HasRisen (X.faults out.old) (X.faults out.new) ⊎ HasRisen (X.refusals out.old) (X.refusals out.new)) ⊎ (result.short ≡ true) }
         ensures faults { X.faults out.old ≤ X.faults out.new }
         ensures refusals { X.refusals out.old ≤ X.refusals out.new }

@@ -2,10 +2,12 @@
 
 ghost use Rattle.std.specs.Prelude.{◌≡◌, ℕ, ◌+◌, ◌-◌, ◌<◌, ◌≤◌, ◌^◌, max, min, List, [], ◌∷◌, Option, Some, None, false, find, option_map};
 ghost use Rattle.std.specs.VecDeque.{deque_capacity};
-ghost use Rattle.sqlx_pool_core.specs.declared.mark.Mark.{Mark};
+ghost use Rattle.sqlx_pool_core.specs.Limits.{limits_of};
+ghost use Rattle.sqlx_log.specs.declared.mark.Mark.{Mark};
 ghost use Rattle.sqlx_pool_core.specs.Core.{waiting, free};
-ghost use Rattle.sqlx_pool_core.specs.EventTable.{may_pass};
-ghost use Rattle.sqlx_pool_core.specs.EventsAtMarks.{idle_conn, reaped_at, has_place_at};
+ghost use Rattle.sqlx_log.specs.EventTable.{may_pass};
+ghost use Rattle.sqlx_log.specs.EventTable.{reaped_at, has_place_at};
+ghost use Rattle.sqlx_pool_core.specs.KeepingSteps.{idle_conn};
 ghost use Rattle.sqlx_pool_core.specs.KeepingSteps.{is_reaped_at, without_first, reap_answer, reap_marks, reaped, has_place, placed, handed_back, done_marks, placed_back, done};
 ghost use Rattle.sqlx_pool_core.specs.Edits.{at_moment, kept, opened};
 ghost use Rattle.sqlx_pool_core.specs.Makes.{Makes};
@@ -49,7 +51,7 @@ impl<C> PoolCore<C> {
     /// which the caller closes: where the pool is open and fewer tickets wait than permits are free. Otherwise
     /// nothing changes.
     pub fn reap(&mut self, now: Moment) -> Option<Idle<C>>
-        ensures marks { (marks : List Mark) → StandsFor self.old marks → option_map idle_conn result ≡ reaped_at self.old.options self.old.places marks (max self.old.last now.0) }
+        ensures marks { (marks : List Mark) → StandsFor self.old marks → option_map idle_conn result ≡ reaped_at (limits_of self.old.options) self.old.places marks (max self.old.last now.0) }
         ensures makes { (marks : List Mark) → StandsFor self.old marks → Makes self.old.options.max_connections marks (reap_marks result) self.new }
         ensures answer { result ≡ reap_answer (may_pass self.old.shut (waiting self.old.tickets) (free self.old)) self.old.options (max self.old.last now.0) self.old.idle }
         ensures becomes { self.new ≡ reaped (max self.old.last now.0) result self.old }
@@ -89,7 +91,7 @@ impl<C> PoolCore<C> {
     /// Holds a place for one connection that is opened before any client asks: as `minimum_place`, but at a
     /// minimum of 0 as at 1.
     pub fn first_place(&mut self) -> bool
-        ensures marks { (marks : List Mark) → StandsFor self.old marks → result ≡ has_place_at self.old.options self.old.places marks (max self.old.options.min_connections 1) }
+        ensures marks { (marks : List Mark) → StandsFor self.old marks → result ≡ has_place_at (limits_of self.old.options) self.old.places marks (max self.old.options.min_connections 1) }
         ensures makes { (marks : List Mark) → StandsFor self.old marks → Makes self.old.options.max_connections marks [] self.new }
         ensures answer { result ≡ has_place (max self.old.options.min_connections 1) self.old }
         ensures becomes { self.new ≡ placed result self.old }
@@ -103,7 +105,7 @@ impl<C> PoolCore<C> {
     /// where the pool is open, fewer tickets wait than permits are free, the pool has fewer connections than the
     /// minimum and the maximum, and the numbers of connections aren't used up. Otherwise nothing changes.
     pub fn minimum_place(&mut self) -> bool
-        ensures marks { (marks : List Mark) → StandsFor self.old marks → result ≡ has_place_at self.old.options self.old.places marks self.old.options.min_connections }
+        ensures marks { (marks : List Mark) → StandsFor self.old marks → result ≡ has_place_at (limits_of self.old.options) self.old.places marks self.old.options.min_connections }
         ensures makes { (marks : List Mark) → StandsFor self.old marks → Makes self.old.options.max_connections marks [] self.new }
         ensures answer { result ≡ has_place self.old.options.min_connections self.old }
         ensures becomes { self.new ≡ placed result self.old }

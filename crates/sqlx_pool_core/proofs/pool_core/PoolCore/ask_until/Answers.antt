@@ -1,4 +1,4 @@
-use Rattle.std.proofs.Common.{rules, ◌≡◌, ◌≤◌, ◌^◌, arith, refl}
+use Rattle.std.proofs.Common.{refl}
 use Rattle.sqlx_pool_core.proofs.AskSoundness.{sound-asked}
 use Rattle.sqlx_pool_core.proofs.AskCode.{asking-makes}
 use Rattle.sqlx_pool_core.proofs.Moving.{asking-moves}

@@ -1,4 +1,3 @@
-use Rattle.std.proofs.Common.{rules, ◌≡◌}
 use Rattle.sqlx_pool_core.proofs.Answered.{cancel-answered}
 use Rattle.sqlx_pool_core.proofs.Moving.{cancel-moves}
 use Rattle.sqlx_pool_core.proofs.pool_core.PoolCore.cancel.Goals as goal

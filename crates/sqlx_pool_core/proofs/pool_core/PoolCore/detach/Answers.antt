@@ -1,4 +1,3 @@
-use Rattle.std.proofs.Common.{rules, ◌≡◌}
 use Rattle.sqlx_pool_core.proofs.Answered.{detach-answered}
 use Rattle.sqlx_pool_core.proofs.Moving.{detach-moves}
 use Rattle.sqlx_pool_core.proofs.pool_core.PoolCore.detach.Goals as goal

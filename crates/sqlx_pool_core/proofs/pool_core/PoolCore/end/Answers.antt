@@ -1,4 +1,3 @@
-use Rattle.std.proofs.Common.{rules, ◌≡◌}
 use Rattle.sqlx_pool_core.proofs.Answered.{end-answered}
 use Rattle.sqlx_pool_core.proofs.Moving.{end-moves}
 use Rattle.sqlx_pool_core.proofs.pool_core.PoolCore.end.Goals as goal

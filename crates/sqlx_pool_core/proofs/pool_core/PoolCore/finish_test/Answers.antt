@@ -1,4 +1,3 @@
-use Rattle.std.proofs.Common.{rules, ◌≡◌}
 use Rattle.sqlx_pool_core.proofs.Answered.{test-answered}
 use Rattle.sqlx_pool_core.proofs.Moving.{test-moves}
 use Rattle.sqlx_pool_core.proofs.pool_core.PoolCore.finish_test.Goals as goal

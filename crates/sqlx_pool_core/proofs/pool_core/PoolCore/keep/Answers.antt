@@ -1,5 +1,4 @@
-use Rattle.std.proofs.Common.{rules, ◌≡◌, refl, arith, subst, Some}
-use Rattle.sqlx_pool_core.specs.Core.{Core, loan_of}
+use Rattle.std.proofs.Common.{refl, arith}
 use Rattle.sqlx_pool_core.proofs.GiveCode.{keeping}
 use Rattle.sqlx_pool_core.proofs.pool_core.PoolCore.keep.Goals as goal
 

@@ -1,5 +1,5 @@
 use Rattle.std.proofs.Common.{◌≤◌, max, List}
-use Rattle.sqlx_pool_core.specs.declared.mark.Mark.{Mark}
+use Rattle.sqlx_log.specs.declared.mark.Mark.{Mark}
 use Rattle.sqlx_pool_core.specs.StandsFor.{StandsFor}
 use Rattle.sqlx_pool_core.specs.Makes.{Makes}
 use Rattle.sqlx_pool_core.specs.KeepingSteps.{lacks}

@@ -1,4 +1,3 @@
-use Rattle.std.proofs.Common.{rules, ◌≡◌}
 use Rattle.sqlx_pool_core.proofs.Answered.{leak-answered}
 use Rattle.sqlx_pool_core.proofs.Moving.{leak-moves}
 use Rattle.sqlx_pool_core.proofs.pool_core.PoolCore.leak.Goals as goal

@@ -1,4 +1,4 @@
-use Rattle.std.proofs.Common.{rules, ◌≡◌, ◌≤◌, ◌^◌, arith, refl}
+use Rattle.std.proofs.Common.{arith, refl}
 use Rattle.sqlx_pool_core.proofs.AskSoundness.{sound-tried}
 use Rattle.sqlx_pool_core.proofs.pool_core.PoolCore.lend_first.Goals as goal
 

@@ -1,4 +1,4 @@
-use Rattle.std.proofs.Common.{rules, ◌≡◌}
+use Rattle.std.proofs.Common.{rules}
 use Rattle.sqlx_pool_core.proofs.GiveCode.{loan-own-if, loan-conn-if}
 use Rattle.sqlx_pool_core.proofs.pool_core.PoolCore.loan.Goals as goal
 

@@ -1,4 +1,3 @@
-use Rattle.std.proofs.Common.{rules, ◌≡◌}
 use Rattle.sqlx_pool_core.proofs.Answered.{try-answered}
 use Rattle.sqlx_pool_core.proofs.Moving.{try-moves}
 use Rattle.sqlx_pool_core.proofs.pool_core.PoolCore.try_acquire.Goals as goal

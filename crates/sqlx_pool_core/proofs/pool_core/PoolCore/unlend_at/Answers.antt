@@ -1,4 +1,4 @@
-use Rattle.std.proofs.Common.{rules, ◌≡◌, arith}
+use Rattle.std.proofs.Common.{arith}
 use Rattle.sqlx_pool_core.proofs.GiveCode.{sound-unlent}
 use Rattle.sqlx_pool_core.proofs.pool_core.PoolCore.unlend_at.Goals as goal
 

@@ -1,0 +1,10 @@
+pub mod Standing
+pub mod Marks
+pub mod Counts
+pub mod View
+pub mod FairLog
+pub mod Born
+pub mod Laws
+pub mod Backoff
+pub mod EventTable
+pub mod PollTable

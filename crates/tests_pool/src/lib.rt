@@ -1,0 +1,7 @@
+//! Tests of the pool's core: each call once on its happy path, and the keeping of the minimum.
+#![tactic(auto)]
+
+#[cfg(test)]
+mod each_call;
+#[cfg(test)]
+mod minimum;

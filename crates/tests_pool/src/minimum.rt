@@ -1,0 +1,133 @@
+//! Keeping the minimum over an outside that accepts so many connects, and refuses the next.
+
+ghost use Rattle.std.specs.Prelude.{◌≡◌, ℕ, min, Bool, true, false, [], ◌∷◌, ◌++◌, Some, IsTrue, replicate, if◌then◌else◌};
+ghost use Rattle.sqlx_pool_core.specs.Outside.{Connected, RefusedTransiently};
+ghost use Rattle.sqlx_pool_core.specs.KeepingSteps.{lacks};
+
+use sqlx_pool_core::*;
+use sqlx_text::{Error, IoFault, Moment};
+use std::alloc::Global;
+use std::process::Abort;
+use std::test::*;
+
+// An outside that accepts so many connects, with their hooks, and refuses the next; a connection is the number 7.
+#[derive(Drop)]
+struct Few {
+    accepts: u32,
+    hooks: u32,
+    spent: bool,
+    refused: u64,
+    memory: bool,
+    short: bool,
+}
+
+impl Outside<u32, ()> for Few {
+    ghost faults = { λ s. s.refused };
+
+    ghost refusals = { λ _. 0 };
+
+    ghost depth = { λ _ _. 0 };
+
+    ghost alike = { λ _ _ _. true };
+
+    ghost told = { λ s. Some (record {
+      connects = if s.spent then [] else replicate s.accepts Connected ++ RefusedTransiently ∷ [];
+      pings = [];
+      after_connects = replicate s.hooks true;
+      before_acquires = [];
+      after_releases = [];
+    }) };
+
+    ghost IsShort = { λ s. IsTrue s.short };
+
+    fn connect(&mut self, _alloc: Global, _options: &()) -> Result<u32, Error> {
+        let is_accepted = !self.spent && self.accepts > 0;
+        if is_accepted {
+            self.accepts -= 1;
+        } else {
+            self.spent = true;
+            self.refused = self.refused.saturating_add(1);
+        }
+        if !self.memory {
+            self.short = true;
+            return Err(Error::OutOfMemory);
+        }
+        if is_accepted {
+            Ok(7)
+        } else {
+            Err(Error::Io(IoFault::ConnectionRefused))
+        }
+    }
+
+    fn ping(&mut self, _conn: &mut u32) -> Result<(), Error> {
+        Ok(())
+    }
+
+    fn after_connect(
+        &mut self,
+        _conn: &mut u32,
+        _meta: PoolConnectionMetadata,
+    ) -> Result<(), Error> {
+        self.hooks = self.hooks.saturating_sub(1);
+        Ok(())
+    }
+
+    fn before_acquire(
+        &mut self,
+        _conn: &mut u32,
+        _meta: PoolConnectionMetadata,
+    ) -> Result<bool, Error> {
+        Ok(true)
+    }
+
+    fn after_release(
+        &mut self,
+        _conn: &mut u32,
+        _meta: PoolConnectionMetadata,
+    ) -> Result<bool, Error> {
+        Ok(true)
+    }
+
+    fn depth(&self, _conn: &u32) -> usize {
+        0
+    }
+
+    fn close(&mut self, _conn: u32) {}
+
+    fn close_hard(&mut self, _conn: u32) {}
+}
+
+// Keeps the minimum over such an outside, by what it tells: so many open as it accepts and lack.
+fn fill(core: &mut PoolCore<u32>, alloc: Global, out: &mut Few) -> Openings
+    requires fresh { out.old.spent ≡ false }
+    requires hooks { out.old.hooks ≡ out.old.accepts }
+    ensures opened { result.short ≡ false → result.opened ≡ min out.old.accepts (lacks core.old) }
+    ensures short { result.short ≡ true → IsTrue out.new.short }
+{
+    core.keep_minimum(alloc, Moment(1), &(), out)
+}
+
+#[test]
+fn the_minimum_ends_at_the_first_refusal(rt: HostRuntime) -> Result<(), Fail> {
+    let alloc = rt.alloc();
+    for (minimum, memory, opened) in [(3, true, 2), (1, true, 1), (0, true, 0), (3, false, 0)] {
+        let options = PoolOptions::new()
+            .max_connections(5)
+            .min_connections(minimum)
+            .after_connect(true);
+        let mut core = PoolCore::<u32>::new(alloc, options)?;
+        let mut out = Few {
+            accepts: 2,
+            hooks: 2,
+            spent: false,
+            refused: 0,
+            memory,
+            short: false,
+        };
+        let filled = fill(&mut core, alloc, &mut out);
+        assert_eq!(rt; filled.opened, opened);
+        assert_eq!(rt; filled.short, !memory);
+        assert_eq!(rt; core.num_idle() as u32, opened);
+    }
+    Ok(())
+}
