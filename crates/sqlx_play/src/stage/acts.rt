@@ -37,7 +37,7 @@ pub enum Act {
 }
 
 /// What a statement came to.
-#[derive(Clone, Copy, Debug, PartialEq, Eq)]
+#[derive(Clone, Copy)]
 pub enum Outcome {
     Ran(Plain),
     /// Refused, with the reply that tells why.
