@@ -1,12 +1,12 @@
 //! Rust types as arguments of `Any`, and lists of arguments.
 
+use crate::says::says;
 use sqlx_any::*;
 use sqlx_text::{AnyTypeInfoKind, Error, Fault, OutOfMemory};
 use std::alloc::Global;
 use std::test::*;
 use tests_backend::StubBackend;
 use tests_backend::cells::{self, described, listed};
-use tests_database::answers::told;
 
 type Db = Any<StubBackend>;
 
@@ -87,7 +87,7 @@ fn numbers_are_arguments(rt: HostRuntime) -> Result<(), Fail> {
             "i64 BIGINT true 8 false BigInt 70000|BigInt 70000|Null BIGINT|false true",
         ),
     ] {
-        assert_eq!(rt; told(alloc, answer)?.as_str(), want);
+        says(&rt, answer, want)?;
     }
     Ok(())
 }
@@ -115,7 +115,7 @@ fn texts_and_bytes_are_arguments(rt: HostRuntime) -> Result<(), Fail> {
             "Vec<u8> BLOB false 2 false Blob [1, 2]|Blob [1, 2]|Null BLOB|false true",
         ),
     ] {
-        assert_eq!(rt; told(alloc, answer)?.as_str(), want);
+        says(&rt, answer, want)?;
     }
     Ok(())
 }
@@ -128,8 +128,8 @@ fn options_are_arguments(rt: HostRuntime) -> Result<(), Fail> {
     let told = Encode::<Db>::encode_by_ref(&some, alloc, &mut list);
     assert_eq!(rt; told.ok(), Some(IsNull::No));
     assert_eq!(rt; listed(alloc, list.as_slice())?.as_str(), "BigInt 5|");
-    assert_eq!(rt; sized::<Db, Option<i64>>(&some), (8, false));
-    assert_eq!(rt; sized::<Db, Option<i64>>(&None), (0, false));
+    assert_eq!(rt; sized::<Db, Option<i64>>(&some));
+    assert_eq!(rt; sized::<Db, Option<i64>>(&None));
     Ok(())
 }
 
@@ -167,7 +167,7 @@ fn keeps_the_first_arguments(rt: HostRuntime) -> Result<(), Fail> {
         (2, "2 2 a = ? Integer 5|Text x|"),
         (0, "0 0 a = ? "),
     ] {
-        assert_eq!(rt; told(alloc, kept(alloc, len))?.as_str(), want);
+        says(&rt, kept(alloc, len), want)?;
     }
     Ok(())
 }

@@ -1,11 +1,11 @@
 //! What each call of an executor gives of the steps that it hands out, and the statements that it prepares.
 
+use crate::says::says;
 use sqlx_any::*;
 use sqlx_text::{AnyTypeInfoKind, Error, OutOfMemory, SqlStr};
 use std::alloc::Global;
 use std::test::*;
 use tests_backend::StubBackend;
-use tests_database::answers::told;
 use tests_database::steps::{Call, gives};
 use tests_database::{Toy, ToyConnection};
 
@@ -53,11 +53,7 @@ fn calls_filter_one_list(rt: HostRuntime) -> Result<(), Fail> {
         ),
         (Call::FetchMany, "", ""),
     ] {
-        assert_eq!(rt;
-            told(alloc, of_toy(alloc, call, letters))?.as_str(),
-            want,
-            "of {letters}"
-        );
+        says(&rt, of_toy(alloc, call, letters), want)?;
     }
     Ok(())
 }
@@ -86,11 +82,7 @@ fn a_connection_hands_on_its_backends_list(rt: HostRuntime) -> Result<(), Fail> 
             "number|AnyQueryResult { rows_affected: 2, last_insert_id: None }|error communicating with database: other error|",
         ),
     ] {
-        assert_eq!(rt;
-            told(alloc, of_any(alloc, call, letters))?.as_str(),
-            want,
-            "of {letters}"
-        );
+        says(&rt, of_any(alloc, call, letters), want)?;
     }
     Ok(())
 }
@@ -132,9 +124,6 @@ fn of_any_prepared(alloc: Global) -> Result<String, Error> {
 #[test]
 fn prepares_statements(rt: HostRuntime) -> Result<(), Fail> {
     let alloc = rt.alloc();
-    assert_eq!(rt;
-        told(alloc, of_any_prepared(alloc))?.as_str(),
-        "1 0 SqlStr { text: \"SELECT\" }, 1 1 SqlStr { text: \"UPDATE\" }"
-    );
+    says(&rt, of_any_prepared(alloc), "1 0 SqlStr { text: \"SELECT\" }, 1 1 SqlStr { text: \"UPDATE\" }")?;
     Ok(())
 }
