@@ -103,7 +103,11 @@ fn a_connection_asks_its_backend(rt: HostRuntime) -> Result<(), Fail> {
 fn a_connection_hands_on_refusals(rt: HostRuntime) -> Result<(), Fail> {
     let alloc = rt.alloc();
     let inside = of_any(alloc, true, false, Act::BeginWith);
-    says(&rt, inside, "Some(Begin) 1 attempted to call begin_with at non-zero transaction depth")?;
+    says(
+        &rt,
+        inside,
+        "Some(Begin) 1 attempted to call begin_with at non-zero transaction depth",
+    )?;
     for (begun, call, last) in [
         (false, Act::Ping, "Some(Ping) 0"),
         (false, Act::Clear, "Some(Clear) 0"),

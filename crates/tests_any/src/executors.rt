@@ -2,7 +2,7 @@
 
 use crate::says::says;
 use sqlx_any::*;
-use sqlx_text::{AnyTypeInfoKind, Error, OutOfMemory, SqlStr};
+use sqlx_text::{AnyTypeInfoKind, Error, SqlStr};
 use std::alloc::Global;
 use std::test::*;
 use tests_backend::StubBackend;
@@ -88,42 +88,43 @@ fn a_connection_hands_on_its_backends_list(rt: HostRuntime) -> Result<(), Fail> 
 }
 
 // How many columns and parameters a statement has, and its text.
-fn statement<DB: Database>(alloc: Global, statement: DB::Statement) -> Result<String, OutOfMemory> {
+fn told_of<DB: Database>(
+    alloc: Global,
+    statement: Result<DB::Statement, Error>,
+) -> Result<String, Error> {
+    let statement = statement?;
     let columns = statement.columns().len();
     let parameters = match statement.parameters() {
         Some(Either::Left(types)) => types.len(),
         Some(Either::Right(count)) => count,
         None => usize::MAX,
     };
-    let sql = statement.into_sql();
-    let text = format!(in alloc; "{columns} {parameters} {sql:?}");
-    drop(sql);
+    let text = format!(in alloc; "{columns} {parameters} {:?}", statement.sql());
+    drop(statement);
     Ok(text?)
 }
 
-// The statements of a text that are prepared for no parameters, and for these.
-fn prepared<DB: Database, E: Executor<DB>>(
-    alloc: Global,
-    conn: &mut E,
-    parameters: &[DB::TypeInfo],
-) -> Result<String, Error> {
-    let first = conn.prepare(alloc, SqlStr::from_static("SELECT"))?;
-    let first = statement::<DB>(alloc, first)?;
-    let second = conn.prepare_with(alloc, SqlStr::from_static("UPDATE"), parameters)?;
-    let second = statement::<DB>(alloc, second)?;
-    Ok(format!(in alloc; "{first}, {second}")?)
-}
-
-fn of_any_prepared(alloc: Global) -> Result<String, Error> {
+// A statement that is prepared for a text as its parameter, or for none.
+fn prepared(alloc: Global, with: bool) -> Result<String, Error> {
     let mut conn = AnyConnection::new(StubBackend::new(alloc, "")?);
+    let sql = SqlStr::from_static("SELECT");
     let kind = AnyTypeInfoKind::Text;
-    let parameters = [AnyTypeInfo { kind }];
-    prepared::<Any<StubBackend>, AnyConnection<StubBackend>>(alloc, &mut conn, &parameters)
+    let statement = if with {
+        conn.prepare_with(alloc, sql, &[AnyTypeInfo { kind }])
+    } else {
+        conn.prepare(alloc, sql)
+    };
+    drop(conn);
+    told_of::<Any<StubBackend>>(alloc, statement)
 }
 
 #[test]
 fn prepares_statements(rt: HostRuntime) -> Result<(), Fail> {
     let alloc = rt.alloc();
-    says(&rt, of_any_prepared(alloc), "1 0 SqlStr { text: \"SELECT\" }, 1 1 SqlStr { text: \"UPDATE\" }")?;
-    Ok(())
+    let (none, one) = (
+        "1 0 SqlStr { text: \"SELECT\" }",
+        "1 1 SqlStr { text: \"SELECT\" }",
+    );
+    says(&rt, prepared(alloc, false), none)?;
+    says(&rt, prepared(alloc, true), one)
 }

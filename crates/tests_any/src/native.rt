@@ -7,8 +7,7 @@ use sqlx_any::*;
 use sqlx_text::{AnyTypeInfoKind, Error, OutOfMemory, SqlStr, UStr};
 use std::alloc::Global;
 use std::test::*;
-use tests_backend::StubBackend;
-use tests_backend::cells;
+use tests_backend::{StubBackend, cells};
 use tests_database::letters::{columns_of, row_of, types_of};
 use tests_database::{Toy, ToyColumn, ToyStatement, ToyType};
 
@@ -82,13 +81,22 @@ fn maps_rows(rt: HostRuntime) -> Result<(), Fail> {
     let alloc = rt.alloc();
     let unread = "error occurred while decoding: out of range integral type conversion attempted";
     for (letters, want) in [
-        ("lt", "BigInt 7|Text x|0 large BIGINT|1 text TEXT| second text"),
-        ("tl", "Text x|BigInt 7|0 text TEXT|1 large BIGINT| second large"),
+        (
+            "lt",
+            "BigInt 7|Text x|0 large BIGINT|1 text TEXT| second text",
+        ),
+        (
+            "tl",
+            "Text x|BigInt 7|0 text TEXT|1 large BIGINT| second large",
+        ),
         (
             "bsi",
             "Bool true|SmallInt 5|Integer 6|0 flag BOOLEAN|1 small SMALLINT|2 whole INTEGER| second small",
         ),
-        ("yn", "Blob [1, 2]|Null TEXT|0 bytes BLOB|1 none TEXT| second none"),
+        (
+            "yn",
+            "Blob [1, 2]|Null TEXT|0 bytes BLOB|1 none TEXT| second none",
+        ),
         ("", ""),
         ("lp", UNMAPPED),
         (
@@ -121,20 +129,25 @@ fn put_parameters(
     Ok(())
 }
 
-// The form of a statement of columns and parameters by letters.
-fn statement(alloc: Global, letters: &str) -> Result<String, Error> {
-    let own = ToyStatement {
-        sql: SqlStr::from_static("SELECT "),
-        columns: columns_of(alloc, letters)?,
-        types: types_of(alloc, letters)?,
-    };
-    let names = names(alloc, 1, own.columns.len())?;
-    let form = AnyStatement::try_from_statement::<Toy>(alloc, own, names)?;
+fn told_of(alloc: Global, form: &AnyStatement) -> Result<String, OutOfMemory> {
     let mut line = form.sql().as_str().to_string(alloc)?;
     put_columns(alloc, &mut line, form.columns())?;
     put_parameters(alloc, &mut line, form.parameters())?;
     put_second(alloc, &mut line, form.try_column(alloc, "second"))?;
     Ok(line)
+}
+
+// The form of a statement of columns and parameters by letters.
+fn statement(alloc: Global, letters: &str) -> Result<String, Error> {
+    let columns = columns_of(alloc, letters)?;
+    let names = names(alloc, 1, columns.len())?;
+    let own = ToyStatement {
+        sql: SqlStr::from_static("SELECT "),
+        columns,
+        types: types_of(alloc, letters)?,
+    };
+    let form = AnyStatement::try_from_statement::<Toy>(alloc, own, names)?;
+    Ok(told_of(alloc, &form)?)
 }
 
 #[test]

@@ -21,11 +21,14 @@ fn names(alloc: Global, position: usize) -> Result<ColumnNames, OutOfMemory> {
 #[test]
 fn finds_names(rt: HostRuntime) -> Result<(), Fail> {
     let alloc = rt.alloc();
-    let first = names(alloc, 1)?;
-    let copy = first.try_clone(alloc)?;
-    for (name, want) in [("x", Some(1)), ("y", Some(0)), ("z", None)] {
-        assert_eq!(rt; (first.get(name), copy.get(name)), (want, want));
-    }
+    let names = names(alloc, 1)?;
+    let copy = names.try_clone(alloc);
+    drop(names);
+    let copy = copy?;
+    assert_eq!(rt;
+        [copy.get("x"), copy.get("y"), copy.get("z")],
+        [Some(1), Some(0), None]
+    );
     Ok(())
 }
 

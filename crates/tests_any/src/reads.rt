@@ -5,8 +5,7 @@ use sqlx_text::{Error, OutOfMemory};
 use std::alloc::Global;
 use std::fmt::Debug;
 use std::test::*;
-use tests_backend::StubBackend;
-use tests_backend::cells;
+use tests_backend::{StubBackend, cells};
 use tests_database::answers::shown;
 
 type Db = Any<StubBackend>;
@@ -97,7 +96,8 @@ fn reads_options(rt: HostRuntime) -> Result<(), Fail> {
     let null = cells::single(alloc, AnyValueKind::Null(AnyTypeInfoKind::Text))?;
     let number = cells::single(alloc, AnyValueKind::BigInt(5))?;
     let text = cells::single(alloc, cells::text("x"))?;
-    let mismatch = "error occurred while decoding column 0: mismatched types; Rust type `i32` is not compatible with SQL type `TEXT`";
+    let mismatch =
+        "error occurred while decoding column 0: mismatched types; Rust type `i32` is not compatible with SQL type `TEXT`";
     for (answer, want) in [
         (option::<i32>(alloc, &null)?, "None"),
         (option::<i32>(alloc, &number)?, "Some(5)"),

@@ -41,7 +41,11 @@ fn tells_the_first_fault(rt: HostRuntime) -> Result<(), Fail> {
     for call in [Call::Fetch, Call::FetchMany, Call::ExecuteMany] {
         says(&rt, first(alloc, call), alone.as_str())?;
     }
-    says(&rt, second(alloc), "nothing: error occurred while encoding a value: Encoding argument $2 failed: out of range integral type conversion attempted")?;
+    says(
+        &rt,
+        second(alloc),
+        "nothing: error occurred while encoding a value: Encoding argument $2 failed: out of range integral type conversion attempted",
+    )?;
     Ok(())
 }
 
