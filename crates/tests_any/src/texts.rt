@@ -112,19 +112,15 @@ fn numbers(alloc: Global) -> Result<AnyArguments, OutOfMemory> {
 #[test]
 fn a_backend_is_handed_the_query(rt: HostRuntime) -> Result<(), Fail> {
     let alloc = rt.alloc();
-    for (answer, want) in [
-        (handed(alloc, "SELECT"), "SELECT kept bare, number|"),
-        (
-            handed(alloc, ("SELECT", Some(numbers(alloc)?))),
-            "SELECT kept BigInt 5|Bool true|, number|",
-        ),
-        (
-            handed(alloc, Unbound),
-            "nothing, error occurred while encoding a value: out of range integral type conversion attempted|",
-        ),
-        (asked(alloc, Unbound), "nothing"),
-    ] {
-        says(&rt, answer, want)?;
-    }
-    Ok(())
+    let pair = ("SELECT", Some(numbers(alloc)?));
+    let unbound =
+        "nothing, error occurred while encoding a value: out of range integral type conversion attempted|";
+    says(
+        &rt,
+        handed(alloc, pair),
+        "SELECT kept BigInt 5|Bool true|, number|",
+    )?;
+    says(&rt, handed(alloc, "SELECT"), "SELECT kept bare, number|")?;
+    says(&rt, handed(alloc, Unbound), unbound)?;
+    says(&rt, asked(alloc, Unbound), "nothing")
 }
