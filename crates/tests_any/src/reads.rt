@@ -1,5 +1,6 @@
 //! Which Rust types read a value of `Any` of each kind, and what they read.
 
+use crate::says::says;
 use sqlx_any::*;
 use sqlx_text::{Error, OutOfMemory};
 use std::alloc::Global;
@@ -42,6 +43,15 @@ fn texts(alloc: Global, row: &AnyRow, line: &mut String) -> Result<(), OutOfMemo
     read_as::<Vec<u8>>(alloc, row, "Vec<u8>", line)
 }
 
+// The types that read a value, and what they read.
+fn readers(alloc: Global, kind: AnyValueKind) -> Result<String, Error> {
+    let row = cells::single(alloc, kind)?;
+    let mut line = String::new(alloc);
+    numbers(alloc, &row, &mut line)?;
+    texts(alloc, &row, &mut line)?;
+    Ok(line)
+}
+
 #[test]
 fn each_kind_has_its_readers(rt: HostRuntime) -> Result<(), Fail> {
     let alloc = rt.alloc();
@@ -73,11 +83,7 @@ fn each_kind_has_its_readers(rt: HostRuntime) -> Result<(), Fail> {
         (cells::slice("5"), "&str \"5\"|String \"5\"|"),
         (cells::blob(alloc)?, "&[u8] [1, 2]|Vec<u8> [1, 2]|"),
     ] {
-        let row = cells::single(alloc, kind)?;
-        let mut line = String::new(alloc);
-        numbers(alloc, &row, &mut line)?;
-        texts(alloc, &row, &mut line)?;
-        assert_eq!(rt; line.as_str(), want);
+        says(&rt, readers(alloc, kind), want)?;
     }
     Ok(())
 }
@@ -86,8 +92,8 @@ fn each_kind_has_its_readers(rt: HostRuntime) -> Result<(), Fail> {
 fn option<'r, T: AnyRead<'r> + Debug + Drop>(
     alloc: Global,
     row: &'r AnyRow,
-) -> Result<String, OutOfMemory> {
-    shown(alloc, row.try_get::<Option<T>, usize>(alloc, 0))
+) -> Result<String, Error> {
+    Ok(shown(alloc, row.try_get::<Option<T>, usize>(alloc, 0))?)
 }
 
 #[test]
@@ -98,36 +104,31 @@ fn reads_options(rt: HostRuntime) -> Result<(), Fail> {
     let text = cells::single(alloc, cells::text("x"))?;
     let mismatch =
         "error occurred while decoding column 0: mismatched types; Rust type `i32` is not compatible with SQL type `TEXT`";
-    for (answer, want) in [
-        (option::<i32>(alloc, &null)?, "None"),
-        (option::<i32>(alloc, &number)?, "Some(5)"),
-        (option::<&str>(alloc, &null)?, "None"),
-        (option::<&str>(alloc, &text)?, "Some(\"x\")"),
-        (option::<i32>(alloc, &text)?, mismatch),
-    ] {
-        assert_eq!(rt; answer.as_str(), want);
-    }
-    Ok(())
+    says(&rt, option::<i32>(alloc, &null), "None")?;
+    says(&rt, option::<i32>(alloc, &number), "Some(5)")?;
+    says(&rt, option::<&str>(alloc, &null), "None")?;
+    says(&rt, option::<&str>(alloc, &text), "Some(\"x\")")?;
+    says(&rt, option::<i32>(alloc, &text), mismatch)
 }
 
 // What a type makes of a row's one value: checked by a name, unchecked, and checked and unchecked alone.
 fn inherent<'r, T: AnyRead<'r> + Debug + Drop>(
     alloc: Global,
     row: &'r AnyRow,
-) -> Result<[String; 4], Error> {
+) -> Result<String, Error> {
     let named = shown(alloc, row.try_get::<T, &str>(alloc, "what"))?;
     let unchecked = shown(alloc, row.try_get_unchecked::<T, usize>(alloc, 0))?;
     let value = row.try_get_raw(alloc, 0usize)?;
     let alone = shown(alloc, value.try_decode::<T>(alloc))?;
     let unchecked_alone = shown(alloc, value.try_decode_unchecked::<T>(alloc))?;
-    Ok([named, unchecked, alone, unchecked_alone])
+    Ok(format!(in alloc; "{named}; {unchecked}; {alone}; {unchecked_alone}")?)
 }
 
 // The same by the calls of a driver's rows and values.
 fn by_traits<T: DecodeOwned<Db> + SqlType<Db> + Debug + Drop>(
     alloc: Global,
     row: &AnyRow,
-) -> Result<[String; 4], Error> {
+) -> Result<String, Error> {
     let named = shown(alloc, Row::<Db>::try_get::<T, &str>(row, alloc, "what"))?;
     let unchecked = Row::<Db>::try_get_unchecked::<T, usize>(row, alloc, 0);
     let unchecked = shown(alloc, unchecked)?;
@@ -135,7 +136,7 @@ fn by_traits<T: DecodeOwned<Db> + SqlType<Db> + Debug + Drop>(
     let alone = shown(alloc, Value::<Db>::try_decode::<T>(value, alloc))?;
     let unchecked_alone = Value::<Db>::try_decode_unchecked::<T>(value, alloc);
     let unchecked_alone = shown(alloc, unchecked_alone)?;
-    Ok([named, unchecked, alone, unchecked_alone])
+    Ok(format!(in alloc; "{named}; {unchecked}; {alone}; {unchecked_alone}")?)
 }
 
 #[test]
@@ -164,36 +165,35 @@ fn tells_why_a_value_is_not_read(rt: HostRuntime) -> Result<(), Fail> {
         ),
     ] {
         let row = cells::single(alloc, kind)?;
-        let wants = [
-            format!(in alloc; "{in_row} \"what\": {checked}")?,
-            format!(in alloc; "{in_row} 0: {unchecked}")?,
-            format!(in alloc; "{alone} {checked_alone}")?,
-            format!(in alloc; "{alone} {unchecked}")?,
-        ];
-        assert_eq!(rt; inherent::<i16>(alloc, &row)?, wants);
-        assert_eq!(rt; by_traits::<i16>(alloc, &row)?, wants);
+        let want = format!(in alloc;
+            "{in_row} \"what\": {checked}; {in_row} 0: {unchecked}; {alone} {checked_alone}; {alone} {unchecked}"
+        )?;
+        says(&rt, inherent::<i16>(alloc, &row), want.as_str())?;
+        says(&rt, by_traits::<i16>(alloc, &row), want.as_str())?;
     }
     Ok(())
+}
+
+// The number at an index of a row.
+fn at<I: ColumnIndex<AnyRow> + Drop>(
+    alloc: Global,
+    row: &AnyRow,
+    index: I,
+) -> Result<String, Error> {
+    Ok(shown(alloc, row.try_get::<i64, I>(alloc, index))?)
 }
 
 #[test]
 fn finds_columns(rt: HostRuntime) -> Result<(), Fail> {
     let alloc = rt.alloc();
     let row = cells::pair(alloc)?;
-    for (at, want) in [
-        (0, "5"),
-        (1, "7"),
-        (
-            2,
-            "column index out of bounds: the len is 2, but the index is 2",
-        ),
-    ] {
-        let read = row.try_get::<i64, usize>(alloc, at);
-        assert_eq!(rt; shown(alloc, read)?.as_str(), want);
-    }
-    for (name, want) in [("x", "5"), ("y", "7"), ("z", "no column found for name: z")] {
-        let read = row.try_get::<i64, &str>(alloc, name);
-        assert_eq!(rt; shown(alloc, read)?.as_str(), want);
-    }
-    Ok(())
+    let past = "column index out of bounds: the len is 2, but the index is 2";
+    says(&rt, at::<usize>(alloc, &row, 1), "7")?;
+    says(&rt, at::<usize>(alloc, &row, 2), past)?;
+    says(&rt, at::<&str>(alloc, &row, "x"), "5")?;
+    says(
+        &rt,
+        at::<&str>(alloc, &row, "z"),
+        "no column found for name: z",
+    )
 }

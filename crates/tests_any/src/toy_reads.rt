@@ -6,7 +6,7 @@ use sqlx_text::{Error, OutOfMemory, SqlStr};
 use sqlx_traits::*;
 use std::alloc::Global;
 use std::test::*;
-use tests_database::answers::{shown, told};
+use tests_database::answers::shown;
 use tests_database::letters::{columns_of, row_of, single};
 use tests_database::{Toy, ToyRow, ToyStatement};
 
