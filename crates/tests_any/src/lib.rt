@@ -24,6 +24,8 @@ mod queries;
 #[cfg(test)]
 mod reads;
 #[cfg(test)]
+mod says;
+#[cfg(test)]
 mod texts;
 #[cfg(test)]
 mod toy_reads;

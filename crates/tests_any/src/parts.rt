@@ -1,11 +1,11 @@
 //! Rows and statements of `Any` by their parts, names of columns, and the results of statements.
 
+use crate::says::says;
 use sqlx_any::*;
 use sqlx_text::{AnyTypeInfoKind, Error, OutOfMemory, SqlStr, UStr};
 use std::alloc::Global;
 use std::test::*;
 use tests_backend::{StubBackend, cells};
-use tests_database::answers::told;
 
 type Db = Any<StubBackend>;
 
@@ -21,11 +21,14 @@ fn names(alloc: Global, position: usize) -> Result<ColumnNames, OutOfMemory> {
 #[test]
 fn finds_names(rt: HostRuntime) -> Result<(), Fail> {
     let alloc = rt.alloc();
-    let first = names(alloc, 1)?;
-    let copy = first.try_clone(alloc)?;
-    for (name, want) in [("x", Some(1)), ("y", Some(0)), ("z", None)] {
-        assert_eq!(rt; (first.get(name), copy.get(name)), (want, want));
-    }
+    let names = names(alloc, 1)?;
+    let copy = names.try_clone(alloc);
+    drop(names);
+    let copy = copy?;
+    assert_eq!(rt;
+        [copy.get("x"), copy.get("y"), copy.get("z")],
+        [Some(1), Some(0), None]
+    );
     Ok(())
 }
 
@@ -66,9 +69,8 @@ fn statement(
 fn lengths(alloc: Global, row: Result<AnyRow, Error>) -> Result<String, Error> {
     let row = row?;
     let copy = row.try_clone(alloc)?;
-    let columns = Row::<Db>::columns(&copy).len();
-    let len = Row::<Db>::len(&copy);
-    let empty = Row::<Db>::is_empty(&copy);
+    let columns = copy.columns().len();
+    let (len, empty) = (copy.len(), copy.is_empty());
     Ok(format!(in alloc; "{columns} {len} {empty}")?)
 }
 
@@ -83,7 +85,7 @@ fn rows_fit(rt: HostRuntime) -> Result<(), Fail> {
         (2, 2, unfit),
     ] {
         let answer = lengths(alloc, row(alloc, count, position));
-        assert_eq!(rt; told(alloc, answer)?.as_str(), want);
+        says(&rt, answer, want)?;
     }
     Ok(())
 }
@@ -91,9 +93,7 @@ fn rows_fit(rt: HostRuntime) -> Result<(), Fail> {
 // A column's position, name, type and origin.
 fn described(alloc: Global, column: &AnyColumn) -> Result<String, OutOfMemory> {
     let copy = column.try_clone(alloc)?;
-    let at = Column::<Db>::ordinal(&copy);
-    let name = Column::<Db>::name(&copy);
-    let ty = Column::<Db>::type_info(&copy);
+    let (at, name, ty) = (copy.ordinal(), copy.name(), copy.type_info());
     let origin = Column::<Db>::origin(&copy);
     let text = format!(in alloc; "{at} {name} {ty} {origin:?}");
     drop(origin);
@@ -106,10 +106,10 @@ fn column<I: ColumnIndex<AnyRow> + ColumnIndex<AnyStatement> + Drop>(
     index: I,
 ) -> Result<String, Error> {
     let row = row(alloc, 2, 1)?;
-    let in_row = described(alloc, Row::<Db>::try_column(&row, alloc, &index)?)?;
+    let in_row = described(alloc, row.try_column(alloc, &index)?)?;
     let statement = statement(alloc, None, 1)?;
     let label = ColumnIndex::<AnyStatement>::label(&index, alloc)?;
-    let in_statement = Statement::<Db>::try_column(&statement, alloc, index)?;
+    let in_statement = statement.try_column(alloc, index)?;
     let in_statement = described(alloc, in_statement)?;
     Ok(format!(in alloc; "{in_row}, {in_statement}, {label}")?)
 }
@@ -124,13 +124,13 @@ fn finds_columns(rt: HostRuntime) -> Result<(), Fail> {
             "column index out of bounds: the len is 2, but the index is 2",
         ),
     ] {
-        assert_eq!(rt; told(alloc, column::<usize>(alloc, at))?.as_str(), want);
+        says(&rt, column::<usize>(alloc, at), want)?;
     }
     for (name, want) in [
         ("x", "1 x TEXT Unknown, 1 x TEXT Unknown, \"x\""),
         ("z", "no column found for name: z"),
     ] {
-        assert_eq!(rt; told(alloc, column::<&str>(alloc, name))?.as_str(), want);
+        says(&rt, column::<&str>(alloc, name), want)?;
     }
     Ok(())
 }
@@ -139,13 +139,13 @@ fn finds_columns(rt: HostRuntime) -> Result<(), Fail> {
 fn copied(alloc: Global, statement: Result<AnyStatement, Error>) -> Result<String, Error> {
     let statement = statement?;
     let copy = statement.try_clone(alloc)?;
-    let parameters = match Statement::<Db>::parameters(&copy) {
+    let parameters = match copy.parameters() {
         Some(Either::Left(types)) => format!(in alloc; "{types:?}")?,
         Some(Either::Right(count)) => format!(in alloc; "{count}")?,
         None => "untold".to_string(alloc)?,
     };
-    let is_it = Statement::<Db>::sql(&copy).is("SELECT");
-    let sql = Statement::<Db>::into_sql(copy);
+    let is_it = copy.sql().is("SELECT");
+    let sql = copy.into_sql();
     let sql = sql.as_str();
     Ok(format!(in alloc; "{parameters} {is_it} {sql}")?)
 }
@@ -169,7 +169,7 @@ fn statements_fit(rt: HostRuntime) -> Result<(), Fail> {
         (None, 2, "a statement names no column past its own"),
     ] {
         let answer = copied(alloc, statement(alloc, parameters, position));
-        assert_eq!(rt; told(alloc, answer)?.as_str(), want);
+        says(&rt, answer, want)?;
     }
     Ok(())
 }

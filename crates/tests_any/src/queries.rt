@@ -1,12 +1,13 @@
 //! Queries of a connection over a backend.
 
+use crate::says::says;
 use sqlx_any::{Any, AnyConnection};
 use sqlx_query::{query, query_as, query_scalar};
 use sqlx_text::Error;
 use std::alloc::Global;
 use std::test::*;
 use tests_backend::StubBackend;
-use tests_database::answers::{shown, told};
+use tests_database::answers::shown;
 
 type Db = Any<StubBackend>;
 
@@ -50,7 +51,7 @@ fn queries_run_over_a_backend(rt: HostRuntime) -> Result<(), Fail> {
             "UPDATE kept Text x|: AnyQueryResult { rows_affected: 2, last_insert_id: None }",
         ),
     ] {
-        assert_eq!(rt; told(alloc, answer)?.as_str(), want);
+        says(&rt, answer, want)?;
     }
     Ok(())
 }

@@ -1,12 +1,12 @@
 //! What can be run: texts, and pairs of a text and its arguments; and what an executor is handed of them.
 
+use crate::says::says;
 use sqlx_any::*;
 use sqlx_text::{AssertSqlSafe, Error, Fault, OutOfMemory, SqlStr, UStr};
 use std::alloc::Global;
 use std::borrow::CowStr;
 use std::test::*;
 use tests_backend::StubBackend;
-use tests_database::answers::told;
 use tests_database::steps::steps;
 use tests_database::{Toy, ToyArguments, ToyConnection};
 
@@ -29,7 +29,7 @@ fn texts_are_kept(rt: HostRuntime) -> Result<(), Fail> {
         asked(alloc, AssertSqlSafe(owned)),
         asked(alloc, AssertSqlSafe(boxed)),
     ] {
-        assert_eq!(rt; told(alloc, answer)?.as_str(), "SELECT kept bare");
+        says(&rt, answer, "SELECT kept bare")?;
     }
     Ok(())
 }
@@ -56,7 +56,7 @@ fn pairs_have_their_arguments(rt: HostRuntime) -> Result<(), Fail> {
             "SELECT kept|x|null",
         ),
     ] {
-        assert_eq!(rt; told(alloc, answer)?.as_str(), want);
+        says(&rt, answer, want)?;
     }
     Ok(())
 }
@@ -112,19 +112,15 @@ fn numbers(alloc: Global) -> Result<AnyArguments, OutOfMemory> {
 #[test]
 fn a_backend_is_handed_the_query(rt: HostRuntime) -> Result<(), Fail> {
     let alloc = rt.alloc();
-    for (answer, want) in [
-        (handed(alloc, "SELECT"), "SELECT kept bare, number|"),
-        (
-            handed(alloc, ("SELECT", Some(numbers(alloc)?))),
-            "SELECT kept BigInt 5|Bool true|, number|",
-        ),
-        (
-            handed(alloc, Unbound),
-            "nothing, error occurred while encoding a value: out of range integral type conversion attempted|",
-        ),
-        (asked(alloc, Unbound), "nothing"),
-    ] {
-        assert_eq!(rt; told(alloc, answer)?.as_str(), want);
-    }
-    Ok(())
+    let pair = ("SELECT", Some(numbers(alloc)?));
+    let unbound =
+        "nothing, error occurred while encoding a value: out of range integral type conversion attempted|";
+    says(
+        &rt,
+        handed(alloc, pair),
+        "SELECT kept BigInt 5|Bool true|, number|",
+    )?;
+    says(&rt, handed(alloc, "SELECT"), "SELECT kept bare, number|")?;
+    says(&rt, handed(alloc, Unbound), unbound)?;
+    says(&rt, asked(alloc, Unbound), "nothing")
 }

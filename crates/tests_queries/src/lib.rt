@@ -18,4 +18,6 @@ mod read;
 #[cfg(test)]
 mod rows;
 #[cfg(test)]
+mod says;
+#[cfg(test)]
 mod statements;

@@ -2,11 +2,11 @@
 
 use crate::calls::{asked, numbers, of_read, ran_read};
 use crate::rows::Note;
+use crate::says::says;
 use sqlx_query::*;
 use sqlx_text::Error;
 use std::alloc::Global;
 use std::test::*;
-use tests_database::answers::told;
 use tests_database::letters::row_of;
 use tests_database::steps::Call;
 use tests_database::{Toy, ToyConnection};
@@ -45,10 +45,7 @@ fn reads_rows_and_columns(rt: HostRuntime) -> Result<(), Fail> {
         (Call::FetchOne, "tl", MISMATCH),
     ] {
         let want = format!(in alloc; "SELECT|1: {given}")?;
-        assert_eq!(rt;
-            told(alloc, scalars(alloc, call, letters))?.as_str(),
-            want.as_str()
-        );
+        says(&rt, scalars(alloc, call, letters), want.as_str())?;
     }
     for (call, letters, given) in [
         (Call::Fetch, "ll2", "(7,)|(7,)|"),
@@ -57,10 +54,7 @@ fn reads_rows_and_columns(rt: HostRuntime) -> Result<(), Fail> {
         (Call::FetchOne, "lt2", "(7,)"),
     ] {
         let want = format!(in alloc; "SELECT|1: {given}")?;
-        assert_eq!(rt;
-            told(alloc, tuples(alloc, call, letters))?.as_str(),
-            want.as_str()
-        );
+        says(&rt, tuples(alloc, call, letters), want.as_str())?;
     }
     Ok(())
 }
@@ -98,7 +92,7 @@ fn reads_with_arguments(rt: HostRuntime) -> Result<(), Fail> {
         (scalar_with(alloc), "SELECT kept|8: 7"),
         (scalar_with_result(alloc), "SELECT kept|9: 7"),
     ] {
-        assert_eq!(rt; told(alloc, answer)?.as_str(), want);
+        says(&rt, answer, want)?;
     }
     Ok(())
 }
@@ -123,7 +117,7 @@ fn reads_a_struct(rt: HostRuntime) -> Result<(), Fail> {
             "SELECT kept: column index out of bounds: the len is 1, but the index is 1",
         ),
     ] {
-        assert_eq!(rt; told(alloc, answer)?.as_str(), want);
+        says(&rt, answer, want)?;
     }
     Ok(())
 }
