@@ -169,15 +169,19 @@ fn columns_have_labels(rt: HostRuntime) -> Result<(), Fail> {
     says(&rt, label::<&str>(alloc, &"x"), "\"x\"")
 }
 
+// The parameters of a statement.
+fn parameters(alloc: Global, statement: &AnyStatement) -> Result<String, OutOfMemory> {
+    match statement.parameters() {
+        Some(Either::Left(types)) => Ok(format!(in alloc; "{types:?}")?),
+        Some(Either::Right(count)) => Ok(format!(in alloc; "{count}")?),
+        None => Ok("untold".to_string(alloc)?),
+    }
+}
+
 // The parameters and the text of a copy of the statement.
 fn copied(alloc: Global, statement: Result<AnyStatement, Error>) -> Result<String, Error> {
-    let statement = statement?;
-    let copy = statement.try_clone(alloc)?;
-    let parameters = match copy.parameters() {
-        Some(Either::Left(types)) => format!(in alloc; "{types:?}")?,
-        Some(Either::Right(count)) => format!(in alloc; "{count}")?,
-        None => "untold".to_string(alloc)?,
-    };
+    let copy = statement?.try_clone(alloc)?;
+    let parameters = parameters(alloc, &copy)?;
     let sql = copy.into_sql();
     let text = format!(in alloc; "{parameters} {sql:?}");
     drop(sql);
