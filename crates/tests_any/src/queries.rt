@@ -1,8 +1,9 @@
 //! Queries of a connection over a backend.
 
 use crate::says::says;
+use crate::texts::handed;
 use sqlx_any::{Any, AnyConnection};
-use sqlx_query::{query, query_as, query_scalar};
+use sqlx_query::{query, query_as};
 use sqlx_text::Error;
 use std::alloc::Global;
 use std::test::*;
@@ -11,47 +12,25 @@ use tests_database::answers::shown;
 
 type Db = Any<StubBackend>;
 
-// What the backend is handed with a query whose rows become tuples, and what they become.
+fn bound(alloc: Global) -> Result<String, Error> {
+    let query = query::<Db, _>(alloc, "UPDATE")?;
+    handed(alloc, query.bind(alloc, "x").persistent(false))
+}
+
+// What the rows of a query become.
 fn tuples(alloc: Global, letters: &str) -> Result<String, Error> {
-    let query = query_as::<Db, (i64,), _>(alloc, "SELECT")?.bind(alloc, 1i64);
     let mut conn = AnyConnection::new(StubBackend::new(alloc, letters)?);
-    let given = shown(alloc, query.fetch_all(alloc, &mut conn))?;
-    let handed = conn.backend().handed_shown(alloc)?;
-    Ok(format!(in alloc; "{handed}: {given}")?)
-}
-
-fn scalar(alloc: Global) -> Result<String, Error> {
-    let query = query_scalar::<Db, i64, _>(alloc, "SELECT")?.persistent(false);
-    let mut conn = AnyConnection::new(StubBackend::new(alloc, "i")?);
-    let given = shown(alloc, query.fetch_one(alloc, &mut conn))?;
-    let handed = conn.backend().handed_shown(alloc)?;
-    Ok(format!(in alloc; "{handed}: {given}")?)
-}
-
-fn executed(alloc: Global) -> Result<String, Error> {
-    let query = query::<Db, _>(alloc, "UPDATE")?.bind(alloc, "x");
-    let mut conn = AnyConnection::new(StubBackend::new(alloc, "2")?);
-    let given = shown(alloc, query.execute(alloc, &mut conn))?;
-    let handed = conn.backend().handed_shown(alloc)?;
-    Ok(format!(in alloc; "{handed}: {given}")?)
+    let rows = query_as::<Db, (i64,), _>(alloc, "SELECT")?.fetch_all(alloc, &mut conn);
+    drop(conn);
+    Ok(shown(alloc, rows)?)
 }
 
 #[test]
 fn queries_run_over_a_backend(rt: HostRuntime) -> Result<(), Fail> {
     let alloc = rt.alloc();
-    for (answer, want) in [
-        (tuples(alloc, "ii"), "SELECT kept BigInt 1|: [(5,), (5,)]"),
-        (
-            tuples(alloc, "it"),
-            "SELECT kept BigInt 1|: error occurred while decoding column 0: mismatched types; Rust type `i64` is not compatible with SQL type `TEXT`",
-        ),
-        (scalar(alloc), "SELECT : 5"),
-        (
-            executed(alloc),
-            "UPDATE kept Text x|: AnyQueryResult { rows_affected: 2, last_insert_id: None }",
-        ),
-    ] {
-        says(&rt, answer, want)?;
-    }
-    Ok(())
+    let mismatch =
+        "error occurred while decoding column 0: mismatched types; Rust type `i64` is not compatible with SQL type `TEXT`";
+    says(&rt, bound(alloc), "UPDATE Text x|, number|")?;
+    says(&rt, tuples(alloc, "i2i"), "[(5,), (5,)]")?;
+    says(&rt, tuples(alloc, "it"), mismatch)
 }

@@ -20,18 +20,14 @@ fn asked<Q: Execute<Toy>>(alloc: Global, query: Q) -> Result<String, Error> {
 #[test]
 fn texts_are_kept(rt: HostRuntime) -> Result<(), Fail> {
     let alloc = rt.alloc();
+    let want = "SELECT kept bare";
     let owned = "SELECT".to_string(alloc)?;
+    says(&rt, asked(alloc, AssertSqlSafe(owned)), want)?;
     let boxed = "SELECT".to_string(alloc)?.into_boxed_str();
-    for answer in [
-        asked(alloc, "SELECT"),
-        asked(alloc, SqlStr::from_static("SELECT")),
-        asked(alloc, AssertSqlSafe("SELECT")),
-        asked(alloc, AssertSqlSafe(owned)),
-        asked(alloc, AssertSqlSafe(boxed)),
-    ] {
-        says(&rt, answer, "SELECT kept bare")?;
-    }
-    Ok(())
+    says(&rt, asked(alloc, AssertSqlSafe(boxed)), want)?;
+    says(&rt, asked(alloc, "SELECT"), want)?;
+    says(&rt, asked(alloc, SqlStr::from_static("SELECT")), want)?;
+    says(&rt, asked(alloc, AssertSqlSafe("SELECT")), want)
 }
 
 // Arguments of a text and of no text.
@@ -45,20 +41,14 @@ fn two(alloc: Global) -> Result<ToyArguments, Fault> {
 #[test]
 fn pairs_have_their_arguments(rt: HostRuntime) -> Result<(), Fail> {
     let alloc = rt.alloc();
-    let cow = AssertSqlSafe(CowStr::Borrowed("SELECT"));
+    let want = "SELECT kept bare";
     let shared = AssertSqlSafe(UStr::from_static("SELECT"));
-    for (answer, want) in [
-        (asked(alloc, cow), "SELECT kept bare"),
-        (asked(alloc, shared), "SELECT kept bare"),
-        (asked(alloc, ("SELECT", None)), "SELECT kept bare"),
-        (
-            asked(alloc, ("SELECT", two(alloc).ok())),
-            "SELECT kept|x|null",
-        ),
-    ] {
-        says(&rt, answer, want)?;
-    }
-    Ok(())
+    says(&rt, asked(alloc, shared), want)?;
+    let cow = AssertSqlSafe(CowStr::Borrowed("SELECT"));
+    says(&rt, asked(alloc, cow), want)?;
+    says(&rt, asked(alloc, ("SELECT", None)), want)?;
+    let bound = ("SELECT", two(alloc).ok());
+    says(&rt, asked(alloc, bound), "SELECT kept|x|null")
 }
 
 // A query whose arguments can't be had.
@@ -94,8 +84,8 @@ impl<DB: Database> Execute<DB> for Unbound {
     }
 }
 
-// What a backend is handed with a query, and the steps that come of it.
-fn handed<Q: Execute<Any<StubBackend>>>(alloc: Global, query: Q) -> Result<String, Error> {
+/// What a backend is handed with a query, and the steps that come of it.
+pub fn handed<Q: Execute<Any<StubBackend>>>(alloc: Global, query: Q) -> Result<String, Error> {
     let mut conn = AnyConnection::new(StubBackend::new(alloc, "i")?);
     let steps = steps::<Any<StubBackend>>(alloc, conn.fetch_many(alloc, query))?;
     let handed = conn.backend().handed_shown(alloc)?;
