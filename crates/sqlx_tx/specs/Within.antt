@@ -26,13 +26,13 @@ module _ {C : Type 0} (does : Call → C → Outcome → C → Type 0) (levels f
     Tells e answer = (told : E) × from e told × (answer ≡ Err told)
 
     -- what was given where the level could be ended so, else the refusal
-    abbrev pub Answers : Outcome → Result R E → Result R E → Type 0
-    Answers (Ok done) given answer = answer ≡ given
-    Answers (Err e) given answer = Tells e answer
+    abbrev pub GivenOrTold : Outcome → Result R E → Result R E → Type 0
+    GivenOrTold (Ok done) given answer = answer ≡ given
+    GivenOrTold (Err e) given answer = Tells e answer
 
     -- the level is ended by this call
     abbrev pub EndsBy : Call → Result R E → C → Result R E → C → Type 0
-    EndsBy call given inside answer after = (outcome : Outcome) × Comes call inside outcome after × Answers outcome given answer
+    EndsBy call given inside answer after = (outcome : Outcome) × Comes call inside outcome after × GivenOrTold outcome given answer
 
     -- it is committed after Ok, and rolled back after Err
     abbrev pub Ends : Result R E → C → Result R E → C → Type 0
