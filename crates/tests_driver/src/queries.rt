@@ -72,7 +72,9 @@ fn numbers<B: AnyConnectionBackend>(
     let mut numbers = Vec::new(alloc);
     for row in rows.iter() {
         let number = Row::<Any<B>>::try_get::<i64, usize>(row, alloc, at)?;
-        numbers.push(number)?;
+        if numbers.push(number).is_err() {
+            return Err(Error::OutOfMemory);
+        }
     }
     Ok(numbers)
 }
