@@ -18,3 +18,4 @@ pub mod KeepingSteps
 pub mod Moves
 pub mod KeepWith
 pub mod ToldTries
+pub mod Answers

@@ -2,6 +2,8 @@
 
 ghost use Rattle.std.specs.Prelude.{◌≡◌, ℕ, ◌+◌, ◌-◌, ◌<◌, ◌≤◌, ◌^◌, max, min, List, [], ◌∷◌, Option, Some, None, false, find, option_map};
 ghost use Rattle.std.specs.VecDeque.{deque_capacity};
+ghost use Rattle.std.specs.List.{list_any};
+ghost use Rattle.sqlx_log.specs.Marks.{is_shut};
 ghost use Rattle.sqlx_pool_core.specs.Limits.{limits_of};
 ghost use Rattle.sqlx_log.specs.declared.mark.Mark.{Mark};
 ghost use Rattle.sqlx_pool_core.specs.Core.{waiting, free};
@@ -147,6 +149,7 @@ impl<C> PoolCore<C> {
     pub fn minimum_done(&mut self, now: Moment, raw: Option<C>) -> Option<C>
         requires { 1 ≤ self.old.places }
         ensures makes { (marks : List Mark) → StandsFor self.old marks → Makes self.old.options.max_connections marks (done_marks self.old.shut self.old.next_conn (max self.old.last now.0) raw) self.new }
+        ensures marks { (marks : List Mark) → StandsFor self.old marks → result ≡ handed_back (list_any is_shut marks) raw }
         ensures answer { result ≡ handed_back self.old.shut raw }
         ensures becomes { self.new ≡ done (max self.old.last now.0) raw self.old }
         ensures moves { Moves self.old self.new (done_marks self.old.shut self.old.next_conn (max self.old.last now.0) raw) 0 0 }
