@@ -19,3 +19,4 @@ pub mod Moves
 pub mod KeepWith
 pub mod ToldTries
 pub mod Answers
+pub mod Logs

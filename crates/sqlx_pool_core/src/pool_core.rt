@@ -1,7 +1,10 @@
 //! The state of a pool, and the questions that change nothing. The steps stand in the modules below.
+//! Where a public step is one call of an inner one, the inner one says what it does by the core's own lists, and the
+//! public one concludes from that what it says by marks.
 
 ghost use Rattle.std.specs.Prelude.{◌≡◌, ℕ, ◌+◌, ◌<◌, ◌≤◌, max, List, [], Option, Some, None, IfOk, length, if◌then◌else◌, not};
 ghost use Rattle.sqlx_log.specs.declared.mark.Mark.{Mark};
+ghost use Rattle.sqlx_pool_core.specs.Logs.{moment_of};
 ghost use Rattle.sqlx_pool_core.specs.Core.{waiting, gone, free, size};
 ghost use Rattle.sqlx_pool_core.specs.Moves.{due, IsBounded};
 ghost use Rattle.sqlx_pool_core.specs.Sound.{IsSound};
@@ -114,7 +117,7 @@ impl<C> PoolCore<C> {
 
     /// The moment that a step goes by: one below the last moment counts as the last one.
     pub fn moment(&self, now: Moment) -> Moment
-        ensures moment { result.0 ≡ max self.now.last now.0 }
+        ensures moment { result.0 ≡ moment_of self.now now }
         ensures sound { IsSound self.now }
     {
         Moment(self.last.0.max(now.0))
