@@ -33,6 +33,7 @@ pub use blob::AnyBlob;
 pub use column::AnyColumn;
 pub use column_names::ColumnNames;
 pub use connection::AnyConnection;
+pub use convert::TakesAnyValues;
 pub use database::Any;
 pub use describe::Describe;
 pub use driver::AnyDriver;
@@ -46,8 +47,8 @@ pub use sqlx_traits::{
     Connection, Database, Decode, DecodeOwned, Either, Encode, Execute, ExecuteMany, Executor,
     Faults, Fetch, FetchMany, HasStatementCache, ImmutableArguments, IntoArguments, IsNull,
     QueryResult, ResultList, Row, RowList, SqlType, Statement, StepList, TableColumn,
-    TransactionManager, Type, TypeInfo, Value, add, index_of_name, index_of_position,
-    label_of_name, label_of_position, mismatched_types, question_mark, reads,
+    TransactionManager, Type, TypeInfo, Value, index_of_name, index_of_position, label_of_name,
+    label_of_position, mismatched_types, question_mark, reads,
 };
 pub use statement::AnyStatement;
 pub use transaction::AnyTransactionManager;

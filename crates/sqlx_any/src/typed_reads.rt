@@ -25,7 +25,7 @@ pub fn bool_of_row<B: AnyConnectionBackend, I: ColumnIndex<AnyRow> + Drop>(
     row: &AnyRow,
     index: I,
 ) -> Result<bool, Error>
-    ensures { RowRead row.now.values (I.place index row.now) (TypedRead (λ b. b) a_bool true true) (I.shown index) result }
+    ensures { RowRead (λ row. row.values) I.place I.shown row.now index (TypedRead (λ b. b) a_bool true true) result }
 {
     Row::<Any<B>>::try_get::<bool, I>(row, alloc, index)
 }
@@ -43,7 +43,7 @@ pub fn i16_of_row<B: AnyConnectionBackend, I: ColumnIndex<AnyRow> + Drop>(
     row: &AnyRow,
     index: I,
 ) -> Result<i16, Error>
-    ensures { RowRead row.now.values (I.place index row.now) (TypedRead (λ n. n) an_i16 true true) (I.shown index) result }
+    ensures { RowRead (λ row. row.values) I.place I.shown row.now index (TypedRead (λ n. n) an_i16 true true) result }
 {
     Row::<Any<B>>::try_get::<i16, I>(row, alloc, index)
 }
@@ -61,7 +61,7 @@ pub fn i32_of_row<B: AnyConnectionBackend, I: ColumnIndex<AnyRow> + Drop>(
     row: &AnyRow,
     index: I,
 ) -> Result<i32, Error>
-    ensures { RowRead row.now.values (I.place index row.now) (TypedRead (λ n. n) an_i32 true true) (I.shown index) result }
+    ensures { RowRead (λ row. row.values) I.place I.shown row.now index (TypedRead (λ n. n) an_i32 true true) result }
 {
     Row::<Any<B>>::try_get::<i32, I>(row, alloc, index)
 }
@@ -79,7 +79,7 @@ pub fn i64_of_row<B: AnyConnectionBackend, I: ColumnIndex<AnyRow> + Drop>(
     row: &AnyRow,
     index: I,
 ) -> Result<i64, Error>
-    ensures { RowRead row.now.values (I.place index row.now) (TypedRead (λ n. n) an_i64 true true) (I.shown index) result }
+    ensures { RowRead (λ row. row.values) I.place I.shown row.now index (TypedRead (λ n. n) an_i64 true true) result }
 {
     Row::<Any<B>>::try_get::<i64, I>(row, alloc, index)
 }
@@ -100,7 +100,7 @@ pub fn str_of_row<'r, B: AnyConnectionBackend, I: ColumnIndex<AnyRow> + Drop>(
     row: &'r AnyRow,
     index: I,
 ) -> Result<&'r str, Error>
-    ensures { RowRead row.now.values (I.place index row.now) (TypedRead (λ text. text.now) (a_text (codes "&str")) true true) (I.shown index) result }
+    ensures { RowRead (λ row. row.values) I.place I.shown row.now index (TypedRead (λ text. text.now) (a_text (codes "&str")) true true) result }
 {
     reads::try_get::<Any<B>, &str, I>(alloc, row, index)
 }
@@ -121,7 +121,7 @@ pub fn string_of_row<B: AnyConnectionBackend, I: ColumnIndex<AnyRow> + Drop>(
     row: &AnyRow,
     index: I,
 ) -> Result<String, Error>
-    ensures { RowRead row.now.values (I.place index row.now) (TypedRead string_bytes (a_text (codes "String")) true true) (I.shown index) result }
+    ensures { RowRead (λ row. row.values) I.place I.shown row.now index (TypedRead string_bytes (a_text (codes "String")) true true) result }
 {
     Row::<Any<B>>::try_get::<String, I>(row, alloc, index)
 }
@@ -142,7 +142,7 @@ pub fn slice_of_row<'r, B: AnyConnectionBackend, I: ColumnIndex<AnyRow> + Drop>(
     row: &'r AnyRow,
     index: I,
 ) -> Result<&'r [u8], Error>
-    ensures { RowRead row.now.values (I.place index row.now) (TypedRead (λ bytes. bytes.now) (a_blob (codes "&[u8]")) true true) (I.shown index) result }
+    ensures { RowRead (λ row. row.values) I.place I.shown row.now index (TypedRead (λ bytes. bytes.now) (a_blob (codes "&[u8]")) true true) result }
 {
     reads::try_get::<Any<B>, &[u8], I>(alloc, row, index)
 }
@@ -163,7 +163,7 @@ pub fn vec_of_row<B: AnyConnectionBackend, I: ColumnIndex<AnyRow> + Drop>(
     row: &AnyRow,
     index: I,
 ) -> Result<Vec<u8>, Error>
-    ensures { RowRead row.now.values (I.place index row.now) (TypedRead (λ bytes. bytes.items) (a_blob (codes "Vec<u8>")) true true) (I.shown index) result }
+    ensures { RowRead (λ row. row.values) I.place I.shown row.now index (TypedRead (λ bytes. bytes.items) (a_blob (codes "Vec<u8>")) true true) result }
 {
     Row::<Any<B>>::try_get::<Vec<u8>, I>(row, alloc, index)
 }

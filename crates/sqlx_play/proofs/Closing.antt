@@ -1,8 +1,8 @@
 -- What a close makes of a stage.
 use Rattle.std.proofs.Common.{◌≡◌, ℕ, ◌+◌, ◌≤◌, ◌==◌, Bool, true, false, not, cond, List, [], ◌∷◌, ◌++◌, length, map, find, count_by, Some, All, refl, sym, ap, subst, ◌∙◌, arith}
 use Rattle.sqlx_text.specs.declared.moment.Moment.{Moment}
-use Rattle.sqlx_pool_core.specs.declared.mark.Mark.{Mark}
-use Rattle.sqlx_pool_core.specs.declared.mark.Mark.TheVariants as mark
+use Rattle.sqlx_log.specs.declared.mark.Mark.{Mark}
+use Rattle.sqlx_log.specs.declared.mark.Mark.TheVariants as mark
 use Rattle.sqlx_pool_core.specs.declared.ticket.Held.{Held}
 use Rattle.sqlx_pool_core.specs.declared.steps.Idle.{Idle}
 use Rattle.sqlx_pool_core.specs.declared.steps.Lent.{Lent}
@@ -10,9 +10,9 @@ use Rattle.sqlx_pool_core.specs.Core.{Core, resting}
 use Rattle.sqlx_pool_core.specs.Edits.{without_idle}
 use Rattle.sqlx_pool_core.specs.KeepingSteps.{close_marks, close_answer, closed_from, closed_idle}
 use Rattle.sqlx_pool_core.specs.Makes.{Makes}
-use Rattle.sqlx_pool_core.specs.Marks.{idle_of, is_open}
+use Rattle.sqlx_log.specs.Marks.{idle_of, is_open}
 use Rattle.sqlx_pool_core.specs.Sound.{IsSound, rests, holds}
-use Rattle.sqlx_pool_core.proofs.ListFacts.{same_number, count_by-cons, filter_none, length_map}
+use Rattle.sqlx_log.proofs.ListFacts.{same_number, count_by-cons, filter_none, length_map}
 use Rattle.mem_store.specs.Store.{Store, Link}
 use Rattle.sqlx_brackets.specs.Changes.{leaves, History}
 use Rattle.sqlx_script.specs.declared.step.Event.{Event}
@@ -21,14 +21,16 @@ use Rattle.sqlx_script.specs.declared.reply.Reply.{Reply}
 use Rattle.sqlx_script.specs.declared.reply.Reply.TheVariants as reply
 use Rattle.sqlx_play.specs.declared.stage.Stage.{Stage}
 use Rattle.sqlx_play.specs.Closes.{closed_all}
-use Rattle.sqlx_play.specs.ScriptMarks.{marks_of, closing, shut}
-use Rattle.sqlx_play.specs.ScriptLevels.{gone_by, history_of}
+use Rattle.sqlx_rules.specs.ScriptMarks.{marks_of, closing, shut}
+use Rattle.sqlx_rules.specs.ScriptLevels.{gone_by, history_of}
 use Rattle.sqlx_play.specs.LinksStand.{LinksStand}
 use Rattle.sqlx_play.specs.StageStands.{StageStands, IsTried}
 use Rattle.sqlx_play.proofs.LinksGone.{closed_in, links-unrest}
 use Rattle.sqlx_play.proofs.LinksSame.{links-same}
-use Rattle.sqlx_play.proofs.Pairs.{tries_of-push, tried-same}
+use Rattle.sqlx_rules.proofs.Pairs.{tries_of-push}
+use Rattle.sqlx_play.proofs.TriesSame.{tried-same}
 use Rattle.sqlx_play.proofs.StageAfter.{stage-after}
+use Rattle.sqlx_rules.specs.Pairs.{Pairs}
 
 -- ---- the links
 
@@ -70,7 +72,7 @@ counted_by false idle = sym (length_map resting idle)
 
 -- ---- the stage
 
-module _ (old new : Stage) (items : List (Idle Link)) (pairs : List (Event × Reply)) (moment : Moment) (count : ℕ) (s : StageStands old pairs) (sound : IsSound old.core)
+module _ (old new : Stage) (items : List (Idle Link)) (pairs : Pairs) (moment : Moment) (count : ℕ) (s : StageStands old pairs) (sound : IsSound old.core)
     (answer : items ≡ close_answer old.core.shut old.core.idle) (becomes : new.core ≡ closed_from old.core.shut old.core)
     (makes : Makes old.core.options.max_connections (marks_of old.pool pairs) (close_marks old.core.shut items) new.core)
     (store : new.out.store ≡ closed_all items old.out.store) (lent : new.lent ≡ old.lent) (pool : new.pool ≡ old.pool) (counted : count ≡ length items) where

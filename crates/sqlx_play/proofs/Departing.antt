@@ -1,7 +1,7 @@
 -- A connection that a client owns leaves.
 use Rattle.std.proofs.Common.{◌≡◌, ℕ, ◌+◌, ◌≤◌, Bool, true, false, cond, List, [], ◌∷◌, find, count_by, is_some, Option, Some, None, refl, sym, ap, subst, ◌∙◌, arith}
 use Rattle.std.proofs.lemmas.Bool.{eqb-true}
-use Rattle.sqlx_pool_core.specs.declared.mark.Mark.{Mark}
+use Rattle.sqlx_log.specs.declared.mark.Mark.{Mark}
 use Rattle.sqlx_pool_core.specs.declared.ticket.Held.{Held}
 use Rattle.sqlx_pool_core.specs.declared.steps.Lent.{Lent}
 use Rattle.sqlx_pool_core.specs.Core.{Core, loan_of}
@@ -11,15 +11,15 @@ use Rattle.sqlx_pool_core.specs.ReturnSteps.{leaked}
 use Rattle.sqlx_pool_core.specs.KeepingSteps.{without_first}
 use Rattle.sqlx_pool_core.specs.Makes.{Makes}
 use Rattle.sqlx_pool_core.specs.StandsFor.{StandsFor}
-use Rattle.sqlx_pool_core.proofs.ListFacts.{found_passes, count_by-cons}
+use Rattle.sqlx_log.proofs.ListFacts.{found_passes, count_by-cons}
 use Rattle.sqlx_pool_core.proofs.Known.{loan-found}
 use Rattle.mem_store.specs.Store.{Store, Link}
 use Rattle.sqlx_brackets.specs.Changes.{leaves}
 use Rattle.sqlx_play.specs.declared.stage.Stage.{Stage}
 use Rattle.sqlx_play.specs.LinksStand.{LinksStand}
 use Rattle.sqlx_play.specs.LentLinks.{is_lent, without_lent}
-use Rattle.sqlx_play.specs.Comes.{Comes}
-use Rattle.sqlx_play.specs.Departs.{Departs}
+use Rattle.sqlx_play.specs.StageAdvance.{StageAdvance}
+use Rattle.sqlx_play.specs.LoanEnds.{LoanEnds}
 use Rattle.sqlx_play.proofs.LinksSame.{links-same}
 use Rattle.sqlx_play.proofs.LinksGone.{lent-counted, closed_in, links-leave}
 use Rattle.sqlx_play.proofs.LentTaken.{first-only}
@@ -62,16 +62,16 @@ some_loan (Some h) e = record { it = h; is = refl }
 
 module _ (old : Stage) (x : Mark) (k c : ℕ) (sound : IsSound old.core) where
   -- it is another's
-  pub departs-not : (core : Core Link) → false ≡ is_some (loan_of k c old.core.held) → core ≡ old.core → Departs old (record old { core = core }) x k c false
+  pub departs-not : (core : Core Link) → false ≡ is_some (loan_of k c old.core.held) → core ≡ old.core → LoanEnds old (record old { core = core }) x k c false
   departs-not core none same marks past at = (
     none ∙ sym (owner-stands old.core sound marks k c at.stands),
-    subst (λ (d : Core Link). Comes old (record old { core = d }) marks [] past) (sym same) (comes-nowhere old marks past at),
+    subst (λ (d : Core Link). StageAdvance old (record old { core = d }) marks [] past) (sym same) (comes-nowhere old marks past at),
   )
 
   pub departs : (new : Stage) → true ≡ is_some (loan_of k c old.core.held) → EndsLoan old.core new.core c → new.pool ≡ old.pool
       → ((marks : List Mark) → StandsFor old.core marks → Makes old.core.options.max_connections marks (x ∷ []) new.core)
       → ((l : Lent Link) → find (is_lent c) old.lent.items ≡ Some l → new.out.store ≡ closed_in l.raw.number old.out.store) → new.lent.items ≡ without_first (is_lent c) old.lent.items
-      → Departs old new x k c true
+      → LoanEnds old new x k c true
   departs new some ends pool makes store rest marks past at =
       let loan = some_loan (loan_of k c old.core.held) (sym some) in
       let owned = loan-found old.core sound k c loan.it loan.is in

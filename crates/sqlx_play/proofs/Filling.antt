@@ -1,13 +1,12 @@
 -- Connections that are opened for the minimum one by one.
-use Rattle.std.proofs.Common.{◌≡◌, ℕ, zero, suc, ◌+◌, ◌-◌, ◌≤◌, ◌<◌, ◌&&◌, Bool, true, false, not, cond, nat_lt, min, List, [], ◌∷◌, ◌++◌, refl, sym, ap, subst, ◌∙◌, append-nil, arith}
+use Rattle.std.proofs.Common.{◌≡◌, ℕ, zero, suc, ◌+◌, ◌-◌, ◌≤◌, ◌<◌, ◌&&◌, Bool, true, false, cond, nat_lt, min, List, [], ◌∷◌, ◌++◌, refl, sym, ap, subst, ◌∙◌, append-nil, arith}
 use Rattle.std.proofs.lemmas.Bool.{and_parts}
-use Rattle.std.specs.List.{list_any}
-use Rattle.sqlx_pool_core.specs.declared.mark.Mark.{Mark}
-use Rattle.sqlx_pool_core.specs.declared.mark.Mark.TheVariants.{Opened, Kept}
+use Rattle.sqlx_log.specs.declared.mark.Mark.{Mark}
+use Rattle.sqlx_log.specs.declared.mark.Mark.TheVariants.{Opened, Kept}
 use Rattle.sqlx_pool_core.specs.Core.{Core, free, size}
-use Rattle.sqlx_pool_core.specs.View.{view_of, size as size_at, free as free_at}
-use Rattle.sqlx_pool_core.specs.Marks.{next_conn, is_shut}
-use Rattle.sqlx_pool_core.specs.EventTable.{may_pass}
+use Rattle.sqlx_log.specs.View.{view_of, free as free_in}
+use Rattle.sqlx_log.specs.Marks.{next_conn}
+use Rattle.sqlx_log.specs.EventTable.{may_pass, size_at}
 use Rattle.sqlx_pool_core.specs.StandsFor.{StandsFor}
 use Rattle.sqlx_pool_core.proofs.TurnAtMarks.{free-places, waiting-stands, size-stands}
 use Rattle.mem_store.specs.Store.{Store, Link}
@@ -16,11 +15,11 @@ use Rattle.sqlx_script.specs.declared.pool_line.PoolLine.{PoolLine}
 use Rattle.sqlx_play.specs.declared.outside.ScriptOutside.{ScriptOutside}
 use Rattle.sqlx_play.specs.declared.stage.Stage.{Stage}
 use Rattle.sqlx_play.specs.LinksStand.{LinksStand}
-use Rattle.sqlx_play.specs.ScriptMarks.{openings, passes}
+use Rattle.sqlx_rules.specs.ScriptMarks.{openings, passes}
 use Rattle.sqlx_play.specs.StageStands.{IsSetUp}
-use Rattle.sqlx_play.specs.Answer.{opened_for_minimum}
-use Rattle.sqlx_play.specs.Comes.{IsAt, Comes}
-use Rattle.sqlx_play.specs.Fills.{core_passes, least, OpensOne, Fills}
+use Rattle.sqlx_rules.specs.Answer.{opened_for_minimum}
+use Rattle.sqlx_play.specs.StageAdvance.{IsAt, StageAdvance}
+use Rattle.sqlx_play.specs.KeepsMinimum.{core_passes, least, OpensOne, KeepsMinimum}
 use Rattle.sqlx_play.proofs.Coming.{comes-then, comes-nowhere, at-next}
 
 -- ---- openings behind openings
@@ -43,7 +42,7 @@ openings-then (suc a) b n m =
 
 -- The stage has opened k connections, each where it had too few.
 pub record HasOpened (old now : Stage) (m k : ℕ) : Type 0 where
-  pub comes : (marks : List Mark) (past : History) → IsAt old marks past → Comes old now marks (openings k (next_conn marks) m) past
+  pub comes : (marks : List Mark) (past : History) → IsAt old marks past → StageAdvance old now marks (openings k (next_conn marks) m) past
   pub passes : core_passes now.core ≡ core_passes old.core
   pub sized : size now.core ≡ size old.core + k
   pub numbered : now.core.next_conn ≡ old.core.next_conn + k
@@ -76,9 +75,9 @@ opened-more old mid now m k h o =
       comes = λ marks past at.
           let first = h.comes marks past at in
           let next : next_conn (marks ++ openings k (next_conn marks) m) ≡ next_conn marks + k = sym first.makes.stands.conn_number ∙ h.numbered ∙ ap (λ (n : ℕ). n + k) at.stands.conn_number in
-          let second : Comes mid now (marks ++ openings k (next_conn marks) m) (openings 1 (next_conn marks + k) m) past
-          = subst (λ (n : ℕ). Comes mid now (marks ++ openings k (next_conn marks) m) (openings 1 n m) past) next (o.comes (marks ++ openings k (next_conn marks) m) past (at-next old mid marks (openings k (next_conn marks) m) past past at first)) in
-          subst (λ (l : List Mark). Comes old now marks l past) (openings-then k 1 (next_conn marks) m)
+          let second : StageAdvance mid now (marks ++ openings k (next_conn marks) m) (openings 1 (next_conn marks + k) m) past
+          = subst (λ (n : ℕ). StageAdvance mid now (marks ++ openings k (next_conn marks) m) (openings 1 n m) past) next (o.comes (marks ++ openings k (next_conn marks) m) past (at-next old mid marks (openings k (next_conn marks) m) past past at first)) in
+          subst (λ (l : List Mark). StageAdvance old now marks l past) (openings-then k 1 (next_conn marks) m)
           (comes-then old mid now marks (openings k (next_conn marks) m) (openings 1 (next_conn marks + k) m) past past first second);
       passes = o.passes ∙ h.passes;
       sized = let a = o.sized in let b = h.sized in omega (arith, a, b);
@@ -92,7 +91,7 @@ pub opened-last : (old mid now : Stage) (m k : ℕ) → HasOpened old mid m k �
 opened-last old mid now m k h o = record {
   comes = λ marks past at.
       let first = h.comes marks past at in
-      subst (λ (l : List Mark). Comes old now marks l past) (append-nil (openings k (next_conn marks) m))
+      subst (λ (l : List Mark). StageAdvance old now marks l past) (append-nil (openings k (next_conn marks) m))
       (comes-then old mid now marks (openings k (next_conn marks) m) [] past past first (o.comes (marks ++ openings k (next_conn marks) m) past (at-next old mid marks (openings k (next_conn marks) m) past past at first)));
   passes = o.passes ∙ h.passes;
   sized = let a = o.sized in let b = h.sized in omega (arith, a, b);
@@ -103,17 +102,13 @@ opened-last old mid now m k h o = record {
 
 -- ---- by the marks
 
-not_not : (b : Bool) → not (not b) ≡ b
-not_not true = refl
-not_not false = refl
-
 pub passes-stands : (pool : PoolLine) (core : Core Link) (marks : List Mark) → IsSetUp pool core.options → core.places ≡ 0 → StandsFor core marks → core_passes core ≡ passes pool marks
 passes-stands pool core marks set_up none s =
-    let free_is : free core ≡ free_at pool.max (view_of marks) = free-places core marks s ∙ (λ i. free_at (set_up.max i) (view_of marks) - none i) ∙ omega arith in
-    λ i. may_pass ((s.shut ∙ sym (not_not (list_any is_shut marks))) i) (waiting-stands core marks s i) (free_is i)
+    let free_is : free core ≡ free_in pool.max (view_of marks) = free-places core marks s ∙ (λ i. free_in (set_up.max i) (view_of marks) - none i) ∙ omega arith in
+    λ i. may_pass (s.shut i) (waiting-stands core marks s i) (free_is i)
 
-pub sized-stands : (core : Core Link) (marks : List Mark) → core.places ≡ 0 → StandsFor core marks → size core ≡ size_at (view_of marks)
-sized-stands core marks none s = size-stands core marks s ∙ ap (λ (k : ℕ). size_at (view_of marks) + k) none ∙ omega arith
+pub sized-stands : (core : Core Link) (marks : List Mark) → core.places ≡ 0 → StandsFor core marks → size core ≡ size_at 0 marks
+sized-stands core marks none s = size-stands core marks s ∙ ap (λ (k : ℕ). size_at k marks) none
 
 -- the count that was opened
 abbrev pub count_of : Bool → ℕ → ℕ → ℕ → ℕ
@@ -140,18 +135,18 @@ counted-stands old marks past opens at =
     λ i. count_of (passes-stands old.pool old.core marks at.set_up at.places at.stands i) opens (min (at.set_up.min i) (at.set_up.max i)) (sized-stands old.core marks at.places at.stands i)
 
 -- all that may be opened were
-pub filled-whole : (old now : Stage) (m opens : ℕ) → HasOpened old now m opens → Fills old now m opens opens
+pub filled-whole : (old now : Stage) (m opens : ℕ) → HasOpened old now m opens → KeepsMinimum old now m opens opens
 filled-whole old now m opens h marks past at =
     (counted_full (core_passes old.core) opens (least old.core.options) (size old.core) h.few ∙ counted-stands old marks past opens at, h.comes marks past at)
 
 -- there were enough
-pub filled-part : (old mid now : Stage) (m opens k : ℕ) → k ≤ opens → HasOpened old mid m k → OpensOne mid now m false → Fills old now m opens k
+pub filled-part : (old mid now : Stage) (m opens k : ℕ) → k ≤ opens → HasOpened old mid m k → OpensOne mid now m false → KeepsMinimum old now m opens k
 filled-part old mid now m opens k le h o marks past at =
     let ended : (core_passes old.core && nat_lt (size old.core + k) (least old.core.options)) ≡ false = (λ i. sym h.passes i && nat_lt (sym h.sized i) (least (sym h.options i))) ∙ sym o.answer in
     (counted_part (core_passes old.core) k opens (least old.core.options) (size old.core) le h.few ended ∙ counted-stands old marks past opens at, (opened-last old mid now m k h o).comes marks past at)
 
 -- the letters of a line are no part of it
-pub fills-from : (old : Stage) (out : ScriptOutside) (new : Stage) (m opens n : ℕ) → out.store ≡ old.out.store → Fills (record old { out = out }) new m opens n → Fills old new m opens n
+pub fills-from : (old : Stage) (out : ScriptOutside) (new : Stage) (m opens n : ℕ) → out.store ≡ old.out.store → KeepsMinimum (record old { out = out }) new m opens n → KeepsMinimum old new m opens n
 fills-from old out new m opens n same fills marks past at =
     let links : LinksStand old.core out.store old.lent.items past = subst (λ (x : Store). LinksStand old.core x old.lent.items past) (sym same) at.links in
     let filled = fills marks past (record { set_up = at.set_up; places = at.places; stands = at.stands; links = links }) in (

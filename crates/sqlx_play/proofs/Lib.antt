@@ -1,12 +1,12 @@
 pub mod Parts
-pub mod Events
 pub mod RunsAdded
 pub mod Lines
 pub mod Causes
 pub mod Scripts
 pub mod Complete
 pub mod Stages
-pub mod Pairs
+pub mod SetUpLimits
+pub mod TriesSame
 pub mod LinksSame
 pub mod OthersInLevel
 pub mod LinksMoves
@@ -31,7 +31,6 @@ pub mod Coming
 pub mod Opening
 pub mod Filling
 pub mod LentTaken
-pub mod Gone
 pub mod Minimum
 pub mod Reaping
 pub mod Closing
@@ -49,12 +48,3 @@ pub mod FillBehind
 pub mod PlaysGive
 pub mod Departing
 pub mod PlaysLeave
-pub mod InTurn
-pub mod FairEvents
-pub mod FairPolls
-pub mod FairScripts
-pub mod Depths
-pub mod AtRest
-pub mod Unowned
-mod WorkedScripts
-mod WorkedLaws

@@ -1,22 +1,21 @@
 -- What a cancel and a try make of a stage.
-use Rattle.std.proofs.Common.{◌≡◌, ℕ, ◌≤◌, Bool, true, false, cond, List, [], ◌∷◌, ◌++◌, map, Option, Some, None, option_map, All, refl, sym, ap, subst, ◌∙◌, append-nil}
-use Rattle.std.specs.List.{list_any}
+use Rattle.std.proofs.Common.{◌≡◌, ℕ, ◌≤◌, Bool, true, false, cond, List, [], ◌∷◌, ◌++◌, map, Option, Some, None, option_map, All, refl, sym, ap, subst, ◌∙◌}
 use Rattle.sqlx_text.specs.declared.Moment.{Moment}
-use Rattle.sqlx_pool_core.specs.declared.mark.Mark.{Mark}
-use Rattle.sqlx_pool_core.specs.declared.mark.Mark.TheVariants as mark
+use Rattle.sqlx_log.specs.declared.mark.Mark.{Mark}
+use Rattle.sqlx_log.specs.declared.mark.Mark.TheVariants as mark
 use Rattle.sqlx_pool_core.specs.declared.ticket.Ticket.{Ticket}
 use Rattle.sqlx_pool_core.specs.declared.ticket.Phase.{Phase}
 use Rattle.sqlx_pool_core.specs.declared.ticket.Phase.TheVariants as phase
 use Rattle.sqlx_pool_core.specs.declared.steps.Lent.{Lent}
 use Rattle.sqlx_pool_core.specs.declared.steps.Idle.{Idle}
-use Rattle.sqlx_pool_core.specs.Marks.{tickets_of, idle_of, is_shut}
-use Rattle.sqlx_pool_core.specs.Counts.{asked_in}
+use Rattle.sqlx_log.specs.Marks.{tickets_of, idle_of}
+use Rattle.sqlx_log.specs.Counts.{asked_in}
 use Rattle.sqlx_pool_core.specs.Core.{Core, resting, asking, ticket_of, waiting, free}
 use Rattle.sqlx_pool_core.specs.Edits.{at_moment, ended, lent_to, took}
-use Rattle.sqlx_pool_core.specs.EventTable.{may_pass}
+use Rattle.sqlx_log.specs.EventTable.{may_pass}
 use Rattle.sqlx_pool_core.specs.PollSteps.{phase_for, may_cancel, try_lent}
 use Rattle.sqlx_pool_core.specs.Makes.{Makes}
-use Rattle.sqlx_pool_core.specs.StandsFor.{StandsFor}
+use Rattle.sqlx_pool_core.proofs.Fair.{makes-none}
 use Rattle.sqlx_pool_core.proofs.TurnAtMarks.{waiting-stands}
 use Rattle.mem_store.specs.Store.{Link}
 use Rattle.sqlx_script.specs.declared.step.Event.{Event}
@@ -24,22 +23,24 @@ use Rattle.sqlx_script.specs.declared.step.Step.TheVariants.{Cancel, Try}
 use Rattle.sqlx_script.specs.declared.reply.Reply.{Reply}
 use Rattle.sqlx_script.specs.declared.reply.Reply.TheVariants as reply
 use Rattle.sqlx_play.specs.declared.stage.Stage.{Stage}
-use Rattle.sqlx_play.specs.Answer.{cancel_reply, try_reply}
-use Rattle.sqlx_play.specs.ScriptMarks.{added, marks_of, first_of, passes}
-use Rattle.sqlx_play.specs.ScriptLevels.{history_after, history_of}
+use Rattle.sqlx_rules.specs.Answer.{cancel_reply, try_reply}
+use Rattle.sqlx_rules.specs.ScriptMarks.{added, marks_of, first_of, passes}
+use Rattle.sqlx_rules.specs.ScriptLevels.{history_after, history_of}
 use Rattle.sqlx_play.specs.LinksStand.{LinksStand}
-use Rattle.sqlx_play.specs.Tries.{tries_of}
+use Rattle.sqlx_rules.specs.Tries.{tries_of}
 use Rattle.sqlx_play.specs.StageStands.{IsTried, IsTriedAt, StageStands}
-use Rattle.sqlx_play.proofs.Pairs.{tries_of-push, tried-same}
+use Rattle.sqlx_rules.proofs.Pairs.{tries_of-push}
+use Rattle.sqlx_play.proofs.TriesSame.{tried-same}
 use Rattle.sqlx_play.proofs.LinksSame.{links-same, links-as}
 use Rattle.sqlx_play.proofs.LinksMoves.{links-lent}
 use Rattle.sqlx_play.proofs.StageAfter.{stage-after}
-use Rattle.sqlx_play.proofs.PollReplies.{asked-is, tried-of, free-is, not_not}
+use Rattle.sqlx_play.proofs.PollReplies.{asked-is, tried-of, free-is}
 use Rattle.sqlx_play.proofs.PollTries.{tried-without}
+use Rattle.sqlx_rules.specs.Pairs.{Pairs}
 
 -- ---- a stage that stays, or that loses a ticket
 
-module _ (stage : Stage) (pairs : List (Event × Reply)) (pair : Event × Reply) (s : StageStands stage pairs) (same : (t : ℕ) → tries_of t (pairs ++ pair ∷ []) ≡ tries_of t pairs)
+module _ (stage : Stage) (pairs : Pairs) (pair : Event × Reply) (s : StageStands stage pairs) (same : (t : ℕ) → tries_of t (pairs ++ pair ∷ []) ≡ tries_of t pairs)
     (past : history_after stage.pool (marks_of stage.pool pairs) (history_of stage.pool pairs) pair ≡ history_of stage.pool pairs) where
   -- nothing happens
   pub stays-standing : (core : Core Link) → core ≡ stage.core → added stage.pool (marks_of stage.pool pairs) pair ≡ [] → StageStands (record stage { core = core }) (pairs ++ pair ∷ [])
@@ -47,7 +48,7 @@ module _ (stage : Stage) (pairs : List (Event × Reply)) (pair : Event × Reply)
       (stage-after stage stage pairs pair s (record {
         pool = refl;
         makes = subst (λ (l : List Mark). Makes stage.core.options.max_connections (marks_of stage.pool pairs) l stage.core) (sym none)
-            (record { stands = subst (StandsFor stage.core) (sym (append-nil (marks_of stage.pool pairs))) s.stands; fair = tt });
+            (makes-none stage.core.options.max_connections (marks_of stage.pool pairs) stage.core s.stands);
         options = refl;
         places = s.places;
         tried = tried-same pairs pair stage.core.tickets same s.tried;
@@ -73,13 +74,13 @@ module _ (stage : Stage) (pairs : List (Event × Reply)) (pair : Event × Reply)
 -- ---- cancel
 
 -- a ticket that no step is under way for may be cancelled
-cancel_at : (pairs : List (Event × Reply)) (x : Ticket) (p : Phase) → IsTriedAt pairs x p → may_cancel (Some p) ≡ true
+cancel_at : (pairs : Pairs) (x : Ticket) (p : Phase) → IsTriedAt pairs x p → may_cancel (Some p) ≡ true
 cancel_at pairs x phase.Waiting h = refl
 cancel_at pairs x (phase.Backoff until) h = refl
 cancel_at pairs x (phase.Testing c created) h = absurd h
 cancel_at pairs x phase.Connecting h = absurd h
 
-pub cancel-reply : (stage : Stage) (pairs : List (Event × Reply)) (k t : ℕ) (b : Bool) → StageStands stage pairs → b ≡ may_cancel (phase_for k t stage.core.tickets)
+pub cancel-reply : (stage : Stage) (pairs : Pairs) (k t : ℕ) (b : Bool) → StageStands stage pairs → b ≡ may_cancel (phase_for k t stage.core.tickets)
     → cond b reply.Cancelled reply.NotHeld ≡ cancel_reply (asked_in k t (tickets_of (marks_of stage.pool pairs)))
 cancel-reply stage pairs k t b s is =
     ap (λ (b : Bool). cond b reply.Cancelled reply.NotHeld) is ∙ by (ticket_of k t stage.core.tickets) refl
@@ -90,14 +91,14 @@ cancel-reply stage pairs k t b s is =
     by (Some x) found = ap (λ (b : Bool). cond b reply.Cancelled reply.NotHeld) (cancel_at pairs x x.phase (tried-of k t pairs stage.core.tickets x s.tried found))
 
 -- the stage after a cancel
-pub cancelled-stands : (stage : Stage) (core : Core Link) (pairs : List (Event × Reply)) (moment : Moment) (k t : ℕ) → StageStands stage pairs → core ≡ ended t stage.core
+pub cancelled-stands : (stage : Stage) (core : Core Link) (pairs : Pairs) (moment : Moment) (k t : ℕ) → StageStands stage pairs → core ≡ ended t stage.core
     → Makes stage.core.options.max_connections (marks_of stage.pool pairs) (mark.Ended t ∷ []) core
     → StageStands (record stage { core = core }) (pairs ++ (record { moment = moment; step = Cancel k t }, reply.Cancelled) ∷ [])
 cancelled-stands stage core pairs moment k t s becomes makes =
     let pair : Event × Reply = (record { moment = moment; step = Cancel k t }, reply.Cancelled) in
     ends-standing stage pairs pair s (λ u. tries_of-push u pairs pair) refl core t stage.core.last becomes refl makes
 
-pub uncancelled-stands : (stage : Stage) (core : Core Link) (pairs : List (Event × Reply)) (moment : Moment) (k t : ℕ) → StageStands stage pairs → core ≡ stage.core
+pub uncancelled-stands : (stage : Stage) (core : Core Link) (pairs : Pairs) (moment : Moment) (k t : ℕ) → StageStands stage pairs → core ≡ stage.core
     → StageStands (record stage { core = core }) (pairs ++ (record { moment = moment; step = Cancel k t }, reply.NotHeld) ∷ [])
 uncancelled-stands stage core pairs moment k t s becomes =
     let pair : Event × Reply = (record { moment = moment; step = Cancel k t }, reply.NotHeld) in
@@ -106,15 +107,15 @@ uncancelled-stands stage core pairs moment k t s becomes =
 -- ---- try
 
 -- the marks say whether a connection may be lent past the line
-pub passes-is : (stage : Stage) (pairs : List (Event × Reply)) → StageStands stage pairs → may_pass stage.core.shut (waiting stage.core.tickets) (free stage.core) ≡ passes stage.pool (marks_of stage.pool pairs)
-passes-is stage pairs s = λ i. may_pass ((s.stands.shut ∙ sym (not_not (list_any is_shut (marks_of stage.pool pairs)))) i) (waiting-stands stage.core (marks_of stage.pool pairs) s.stands i) (sym (free-is stage pairs s) i)
+pub passes-is : (stage : Stage) (pairs : Pairs) → StageStands stage pairs → may_pass stage.core.shut (waiting stage.core.tickets) (free stage.core) ≡ passes stage.pool (marks_of stage.pool pairs)
+passes-is stage pairs s = λ i. may_pass (s.stands.shut i) (waiting-stands stage.core (marks_of stage.pool pairs) s.stands i) (sym (free-is stage pairs s) i)
 
 -- the reply where this is lent
 abbrev pub lending_reply : Option (Lent Link) → Reply
 lending_reply None = reply.NothingToLend
 lending_reply (Some lent) = reply.Ready lent.id
 
-pub try-reply : (stage : Stage) (pairs : List (Event × Reply)) (r : Option (Lent Link)) → StageStands stage pairs
+pub try-reply : (stage : Stage) (pairs : Pairs) (r : Option (Lent Link)) → StageStands stage pairs
     → r ≡ try_lent (may_pass stage.core.shut (waiting stage.core.tickets) (free stage.core)) stage.core.idle → lending_reply r ≡ try_reply (passes stage.pool (marks_of stage.pool pairs)) (first_of (idle_of (marks_of stage.pool pairs)))
 try-reply stage pairs r s is =
     ap lending_reply is ∙ by (may_pass stage.core.shut (waiting stage.core.tickets) (free stage.core)) stage.core.idle
@@ -143,13 +144,13 @@ first-idle core b lent e = by b core.idle refl e
     by true (i ∷ rest) is e = record { i = i; rest = rest; idle = is; is = cc }
 
 -- the stage after a try
-pub unlent-stands : (stage : Stage) (core : Core Link) (pairs : List (Event × Reply)) (moment : Moment) (k : ℕ) → StageStands stage pairs → core ≡ stage.core
+pub unlent-stands : (stage : Stage) (core : Core Link) (pairs : Pairs) (moment : Moment) (k : ℕ) → StageStands stage pairs → core ≡ stage.core
     → StageStands (record stage { core = core }) (pairs ++ (record { moment = moment; step = Try k }, reply.NothingToLend) ∷ [])
 unlent-stands stage core pairs moment k s becomes =
     let pair : Event × Reply = (record { moment = moment; step = Try k }, reply.NothingToLend) in
     stays-standing stage pairs pair s (λ u. tries_of-push u pairs pair) refl core becomes refl
 
-pub lent-stands : (stage new : Stage) (pairs : List (Event × Reply)) (moment : Moment) (k last : ℕ) (lent : Lent Link) → StageStands stage pairs → FirstIdle stage.core lent
+pub lent-stands : (stage new : Stage) (pairs : Pairs) (moment : Moment) (k last : ℕ) (lent : Lent Link) → StageStands stage pairs → FirstIdle stage.core lent
     → new.core ≡ at_moment last (lent_to k lent.id lent.created (took stage.core)) → new.out.store ≡ stage.out.store → new.lent.items ≡ stage.lent.items ++ lent ∷ [] → new.pool ≡ stage.pool
     → Makes stage.core.options.max_connections (marks_of stage.pool pairs) (mark.Taken lent.id ∷ mark.Lent k lent.id ∷ []) new.core
     → StageStands new (pairs ++ (record { moment = moment; step = Try k }, reply.Ready lent.id) ∷ [])
@@ -174,7 +175,7 @@ lent-stands stage new pairs moment k last lent s first becomes store owned pool 
     core = at_moment last (lent_to k lent.id lent.created (took stage.core))
 
 -- it stands whatever the reply is
-pub tried-stands : (stage new : Stage) (pairs : List (Event × Reply)) (moment : Moment) (k last : ℕ) (lent : Lent Link) (r : Reply) → StageStands stage pairs → FirstIdle stage.core lent → r ≡ reply.Ready lent.id
+pub tried-stands : (stage new : Stage) (pairs : Pairs) (moment : Moment) (k last : ℕ) (lent : Lent Link) (r : Reply) → StageStands stage pairs → FirstIdle stage.core lent → r ≡ reply.Ready lent.id
     → new.core ≡ at_moment last (lent_to k lent.id lent.created (took stage.core)) → new.out.store ≡ stage.out.store → new.lent.items ≡ stage.lent.items ++ lent ∷ [] → new.pool ≡ stage.pool
     → Makes stage.core.options.max_connections (marks_of stage.pool pairs) (mark.Taken lent.id ∷ mark.Lent k lent.id ∷ []) new.core
     → StageStands new (pairs ++ (record { moment = moment; step = Try k }, r) ∷ [])

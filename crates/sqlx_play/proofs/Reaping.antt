@@ -2,20 +2,21 @@
 use Rattle.std.proofs.Common.{◌≡◌, ℕ, ◌+◌, ◌-◌, ◌≤◌, ◌||◌, Bool, true, false, not, cond, List, [], ◌∷◌, ◌++◌, length, map, filter, find, count_by, Some, None, All, refl, sym, ap, subst, ◌∙◌, append-nil, append_assoc, arith}
 use Rattle.std.proofs.lemmas.List.Elements.{All-head, All-tail}
 use Rattle.sqlx_text.specs.declared.moment.Moment.{Moment}
-use Rattle.sqlx_pool_core.specs.declared.mark.Mark.{Mark}
-use Rattle.sqlx_pool_core.specs.declared.mark.Mark.TheVariants.{Reaped}
+use Rattle.sqlx_log.specs.declared.mark.Mark.{Mark}
+use Rattle.sqlx_log.specs.declared.mark.Mark.TheVariants.{Reaped}
 use Rattle.sqlx_pool_core.specs.declared.options.PoolOptions.{PoolOptions}
 use Rattle.sqlx_pool_core.specs.declared.steps.Idle.{Idle}
 use Rattle.sqlx_pool_core.specs.Core.{Core, resting}
 use Rattle.sqlx_pool_core.specs.Edits.{at_moment, without_idle}
-use Rattle.sqlx_pool_core.specs.EventTable.{is_beyond}
+use Rattle.sqlx_log.specs.EventTable.{is_idle_too_long, is_old_since, is_beyond_at}
 use Rattle.sqlx_pool_core.specs.KeepingSteps.{is_reaped_at, reap_answer}
 use Rattle.sqlx_pool_core.specs.Makes.{Makes}
-use Rattle.sqlx_pool_core.specs.Marks.{idle_of, next_conn}
+use Rattle.sqlx_log.specs.Marks.{idle_of, next_conn}
 use Rattle.sqlx_pool_core.specs.Sound.{IsSound, rests}
-use Rattle.sqlx_pool_core.specs.StandsFor.{StandsFor, IsBorn}
+use Rattle.sqlx_log.specs.Born.{IsBorn}
+use Rattle.sqlx_pool_core.specs.StandsFor.{StandsFor}
 use Rattle.sqlx_pool_core.proofs.Known.{idle-found}
-use Rattle.sqlx_pool_core.proofs.ListFacts.{same_number, count_by-cons, filter_none, found_counts, length-filter_not, map-append, length_map}
+use Rattle.sqlx_log.proofs.ListFacts.{same_number, count_by-cons, filter_none, found_counts, length-filter_not, map-append, length_map}
 use Rattle.mem_store.specs.Store.{Store, Link}
 use Rattle.sqlx_brackets.specs.Changes.{leaves, History}
 use Rattle.sqlx_script.specs.declared.pool_line.PoolLine.{PoolLine}
@@ -25,21 +26,23 @@ use Rattle.sqlx_script.specs.declared.reply.Reply.{Reply}
 use Rattle.sqlx_script.specs.declared.reply.Reply.TheVariants as reply
 use Rattle.sqlx_play.specs.declared.outside.ScriptOutside.{ScriptOutside}
 use Rattle.sqlx_play.specs.declared.stage.Stage.{Stage}
-use Rattle.sqlx_play.specs.ScriptMarks.{marks_of, openings, reaped_of, reaping, is_beyond_limits, is_aged}
-use Rattle.sqlx_play.specs.ScriptLevels.{gone_by, history_of}
+use Rattle.sqlx_rules.specs.ScriptMarks.{marks_of, openings, line_limits, reaped_of, reaping}
+use Rattle.sqlx_rules.specs.ScriptLevels.{gone_by, history_of}
 use Rattle.sqlx_play.specs.LinksStand.{LinksStand}
 use Rattle.sqlx_play.specs.StageStands.{IsSetUp, StageStands}
-use Rattle.sqlx_play.specs.Answer.{opened_for_minimum}
-use Rattle.sqlx_play.specs.Comes.{IsAt, Comes}
-use Rattle.sqlx_play.specs.Fills.{core_passes, Fills}
+use Rattle.sqlx_rules.specs.Answer.{opened_for_minimum}
+use Rattle.sqlx_play.specs.StageAdvance.{IsAt, StageAdvance}
+use Rattle.sqlx_play.specs.KeepsMinimum.{core_passes, KeepsMinimum}
 use Rattle.sqlx_play.specs.Reaps.{reapable, reap_mark, Reaps, ReapsOne, ReapsAll}
+use Rattle.sqlx_play.proofs.SetUpLimits.{limits-set_up}
 use Rattle.sqlx_play.proofs.Coming.{at-pairs, at-next, comes-then, comes-nowhere, comes-stands}
 use Rattle.sqlx_play.proofs.Filling.{passes-stands}
-use Rattle.sqlx_play.proofs.Gone.{gone-openings}
+use Rattle.sqlx_rules.proofs.Gone.{gone-openings}
 use Rattle.sqlx_play.proofs.LinksGone.{closed_in, links-unrest}
 use Rattle.sqlx_play.proofs.LinksSame.{links-same}
 use Rattle.sqlx_play.proofs.OneOut.{found-by_number}
-use Rattle.sqlx_play.proofs.Pairs.{tries_of-push}
+use Rattle.sqlx_rules.proofs.Pairs.{tries_of-push}
+use Rattle.sqlx_rules.specs.Pairs.{Pairs}
 
 -- ---- one out of a list
 
@@ -149,8 +152,8 @@ reaps-then old mid new m one two a b = record {
       let first = a.comes marks past at in
       let past' = gone_by (map reap_mark one) past in
       let second = b.comes (marks ++ map reap_mark one) past' (at-next old mid marks (map reap_mark one) past past' at first) in
-      subst (λ (l : List Mark). Comes old new marks l (gone_by (map reap_mark (one ++ two)) past)) (sym (map-append reap_mark one two))
-      (subst (λ (h : History). Comes old new marks (map reap_mark one ++ map reap_mark two) h) (gone-more one two past)
+      subst (λ (l : List Mark). StageAdvance old new marks l (gone_by (map reap_mark (one ++ two)) past)) (sym (map-append reap_mark one two))
+      (subst (λ (h : History). StageAdvance old new marks (map reap_mark one ++ map reap_mark two) h) (gone-more one two past)
       (comes-then old mid new marks (map reap_mark one) (map reap_mark two) past' (gone_by (map reap_mark two) past') first second));
   next = b.next ∙ a.next;
   fewer = let x = a.fewer in let y = b.fewer in let both = length_append one two in omega (arith, x, y, both);
@@ -169,14 +172,11 @@ reaps-whole old mid new m before after (taken, reaps) (last, none) first second 
 
 -- ---- by the marks
 
-beyond_alike : (pool : PoolLine) (options : PoolOptions) (marks : List Mark) (m : ℕ) (i : Idle Link) → IsSetUp pool options → IsBorn marks i.lent.id i.lent.created.0 → is_beyond_limits pool marks m (resting i) ≡ is_reaped_at options m i
-beyond_alike pool options marks m i s born = λ j. is_beyond (sym s.idle j) (m - i.since.0) || is_aged (aged j) m (born j)
-  where
-    aged : pool ≡ record pool { lifetime = options.max_lifetime }
-    aged = λ j. record pool { lifetime = sym s.lifetime j }
+beyond_alike : (pool : PoolLine) (options : PoolOptions) (marks : List Mark) (m : ℕ) (i : Idle Link) → IsSetUp pool options → IsBorn marks i.lent.id i.lent.created.0 → is_beyond_at (line_limits pool) m marks (resting i) ≡ is_reaped_at options m i
+beyond_alike pool options marks m i s born = λ j. is_idle_too_long (limits-set_up pool options s j) i.since.0 m || is_old_since (limits-set_up pool options s j) (born j) m
 
 beyond_filter : (pool : PoolLine) (options : PoolOptions) (marks : List Mark) (m : ℕ) (idle : List (Idle Link)) → IsSetUp pool options → All (λ (i : Idle Link). IsBorn marks i.lent.id i.lent.created.0) idle
-    → map resting (filter (is_reaped_at options m) idle) ≡ filter (is_beyond_limits pool marks m) (map resting idle)
+    → map resting (filter (is_reaped_at options m) idle) ≡ filter (is_beyond_at (line_limits pool) m marks) (map resting idle)
 beyond_filter pool options marks m [] s born = refl
 beyond_filter pool options marks m (i ∷ idle) s born =
     let rest = beyond_filter pool options marks m idle s (All-tail (λ (i : Idle Link). IsBorn marks i.lent.id i.lent.created.0) i idle born) in
@@ -191,8 +191,8 @@ reapable-stands : (stage : Stage) (marks : List Mark) (past : History) (m : ℕ)
 reapable-stands stage marks past m at =
     by (core_passes stage.core) ∙ (λ j. cond (passes-stands stage.pool stage.core marks at.set_up at.places at.stands j) (all j) [])
   where
-    all : map resting (filter (is_reaped_at stage.core.options m) stage.core.idle) ≡ filter (is_beyond_limits stage.pool marks m) (idle_of marks)
-    all = beyond_filter stage.pool stage.core.options marks m stage.core.idle at.set_up at.stands.idle_born ∙ ap (filter (is_beyond_limits stage.pool marks m)) at.stands.idle
+    all : map resting (filter (is_reaped_at stage.core.options m) stage.core.idle) ≡ filter (is_beyond_at (line_limits stage.pool) m marks) (idle_of marks)
+    all = beyond_filter stage.pool stage.core.options marks m stage.core.idle at.set_up at.stands.idle_born ∙ ap (filter (is_beyond_at (line_limits stage.pool) m marks)) at.stands.idle
 
     by : (b : Bool) → map resting (cond b (filter (is_reaped_at stage.core.options m) stage.core.idle) []) ≡ cond b (map resting (filter (is_reaped_at stage.core.options m) stage.core.idle)) []
     by true = refl
@@ -206,7 +206,7 @@ gone-behind : (taken : List (Idle Link)) (more : List Mark) (past : History) →
 gone-behind [] more past = refl
 gone-behind (i ∷ taken) more past = gone-behind taken more (leaves i.lent.id ∷ past)
 
-pub plays-reap : (old mid new : Stage) (pairs : List (Event × Reply)) (moment : Moment) (opens count n : ℕ) → StageStands old pairs → mid.pool ≡ old.pool → ReapsAll old mid moment.0 count → Fills mid new moment.0 opens n
+pub plays-reap : (old mid new : Stage) (pairs : Pairs) (moment : Moment) (opens count n : ℕ) → StageStands old pairs → mid.pool ≡ old.pool → ReapsAll old mid moment.0 count → KeepsMinimum mid new moment.0 opens n
     → (let beyond = reaped_of old.pool (marks_of old.pool pairs) moment.0 in reply.Reaped count n ≡ reply.Reaped (length beyond) (opened_for_minimum old.pool (marks_of old.pool pairs ++ map reaping beyond) opens))
     × StageStands new (pairs ++ (record { moment = moment; step = Reap opens }, reply.Reaped count n) ∷ [])
 plays-reap old mid new pairs moment opens count n s pool (taken, reaps, none, counted) fills =
@@ -228,5 +228,5 @@ plays-reap old mid new pairs moment opens count n s pool (taken, reaps, none, co
     let over : past' ≡ gone_by (map reaping beyond ++ openings n (next_conn marks) moment.0) past =
     sym (gone-openings n (next_conn marks) moment.0 past') ∙ sym (gone-behind taken (openings n (next_conn marks) moment.0) past) ∙ ap (λ (l : List Mark). gone_by (l ++ openings n (next_conn marks) moment.0) past) made in (
       (λ j. reply.Reaped (so_many j) ((filled.0 ∙ (λ k. opened_for_minimum (pool k) (marks ++ made k) opens)) j)),
-      comes-stands old new pairs pair s (λ t. tries_of-push t pairs pair) (subst (Comes old new marks (map reaping beyond ++ openings n (next_conn marks) moment.0)) over (subst (λ (l : List Mark). Comes old new marks l past') all both)),
+      comes-stands old new pairs pair s (λ t. tries_of-push t pairs pair) (subst (StageAdvance old new marks (map reaping beyond ++ openings n (next_conn marks) moment.0)) over (subst (λ (l : List Mark). StageAdvance old new marks l past') all both)),
     )

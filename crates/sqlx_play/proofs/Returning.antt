@@ -1,20 +1,23 @@
 -- The stage behind a connection that was given back.
-use Rattle.std.proofs.Common.{◌≡◌, ℕ, ◌≤◌, ◌<◌, ◌==◌, ◌&&◌, ◌||◌, true, false, not, List, [], ◌∷◌, ◌++◌, find, length, get_or, count_by, Some, None, refl, sym, ap, subst, ◌∙◌, append-nil, arith}
+use Rattle.std.proofs.Common.{◌≡◌, ℕ, ◌≤◌, ◌<◌, ◌==◌, ◌&&◌, ◌||◌, true, false, not, List, [], ◌∷◌, find, length, get_or, count_by, Some, None, refl, sym, ap, subst, ◌∙◌, arith}
 use Rattle.std.specs.List.{insert, remove}
 use Rattle.std.proofs.lemmas.Bool.{eqb-true, and_parts}
-use Rattle.sqlx_pool_core.specs.declared.mark.Mark.{Mark}
-use Rattle.sqlx_pool_core.specs.declared.mark.Mark.TheVariants as mark
+use Rattle.sqlx_log.specs.declared.mark.Mark.{Mark}
+use Rattle.sqlx_log.specs.declared.mark.Mark.TheVariants as mark
 use Rattle.sqlx_pool_core.specs.declared.steps.Lent.{Lent}
 use Rattle.sqlx_pool_core.specs.declared.steps.Given.{Given}
 use Rattle.sqlx_pool_core.specs.declared.steps.Given.TheVariants as given
 use Rattle.sqlx_pool_core.specs.Core.{Core, loan_of}
 use Rattle.sqlx_pool_core.specs.Sound.{IsSound}
 use Rattle.sqlx_pool_core.specs.Edits.{at_moment, unlent, kept}
-use Rattle.sqlx_pool_core.specs.ReturnSteps.{closes, give_answer, give_marks, gave}
+use Rattle.sqlx_log.specs.EventTable.{closes}
+use Rattle.sqlx_pool_core.specs.Limits.{limits_of}
+use Rattle.sqlx_pool_core.specs.ReturnSteps.{give_answer, give_marks, gave}
 use Rattle.sqlx_pool_core.specs.KeepingSteps.{without_first}
 use Rattle.sqlx_pool_core.specs.Makes.{Makes}
+use Rattle.sqlx_pool_core.proofs.Fair.{makes-none}
 use Rattle.sqlx_pool_core.specs.StandsFor.{StandsFor}
-use Rattle.sqlx_pool_core.proofs.ListFacts.{found_passes}
+use Rattle.sqlx_log.proofs.ListFacts.{found_passes}
 use Rattle.sqlx_pool_core.proofs.Known.{loan-found}
 use Rattle.mem_store.specs.Store.{Store, Link}
 use Rattle.sqlx_script.specs.declared.answers.GiveAnswers.{GiveAnswers}
@@ -24,8 +27,8 @@ use Rattle.sqlx_play.specs.declared.stage.give.Returned.TheVariants as word
 use Rattle.sqlx_play.specs.declared.stage.Stage.{Stage}
 use Rattle.sqlx_play.specs.LinksStand.{LinksStand}
 use Rattle.sqlx_play.specs.LentLinks.{is_lent, without_lent}
-use Rattle.sqlx_play.specs.Comes.{IsAt, Comes}
-use Rattle.sqlx_play.specs.Returns.{lets_rest, Returns}
+use Rattle.sqlx_play.specs.StageAdvance.{IsAt, StageAdvance}
+use Rattle.sqlx_play.specs.GivesBack.{lets_rest, GivesBack}
 use Rattle.sqlx_play.proofs.LinksSame.{links-same}
 use Rattle.sqlx_play.proofs.LinksGone.{lent-counted, closed_in, links-leave}
 use Rattle.sqlx_play.proofs.LinksKept.{links-kept}
@@ -38,10 +41,10 @@ use Rattle.sqlx_play.proofs.GivesBack.{Loaned, told-kept, told-closed, told-not_
 module _ (old : Stage) (answers : GiveAnswers) (m k c : ℕ) (sound : IsSound old.core) where
   -- what changed nothing
   pub stays : (core : Core Link) (new : Stage) (marks : List Mark) (past : History) → IsAt old marks past → new.pool ≡ old.pool → new.core ≡ old.core → new.out.store ≡ old.out.store → new.lent.items ≡ old.lent.items
-      → Comes old new marks [] past
+      → StageAdvance old new marks [] past
   stays core new marks past at pool same store lent = record {
     pool = pool;
-    makes = record { stands = subst (λ (x : Core Link). StandsFor x (marks ++ [])) (sym same) (subst (StandsFor old.core) (sym (append-nil marks)) at.stands); fair = tt };
+    makes = makes-none old.core.options.max_connections marks new.core (subst (λ (x : Core Link). StandsFor x marks) (sym same) at.stands);
     options = ap (λ (x : Core Link). x.options) same;
     places = ap (λ (x : Core Link). x.places) same ∙ at.places;
     tickets = ap (λ (x : Core Link). x.tickets) same;
@@ -50,7 +53,7 @@ module _ (old : Stage) (answers : GiveAnswers) (m k c : ℕ) (sound : IsSound ol
         (subst (λ (x : Store). LinksStand old.core x new.lent.items past) (sym store) (subst (λ (l : List (Lent Link)). LinksStand old.core old.out.store l past) (sym lent) at.links));
   }
 
-  pub returns-unlent : find (is_lent c) old.lent.items ≡ None → Returns old old answers m k c word.NotHeld
+  pub returns-unlent : find (is_lent c) old.lent.items ≡ None → GivesBack old old answers m k c word.NotHeld
   returns-unlent none marks past at = (
     stranger-told old.pool old.core marks past old.lent.items old.out.store c sound k m answers at.stands (unlent-loan old.pool old.core marks past old.lent.items old.out.store c k none at.links),
     stays old.core old marks past at refl refl refl refl,
@@ -83,7 +86,7 @@ module _ (old : Stage) (answers : GiveAnswers) (m k c : ℕ) (sound : IsSound ol
         → given.Kept ≡ give_answer old.core.options old.core.shut at_m (lets_rest old.pool answers l.raw.depth) (loan_of k l.id old.core.held) l
         → ((marks : List Mark) → StandsFor old.core marks → Makes old.core.options.max_connections marks (give_marks {C = Link} l.id at_m given.Kept) core)
         → core ≡ gave (loan_of k l.id old.core.held) l at_m given.Kept old.core
-        → Returns old new answers m k c word.Kept
+        → GivesBack old new answers m k c word.Kept
     returns-kept new at_m moment pool core_is store rest answer makes becomes marks past at =
         let loaned : Loaned (loan_of k l.id old.core.held) old.core.options old.core.shut m (lets_rest old.pool answers l.raw.depth) true
         = told-kept old.core.options old.core.shut m (lets_rest old.pool answers l.raw.depth) l (loan_of k l.id old.core.held)
@@ -91,7 +94,7 @@ module _ (old : Stage) (answers : GiveAnswers) (m k c : ℕ) (sound : IsSound ol
         let h = loaned.loan in
         let loan_c : loan_of k c old.core.held ≡ Some h = ap (λ (n : ℕ). loan_of k n old.core.held) (sym same_conn) ∙ loaned.is in
         let is : new.core ≡ at_moment m (kept (record l { created = h.created }) m (unlent l.id old.core)) = core_is ∙ becomes ∙ (λ i. gave (loaned.is i) l (moment i) given.Kept old.core) in
-        let may = and_parts (lets_rest old.pool answers l.raw.depth) (not (closes old.core.options old.core.shut h.created.0 m)) loaned.told in
+        let may = and_parts (lets_rest old.pool answers l.raw.depth) (not (closes (limits_of old.core.options) old.core.shut h.created.0 m)) loaned.told in
         let flat : l.raw.depth ≡ 0 = eqb-true l.raw.depth 0 (and_parts (l.raw.depth == 0) answers.ping (and_parts (not old.pool.after_release || accepts answers.after_release) ((l.raw.depth == 0) && answers.ping) may.0).1).0 in (
           word-told old.pool old.core marks past old.lent.items old.out.store c sound k m answers h l true at.set_up at.stands loan_c found at.links loaned.told,
           record {
@@ -114,7 +117,7 @@ module _ (old : Stage) (answers : GiveAnswers) (m k c : ℕ) (sound : IsSound ol
         → given.Closed raw ≡ give_answer old.core.options old.core.shut at_m (lets_rest old.pool answers l.raw.depth) (loan_of k l.id old.core.held) l
         → ((marks : List Mark) → StandsFor old.core marks → Makes old.core.options.max_connections marks (give_marks l.id at_m (given.Closed raw)) core)
         → core ≡ gave (loan_of k l.id old.core.held) l at_m (given.Closed raw) old.core
-        → Returns old new answers m k c word.Closed
+        → GivesBack old new answers m k c word.Closed
     returns-closed new at_m raw moment pool core_is store rest answer makes becomes marks past at =
         let told = told-closed old.core.options old.core.shut m (lets_rest old.pool answers l.raw.depth) l raw (loan_of k l.id old.core.held)
         (answer ∙ ap (λ (n : ℕ). give_answer old.core.options old.core.shut n (lets_rest old.pool answers l.raw.depth) (loan_of k l.id old.core.held) l) moment) in
@@ -145,7 +148,7 @@ module _ (old : Stage) (answers : GiveAnswers) (m k c : ℕ) (sound : IsSound ol
         → (i : ℕ) → i < length old.lent.items → l ≡ get_or old.lent.items i l → new.lent.items ≡ insert (remove old.lent.items i) i (record { id = c; created = l.created; raw = raw })
         → given.NotHeld raw ≡ give_answer old.core.options old.core.shut at_m (lets_rest old.pool answers l.raw.depth) (loan_of k l.id old.core.held) l
         → core ≡ gave (loan_of k l.id old.core.held) l at_m (given.NotHeld raw) old.core
-        → Returns old new answers m k c word.NotHeld
+        → GivesBack old new answers m k c word.NotHeld
     returns-not_held new at_m raw pool core_is store i below value put answer becomes marks past at =
         let told = told-not_held old.core.options old.core.shut at_m (lets_rest old.pool answers l.raw.depth) l raw (loan_of k l.id old.core.held) answer in
         let loan_c : loan_of k c old.core.held ≡ None = ap (λ (n : ℕ). loan_of k n old.core.held) (sym same_conn) ∙ told.0 in

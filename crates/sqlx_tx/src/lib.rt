@@ -1,30 +1,14 @@
-//! Transactions. For now the texts of the levels and the law that they make nested levels.
+//! Transactions: a level of a connection as a value that has to be spent, over whatever holds the connection.
+//!
+//! The texts of the levels, and the law that by them savepoints are nested levels, are those of `sqlx_savepoints`.
 #![tactic(auto)]
 
+pub mod calls;
+mod hold;
+mod transaction;
+
+pub use hold::{Borrowed, Hold};
 pub use sqlx_savepoints::{
     begin_ansi_transaction_sql, commit_ansi_transaction_sql, laws, rollback_ansi_transaction_sql,
 };
-
-#[cfg(test)]
-mod tests {
-    use super::*;
-    use std::test::Fail;
-
-    #[test]
-    fn texts(rt: HostRuntime) -> Result<(), Fail> {
-        let text = begin_ansi_transaction_sql(rt.alloc(), 0)?;
-        assert_eq!(rt; text.as_str(), "BEGIN");
-        let text = begin_ansi_transaction_sql(rt.alloc(), 1)?;
-        assert_eq!(rt; text.as_str(), "SAVEPOINT _sqlx_savepoint_1");
-        let text = commit_ansi_transaction_sql(rt.alloc(), 1)?;
-        assert_eq!(rt; text.as_str(), "COMMIT");
-        let text = commit_ansi_transaction_sql(rt.alloc(), 3)?;
-        assert_eq!(rt; text.as_str(), "RELEASE SAVEPOINT _sqlx_savepoint_2");
-        let text = rollback_ansi_transaction_sql(rt.alloc(), 1)?;
-        assert_eq!(rt; text.as_str(), "ROLLBACK");
-        let text = rollback_ansi_transaction_sql(rt.alloc(), 2)?;
-        assert_eq!(rt; text.as_str(), "ROLLBACK TO SAVEPOINT _sqlx_savepoint_1");
-        laws::savepoints_are_levels();
-        Ok(())
-    }
-}
+pub use transaction::Transaction;

@@ -1,4 +1,4 @@
-use Rattle.sqlx_play.specs.Answer.{answer}
+use Rattle.sqlx_rules.specs.Answer.{answer}
 use Rattle.sqlx_play.proofs.Passing.{cancel-reply, cancelled-stands, uncancelled-stands}
 use Rattle.sqlx_play.proofs.stage.cancel.cancel.Goals as goal
 

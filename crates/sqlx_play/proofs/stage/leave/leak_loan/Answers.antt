@@ -1,5 +1,5 @@
 use Rattle.std.proofs.Common.{Bool, true, sym, ap, subst, ◌∙◌}
-use Rattle.sqlx_pool_core.specs.declared.mark.Mark.TheVariants as mark
+use Rattle.sqlx_log.specs.declared.mark.Mark.TheVariants as mark
 use Rattle.sqlx_pool_core.specs.Core.{Core}
 use Rattle.sqlx_pool_core.specs.Makes.{Makes}
 use Rattle.sqlx_pool_core.specs.ReturnSteps.{leak_marks, leaked}

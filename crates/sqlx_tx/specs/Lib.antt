@@ -1,0 +1,3 @@
+pub mod Lending
+pub mod Begun
+pub mod Within
