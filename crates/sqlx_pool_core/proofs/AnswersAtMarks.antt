@@ -1,12 +1,12 @@
 -- What each call answers, by the marks that the core stands for.
-use Rattle.std.proofs.Common.{◌≡◌, ℕ, ◌+◌, ◌≤◌, ◌==◌, ◌&&◌, ◌||◌, not, Bool, true, false, cond, List, [], ◌∷◌, map, find, count_by, is_some, option_map, Option, Some, None, refl, sym, ap, ap₂, ◌∙◌, subst, arith}
+use Rattle.std.proofs.Common.{◌≡◌, ℕ, ◌+◌, ◌≤◌, ◌==◌, ◌&&◌, ◌||◌, not, Bool, true, false, cond, List, [], ◌∷◌, map, length, find, count_by, is_some, option_map, Option, Some, None, refl, sym, ap, ap₂, ◌∙◌, subst, arith}
 use Rattle.sqlx_log.specs.declared.mark.Mark.{Mark}
-use Rattle.sqlx_log.specs.Marks.{Loan, is_loan_of, owner_of, tickets_of}
+use Rattle.sqlx_log.specs.Marks.{Loan, is_loan_of, owner_of, loans_of, idle_of, tickets_of}
 use Rattle.sqlx_log.specs.Born.{IsBorn}
 use Rattle.sqlx_log.specs.Counts.{asked_in, is_asked_by}
 use Rattle.sqlx_log.specs.EventTable.{may_pass, closes, closes_at, is_old_since, size_at}
 use Rattle.sqlx_log.specs.Answers.{owns, is_kept_at, first_conn, lent_past_at, waits_if}
-use Rattle.sqlx_log.proofs.ListFacts.{count_by-cons, find-map, found_All}
+use Rattle.sqlx_log.proofs.ListFacts.{count_by-cons, find-map, found_All, length_map}
 use Rattle.sqlx_pool_core.specs.Limits.{limits_of}
 use Rattle.sqlx_pool_core.specs.declared.ticket.Ticket.{Ticket}
 use Rattle.sqlx_pool_core.specs.declared.ticket.Held.{Held}
@@ -25,7 +25,7 @@ use Rattle.sqlx_pool_core.specs.ReturnSteps.{give_answer}
 use Rattle.sqlx_pool_core.proofs.KeepingAtMarks.{passes-at}
 use Rattle.sqlx_pool_core.proofs.Known.{loan-found}
 use Rattle.sqlx_pool_core.proofs.Stands.{IsHeldBorn}
-use Rattle.sqlx_pool_core.proofs.TurnAtMarks.{size-stands}
+use Rattle.sqlx_pool_core.proofs.TurnAtMarks.{idle-stands, owned-stands, size-stands}
 
 -- ---- owners
 
@@ -113,6 +113,15 @@ module _ {C : Type 0} (core : Core C) (marks : List Mark) (s : StandsFor core ma
 
   pub lends-at : is_some (try_lent (may_pass core.shut (waiting core.tickets) (free core)) core.idle) ≡ is_some (lent_past_at core.options.max_connections core.places marks)
   lends-at = sym (some-map lent_conn (try_lent (may_pass core.shut (waiting core.tickets) (free core)) core.idle)) ∙ ap is_some try-at
+
+  pub idle-at : length core.idle ≡ length (idle_of marks)
+  idle-at = idle-stands core marks s
+
+  pub owned-at : length core.held ≡ length (loans_of marks)
+  owned-at = owned-stands core marks s
+
+  pub tickets-at : length core.tickets ≡ length (tickets_of marks)
+  tickets-at = sym (length_map asking core.tickets) ∙ ap length s.tickets
 
   pub sized-at : size core ≡ size_at core.places marks
   sized-at = size-stands core marks s

@@ -2,7 +2,7 @@
 
 ghost use Rattle.std.specs.Prelude.{◌≡◌, List, length, is_some};
 ghost use Rattle.sqlx_log.specs.declared.mark.Mark.{Mark};
-ghost use Rattle.sqlx_log.specs.Marks.{owner_of, tickets_of, next_ticket, next_conn};
+ghost use Rattle.sqlx_log.specs.Marks.{owner_of, tickets_of, loans_of, leaked_of, next_ticket, next_conn};
 ghost use Rattle.sqlx_log.specs.Counts.{asked_in};
 ghost use Rattle.sqlx_log.specs.EventTable.{may_pass};
 ghost use Rattle.sqlx_log.specs.Answers.{owns, lent_past_at, waits_if};
@@ -28,21 +28,24 @@ impl<C> PoolCore<C> {
 
     /// How many connections have an owner.
     pub fn num_held(&self) -> usize
-        ensures { result ≡ length self.now.held }
+        ensures marks { (marks : List Mark) → StandsFor self.now marks → result ≡ length (loans_of marks) }
+        ensures own { result ≡ length self.now.held }
     {
         self.held.len()
     }
 
     /// How many connections were leaked.
     pub fn num_leaked(&self) -> u32
-        ensures { result ≡ self.now.leaked }
+        ensures marks { (marks : List Mark) → StandsFor self.now marks → result ≡ leaked_of marks }
+        ensures own { result ≡ self.now.leaked }
     {
         self.leaked
     }
 
     /// How many tickets haven't ended, those in backoff among them.
     pub fn num_tickets(&self) -> usize
-        ensures { result ≡ length self.now.tickets }
+        ensures marks { (marks : List Mark) → StandsFor self.now marks → result ≡ length (tickets_of marks) }
+        ensures own { result ≡ length self.now.tickets }
     {
         self.tickets.len()
     }

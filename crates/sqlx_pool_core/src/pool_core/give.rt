@@ -1,7 +1,8 @@
 //! The steps that end a loan: giving a connection back, ending, detaching and leaking it.
 
 ghost use Rattle.std.specs.Prelude.{◌≡◌, ℕ, ◌+◌, ◌-◌, ◌<◌, ◌≤◌, max, List, Option, Some, None, IfSome, is_some, ◌||◌, true, false};
-ghost use Rattle.sqlx_log.specs.Marks.{owner_of};
+ghost use Rattle.std.specs.List.{list_any};
+ghost use Rattle.sqlx_log.specs.Marks.{owner_of, is_shut};
 ghost use Rattle.sqlx_log.specs.Answers.{owns, is_kept_at};
 ghost use Rattle.sqlx_pool_core.specs.Logs.{Logs, moment_of};
 ghost use Rattle.sqlx_pool_core.specs.Answers.{is_kept, is_held};
@@ -46,7 +47,8 @@ impl<C> PoolCore<C> {
     /// Whether a connection of this opening would be closed rather than kept: the pool is closed, or the
     /// connection's age is above the lifetime.
     pub fn must_close(&self, created: Moment, now: Moment) -> bool
-        ensures { result ≡ closes (limits_of self.now.options) self.now.shut created.0 (moment_of self.now now) }
+        ensures marks { (marks : List Mark) → StandsFor self.now marks → result ≡ closes (limits_of self.now.options) (list_any is_shut marks) created.0 (moment_of self.now now) }
+        ensures own { result ≡ closes (limits_of self.now.options) self.now.shut created.0 (moment_of self.now now) }
     {
         let moment = self.moment(now);
         self.closes(created, moment)
