@@ -4,6 +4,7 @@ ghost use Rattle.either.specs.declared.Either.TheVariants.{Right};
 ghost use Rattle.std.specs.List.{AllByRecursion};
 ghost use Rattle.mem_driver.specs.Answers.{IsI64, RowsFit, columns_from, column_at, done, listed, named_from, oks, one_names, pair_names, pair_row, row_of, value_names};
 ghost use Rattle.mem_driver.specs.Answers as answer;
+ghost use Rattle.sqlx_any.specs.Names.{with_position};
 
 use either::Either;
 use sqlx_any::{
@@ -32,6 +33,22 @@ fn column(position: usize, name: &'static str) -> AnyColumn
     }
 }
 
+/// One more column behind the others, and its name.
+fn add_column(
+    alloc: Global,
+    names: &mut ColumnNames,
+    columns: &mut Vec<AnyColumn>,
+    position: usize,
+    name: &'static str,
+) -> Result<(), OutOfMemory>
+    ensures names { OnOk result (names.new ≡ with_position names.old name.entry.now position) }
+    ensures columns { OnOk result (columns.new.items ≡ columns.old.items ++ column_at position name.entry.now ∷ []) }
+{
+    names.insert(alloc, UStr::from_static(name), position)?;
+    columns.push(column(position, name))?;
+    Ok(())
+}
+
 /// The name of one column, and the column.
 pub(crate) fn one_column(
     alloc: Global,
@@ -40,9 +57,8 @@ pub(crate) fn one_column(
     ensures { IfOk result (λ made. (made.0 ≡ named_from 0 (name.entry.now ∷ []) []) × (made.1.items ≡ columns_from 0 (name.entry.now ∷ []))) }
 {
     let mut names = ColumnNames::new(alloc);
-    names.insert(alloc, UStr::from_static(name), 0)?;
     let mut columns = Vec::new(alloc);
-    columns.push(column(0, name))?;
+    add_column(alloc, &mut names, &mut columns, 0, name)?;
     Ok((names, columns))
 }
 
@@ -51,11 +67,9 @@ pub(crate) fn pair_columns(alloc: Global) -> Result<(ColumnNames, Vec<AnyColumn>
     ensures { IfOk result (λ made. (made.0 ≡ named_from 0 pair_names []) × (made.1.items ≡ columns_from 0 pair_names)) }
 {
     let mut names = ColumnNames::new(alloc);
-    names.insert(alloc, UStr::from_static("k"), 0)?;
-    names.insert(alloc, UStr::from_static("v"), 1)?;
     let mut columns = Vec::new(alloc);
-    columns.push(column(0, "k"))?;
-    columns.push(column(1, "v"))?;
+    add_column(alloc, &mut names, &mut columns, 0, "k")?;
+    add_column(alloc, &mut names, &mut columns, 1, "v")?;
     Ok((names, columns))
 }
 

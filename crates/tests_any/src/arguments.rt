@@ -1,12 +1,12 @@
 //! Rust types as arguments of `Any`, and lists of arguments.
 
+use crate::says::says;
 use sqlx_any::*;
 use sqlx_text::{AnyTypeInfoKind, Error, Fault, OutOfMemory};
 use std::alloc::Global;
 use std::test::*;
 use tests_backend::StubBackend;
 use tests_backend::cells::{self, described, listed};
-use tests_database::answers::told;
 
 type Db = Any<StubBackend>;
 
@@ -87,7 +87,7 @@ fn numbers_are_arguments(rt: HostRuntime) -> Result<(), Fail> {
             "i64 BIGINT true 8 false BigInt 70000|BigInt 70000|Null BIGINT|false true",
         ),
     ] {
-        assert_eq!(rt; told(alloc, answer)?.as_str(), want);
+        says(&rt, answer, want)?;
     }
     Ok(())
 }
@@ -115,7 +115,7 @@ fn texts_and_bytes_are_arguments(rt: HostRuntime) -> Result<(), Fail> {
             "Vec<u8> BLOB false 2 false Blob [1, 2]|Blob [1, 2]|Null BLOB|false true",
         ),
     ] {
-        assert_eq!(rt; told(alloc, answer)?.as_str(), want);
+        says(&rt, answer, want)?;
     }
     Ok(())
 }
@@ -128,8 +128,11 @@ fn options_are_arguments(rt: HostRuntime) -> Result<(), Fail> {
     let told = Encode::<Db>::encode_by_ref(&some, alloc, &mut list);
     assert_eq!(rt; told.ok(), Some(IsNull::No));
     assert_eq!(rt; listed(alloc, list.as_slice())?.as_str(), "BigInt 5|");
-    assert_eq!(rt; sized::<Db, Option<i64>>(&some), (8, false));
-    assert_eq!(rt; sized::<Db, Option<i64>>(&None), (0, false));
+    let sizes = [
+        sized::<Db, Option<i64>>(&some),
+        sized::<Db, Option<i64>>(&None),
+    ];
+    assert_eq!(rt; sizes, [(8, false), (0, false)]);
     Ok(())
 }
 
@@ -167,7 +170,7 @@ fn keeps_the_first_arguments(rt: HostRuntime) -> Result<(), Fail> {
         (2, "2 2 a = ? Integer 5|Text x|"),
         (0, "0 0 a = ? "),
     ] {
-        assert_eq!(rt; told(alloc, kept(alloc, len))?.as_str(), want);
+        says(&rt, kept(alloc, len), want)?;
     }
     Ok(())
 }
@@ -175,10 +178,12 @@ fn keeps_the_first_arguments(rt: HostRuntime) -> Result<(), Fail> {
 // A copy of a value, with its kind.
 fn copied(alloc: Global, kind: AnyValueKind) -> Result<String, OutOfMemory> {
     let value = AnyValue { kind };
-    let copy = value.try_clone(alloc)?;
-    let again = copy.kind.try_clone(alloc)?;
-    let text = described(alloc, &again)?;
-    let kind = again.kind();
+    let copy = value.try_clone(alloc);
+    drop(value);
+    let copy = copy?;
+    let text = described(alloc, &copy.kind)?;
+    let kind = copy.kind.kind();
+    drop(copy);
     Ok(format!(in alloc; "{text}, {kind}")?)
 }
 
@@ -210,22 +215,22 @@ fn holds_bytes(rt: HostRuntime) -> Result<(), Fail> {
     Ok(())
 }
 
+// What a type tells of itself: its kind in two ways, whether it is that of nulls or of nothing, and whether it fits that of nulls.
+fn told_of(ty: &AnyTypeInfo) -> (AnyTypeInfoKind, Option<AnyTypeInfoKind>, [bool; 3]) {
+    let null = AnyTypeInfo {
+        kind: AnyTypeInfoKind::Null,
+    };
+    let flags = [ty.is_null(), ty.is_void(), ty.type_compatible(&null)];
+    (ty.kind(), ty.any_kind(), flags)
+}
+
 #[test]
 fn tells_of_types(rt: HostRuntime) -> Result<(), Fail> {
-    for (kind, is_null) in [
-        (AnyTypeInfoKind::BigInt, false),
-        (AnyTypeInfoKind::Null, true),
+    for (kind, flags) in [
+        (AnyTypeInfoKind::BigInt, [false, false, false]),
+        (AnyTypeInfoKind::Null, [true, false, true]),
     ] {
-        let ty = AnyTypeInfo { kind };
-        assert_eq!(rt; ty.kind(), kind);
-        assert_eq!(rt; ty.any_kind(), Some(kind));
-        assert_eq!(rt; (ty.is_null(), ty.is_void()), (is_null, false));
-        assert_eq!(rt;
-            ty.type_compatible(&AnyTypeInfo {
-                kind: AnyTypeInfoKind::Null
-            }),
-            is_null
-        );
+        assert_eq!(rt; told_of(&AnyTypeInfo { kind }), (kind, Some(kind), flags));
     }
     Ok(())
 }

@@ -1,12 +1,13 @@
 //! The calls of a connection besides queries, and its levels.
 ghost use Rattle.std.specs.Prelude.{◌≡◌};
 
+use crate::says::says;
 use sqlx_any::*;
 use sqlx_text::{Depth, Error, SqlStr};
 use std::alloc::Global;
 use std::test::*;
 use tests_backend::StubBackend;
-use tests_database::answers::{shown, told};
+use tests_database::answers::shown;
 
 // A call of a connection.
 #[derive(Clone, Copy, PartialEq, Eq)]
@@ -93,7 +94,7 @@ fn a_connection_asks_its_backend(rt: HostRuntime) -> Result<(), Fail> {
         (true, Act::StartRollback, "Some(StartRollback) 0 ()"),
     ] {
         let answer = of_any(alloc, begun, false, call);
-        assert_eq!(rt; told(alloc, answer)?.as_str(), want);
+        says(&rt, answer, want)?;
     }
     Ok(())
 }
@@ -102,10 +103,11 @@ fn a_connection_asks_its_backend(rt: HostRuntime) -> Result<(), Fail> {
 fn a_connection_hands_on_refusals(rt: HostRuntime) -> Result<(), Fail> {
     let alloc = rt.alloc();
     let inside = of_any(alloc, true, false, Act::BeginWith);
-    assert_eq!(rt;
-        told(alloc, inside)?.as_str(),
-        "Some(Begin) 1 attempted to call begin_with at non-zero transaction depth"
-    );
+    says(
+        &rt,
+        inside,
+        "Some(Begin) 1 attempted to call begin_with at non-zero transaction depth",
+    )?;
     for (begun, call, last) in [
         (false, Act::Ping, "Some(Ping) 0"),
         (false, Act::Clear, "Some(Clear) 0"),
@@ -116,7 +118,7 @@ fn a_connection_hands_on_refusals(rt: HostRuntime) -> Result<(), Fail> {
     ] {
         let answer = of_any(alloc, begun, true, call);
         let want = format!(in alloc; "{last} error communicating with database: other error")?;
-        assert_eq!(rt; told(alloc, answer)?.as_str(), want.as_str());
+        says(&rt, answer, want.as_str())?;
     }
     Ok(())
 }
@@ -147,10 +149,7 @@ fn closed_hard(alloc: Global) -> Result<String, Error> {
 #[test]
 fn connections_tell_of_themselves(rt: HostRuntime) -> Result<(), Fail> {
     let alloc = rt.alloc();
-    assert_eq!(rt;
-        told(alloc, any_tells(alloc))?.as_str(),
-        "stub false 0 false 0 ()"
-    );
-    assert_eq!(rt; told(alloc, closed_hard(alloc))?.as_str(), "()");
+    says(&rt, any_tells(alloc), "stub false 0 false 0 ()")?;
+    says(&rt, closed_hard(alloc), "()")?;
     Ok(())
 }

@@ -1,11 +1,11 @@
 //! What each call of an executor gives of the steps that it hands out, and the statements that it prepares.
 
+use crate::says::says;
 use sqlx_any::*;
-use sqlx_text::{AnyTypeInfoKind, Error, OutOfMemory, SqlStr};
+use sqlx_text::{AnyTypeInfoKind, Error, SqlStr};
 use std::alloc::Global;
 use std::test::*;
 use tests_backend::StubBackend;
-use tests_database::answers::told;
 use tests_database::steps::{Call, gives};
 use tests_database::{Toy, ToyConnection};
 
@@ -53,11 +53,7 @@ fn calls_filter_one_list(rt: HostRuntime) -> Result<(), Fail> {
         ),
         (Call::FetchMany, "", ""),
     ] {
-        assert_eq!(rt;
-            told(alloc, of_toy(alloc, call, letters))?.as_str(),
-            want,
-            "of {letters}"
-        );
+        says(&rt, of_toy(alloc, call, letters), want)?;
     }
     Ok(())
 }
@@ -86,55 +82,49 @@ fn a_connection_hands_on_its_backends_list(rt: HostRuntime) -> Result<(), Fail> 
             "number|AnyQueryResult { rows_affected: 2, last_insert_id: None }|error communicating with database: other error|",
         ),
     ] {
-        assert_eq!(rt;
-            told(alloc, of_any(alloc, call, letters))?.as_str(),
-            want,
-            "of {letters}"
-        );
+        says(&rt, of_any(alloc, call, letters), want)?;
     }
     Ok(())
 }
 
 // How many columns and parameters a statement has, and its text.
-fn statement<DB: Database>(alloc: Global, statement: DB::Statement) -> Result<String, OutOfMemory> {
+fn told_of<DB: Database>(
+    alloc: Global,
+    statement: Result<DB::Statement, Error>,
+) -> Result<String, Error> {
+    let statement = statement?;
     let columns = statement.columns().len();
     let parameters = match statement.parameters() {
         Some(Either::Left(types)) => types.len(),
         Some(Either::Right(count)) => count,
         None => usize::MAX,
     };
-    let sql = statement.into_sql();
-    let text = format!(in alloc; "{columns} {parameters} {sql:?}");
-    drop(sql);
+    let text = format!(in alloc; "{columns} {parameters} {:?}", statement.sql());
+    drop(statement);
     Ok(text?)
 }
 
-// The statements of a text that are prepared for no parameters, and for these.
-fn prepared<DB: Database, E: Executor<DB>>(
-    alloc: Global,
-    conn: &mut E,
-    parameters: &[DB::TypeInfo],
-) -> Result<String, Error> {
-    let first = conn.prepare(alloc, SqlStr::from_static("SELECT"))?;
-    let first = statement::<DB>(alloc, first)?;
-    let second = conn.prepare_with(alloc, SqlStr::from_static("UPDATE"), parameters)?;
-    let second = statement::<DB>(alloc, second)?;
-    Ok(format!(in alloc; "{first}, {second}")?)
-}
-
-fn of_any_prepared(alloc: Global) -> Result<String, Error> {
+// A statement that is prepared for a text as its parameter, or for none.
+fn prepared(alloc: Global, with: bool) -> Result<String, Error> {
     let mut conn = AnyConnection::new(StubBackend::new(alloc, "")?);
+    let sql = SqlStr::from_static("SELECT");
     let kind = AnyTypeInfoKind::Text;
-    let parameters = [AnyTypeInfo { kind }];
-    prepared::<Any<StubBackend>, AnyConnection<StubBackend>>(alloc, &mut conn, &parameters)
+    let statement = if with {
+        conn.prepare_with(alloc, sql, &[AnyTypeInfo { kind }])
+    } else {
+        conn.prepare(alloc, sql)
+    };
+    drop(conn);
+    told_of::<Any<StubBackend>>(alloc, statement)
 }
 
 #[test]
 fn prepares_statements(rt: HostRuntime) -> Result<(), Fail> {
     let alloc = rt.alloc();
-    assert_eq!(rt;
-        told(alloc, of_any_prepared(alloc))?.as_str(),
-        "1 0 SqlStr { text: \"SELECT\" }, 1 1 SqlStr { text: \"UPDATE\" }"
+    let (none, one) = (
+        "1 0 SqlStr { text: \"SELECT\" }",
+        "1 1 SqlStr { text: \"SELECT\" }",
     );
-    Ok(())
+    says(&rt, prepared(alloc, false), none)?;
+    says(&rt, prepared(alloc, true), one)
 }

@@ -1,16 +1,15 @@
 //! The forms in `Any` of what a database has of its own, and what it takes of `Any`'s arguments.
+ghost use Rattle.std.specs.Prelude.{IfOk};
+ghost use Rattle.sqlx_any.specs.Names.{AreBelow};
 
+use crate::says::says;
 use sqlx_any::*;
 use sqlx_text::{AnyTypeInfoKind, Error, OutOfMemory, SqlStr, UStr};
 use std::alloc::Global;
 use std::test::*;
-use tests_backend::StubBackend;
-use tests_backend::cells::{self, listed};
-use tests_database::answers::told;
+use tests_backend::{StubBackend, cells};
 use tests_database::letters::{columns_of, row_of, types_of};
 use tests_database::{Toy, ToyColumn, ToyStatement, ToyType};
-
-type Db = Any<StubBackend>;
 
 const UNMAPPED: &str = "error in Any driver mapping: no kind for type POINT";
 
@@ -25,22 +24,55 @@ fn put_columns(alloc: Global, line: &mut String, columns: &[AnyColumn]) -> Resul
     Ok(())
 }
 
-fn put_values(alloc: Global, line: &mut String, row: &AnyRow) -> Result<(), OutOfMemory> {
-    for at in 0..Row::<Db>::len(row) {
-        let text = cells::described(alloc, &Row::<Db>::value(row, at).kind)?;
+fn put_values(alloc: Global, line: &mut String, row: &AnyRow) -> Result<(), Error> {
+    for at in 0..row.len() {
+        let text = cells::described(alloc, &row.try_get_raw(alloc, at)?.kind)?;
         line.push_str(&text)?;
         line.push('|')?;
     }
     Ok(())
 }
 
-// The form of a row by letters.
+// Puts the name of the column that is found by `second` behind a line.
+fn put_second(
+    alloc: Global,
+    line: &mut String,
+    found: Result<&AnyColumn, Error>,
+) -> Result<(), OutOfMemory> {
+    match found {
+        Ok(column) => {
+            let name = column.name();
+            let text = format!(in alloc; " second {name}")?;
+            line.push_str(&text)?;
+        }
+        Err(error) => drop(error),
+    }
+    Ok(())
+}
+
+// The name `second` of the column at a position, and none where that isn't below the number of columns.
+fn names(alloc: Global, position: usize, columns: usize) -> Result<ColumnNames, OutOfMemory>
+    ensures { IfOk result (λ names. AreBelow names columns) }
+{
+    let mut names = ColumnNames::new(alloc);
+    names.insert(alloc, UStr::from_static("second"), position)?;
+    if names.are_below(columns) {
+        Ok(names)
+    } else {
+        drop(names);
+        Ok(ColumnNames::new(alloc))
+    }
+}
+
+// The form of a row by letters, whose second column, where it has one, has a name.
 fn mapped(alloc: Global, letters: &str) -> Result<String, Error> {
     let row = row_of(alloc, letters)?;
-    let form = AnyRow::map_from::<Toy>(alloc, &row, ColumnNames::new(alloc))?;
+    let names = names(alloc, 1, row.len())?;
+    let form = AnyRow::map_from::<Toy>(alloc, &row, names)?;
     let mut line = String::new(alloc);
     put_values(alloc, &mut line, &form)?;
-    put_columns(alloc, &mut line, Row::<Db>::columns(&form))?;
+    put_columns(alloc, &mut line, form.columns())?;
+    put_second(alloc, &mut line, form.try_column(alloc, "second"))?;
     Ok(line)
 }
 
@@ -49,13 +81,22 @@ fn maps_rows(rt: HostRuntime) -> Result<(), Fail> {
     let alloc = rt.alloc();
     let unread = "error occurred while decoding: out of range integral type conversion attempted";
     for (letters, want) in [
-        ("lt", "BigInt 7|Text x|0 large BIGINT|1 text TEXT|"),
-        ("tl", "Text x|BigInt 7|0 text TEXT|1 large BIGINT|"),
+        (
+            "lt",
+            "BigInt 7|Text x|0 large BIGINT|1 text TEXT| second text",
+        ),
+        (
+            "tl",
+            "Text x|BigInt 7|0 text TEXT|1 large BIGINT| second large",
+        ),
         (
             "bsi",
-            "Bool true|SmallInt 5|Integer 6|0 flag BOOLEAN|1 small SMALLINT|2 whole INTEGER|",
+            "Bool true|SmallInt 5|Integer 6|0 flag BOOLEAN|1 small SMALLINT|2 whole INTEGER| second small",
         ),
-        ("yn", "Blob [1, 2]|Null TEXT|0 bytes BLOB|1 none TEXT|"),
+        (
+            "yn",
+            "Blob [1, 2]|Null TEXT|0 bytes BLOB|1 none TEXT| second none",
+        ),
         ("", ""),
         ("lp", UNMAPPED),
         (
@@ -69,11 +110,7 @@ fn maps_rows(rt: HostRuntime) -> Result<(), Fail> {
         ("le", unread),
         ("eop", unread),
     ] {
-        assert_eq!(rt;
-            told(alloc, mapped(alloc, letters))?.as_str(),
-            want,
-            "of {letters}"
-        );
+        says(&rt, mapped(alloc, letters), want)?;
     }
     Ok(())
 }
@@ -92,18 +129,25 @@ fn put_parameters(
     Ok(())
 }
 
+fn told_of(alloc: Global, form: &AnyStatement) -> Result<String, OutOfMemory> {
+    let mut line = form.sql().as_str().to_string(alloc)?;
+    put_columns(alloc, &mut line, form.columns())?;
+    put_parameters(alloc, &mut line, form.parameters())?;
+    put_second(alloc, &mut line, form.try_column(alloc, "second"))?;
+    Ok(line)
+}
+
 // The form of a statement of columns and parameters by letters.
 fn statement(alloc: Global, letters: &str) -> Result<String, Error> {
+    let columns = columns_of(alloc, letters)?;
+    let names = names(alloc, 1, columns.len())?;
     let own = ToyStatement {
         sql: SqlStr::from_static("SELECT "),
-        columns: columns_of(alloc, letters)?,
+        columns,
         types: types_of(alloc, letters)?,
     };
-    let form = AnyStatement::try_from_statement::<Toy>(alloc, own, ColumnNames::new(alloc))?;
-    let mut line = Statement::<Db>::sql(&form).as_str().to_string(alloc)?;
-    put_columns(alloc, &mut line, Statement::<Db>::columns(&form))?;
-    put_parameters(alloc, &mut line, Statement::<Db>::parameters(&form))?;
-    Ok(line)
+    let form = AnyStatement::try_from_statement::<Toy>(alloc, own, names)?;
+    Ok(told_of(alloc, &form)?)
 }
 
 #[test]
@@ -112,11 +156,11 @@ fn maps_statements(rt: HostRuntime) -> Result<(), Fail> {
     for (letters, want) in [
         (
             "bt",
-            "SELECT 0 flag BOOLEAN|1 text TEXT|[AnyTypeInfo { kind: Bool }, AnyTypeInfo { kind: Text }]",
+            "SELECT 0 flag BOOLEAN|1 text TEXT|[AnyTypeInfo { kind: Bool }, AnyTypeInfo { kind: Text }] second text",
         ),
         ("lp", UNMAPPED),
     ] {
-        assert_eq!(rt; told(alloc, statement(alloc, letters))?.as_str(), want);
+        says(&rt, statement(alloc, letters), want)?;
     }
     Ok(())
 }
@@ -171,7 +215,7 @@ fn maps_descriptions(rt: HostRuntime) -> Result<(), Fail> {
         ("lt", Some(Either::Left(points)), UNMAPPED),
     ] {
         let answer = description(alloc, letters, parameters);
-        assert_eq!(rt; told(alloc, answer)?.as_str(), want);
+        says(&rt, answer, want)?;
     }
     Ok(())
 }
@@ -195,7 +239,7 @@ fn maps_columns(rt: HostRuntime) -> Result<(), Fail> {
         (Some(AnyTypeInfoKind::BigInt), "4 w BIGINT|"),
         (None, UNMAPPED),
     ] {
-        assert_eq!(rt; told(alloc, form(alloc, kind))?.as_str(), want);
+        says(&rt, form(alloc, kind), want)?;
     }
     Ok(())
 }
@@ -243,7 +287,7 @@ fn hands_on_arguments(rt: HostRuntime) -> Result<(), Fail> {
             "error occurred while encoding a value: out of range integral type conversion attempted",
         ),
     ] {
-        assert_eq!(rt; told(alloc, taken(alloc, first, second))?.as_str(), want);
+        says(&rt, taken(alloc, first, second), want)?;
     }
     Ok(())
 }
@@ -267,7 +311,7 @@ fn hands_on_nulls(rt: HostRuntime) -> Result<(), Fail> {
         (AnyTypeInfoKind::Null, "null Some(Integer)|7 Some(BigInt)|"),
     ] {
         let answer = taken(alloc, AnyValueKind::Null(kind), AnyValueKind::BigInt(7));
-        assert_eq!(rt; told(alloc, answer)?.as_str(), want);
+        says(&rt, answer, want)?;
     }
     Ok(())
 }

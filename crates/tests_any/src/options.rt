@@ -1,5 +1,6 @@
 //! Options by which a connection is opened: their URL, their settings of the log, and the connections.
 
+use crate::says::says;
 use log::LevelFilter;
 use sqlx_any::*;
 use sqlx_text::{Depth, Error};
@@ -7,7 +8,6 @@ use std::alloc::Global;
 use std::test::*;
 use tests_backend::StubBackend;
 use tests_database::Toy;
-use tests_database::answers::told;
 
 // The URL of options that are made of a text, of a copy, and of options that are made of the URL.
 fn urls<O: ConnectOptions + Drop>(alloc: Global, text: &str) -> Result<String, Error> {
@@ -32,7 +32,7 @@ fn options_keep_their_url(rt: HostRuntime) -> Result<(), Fail> {
         ("no url", none),
     ] {
         let answer = urls::<AnyConnectOptions>(alloc, text);
-        assert_eq!(rt; told(alloc, answer)?.as_str(), want);
+        says(&rt, answer, want)?;
     }
     Ok(())
 }
@@ -80,7 +80,7 @@ fn options_set_the_log(rt: HostRuntime) -> Result<(), Fail> {
         (of_slow_statements(alloc), "Debug Error 5"),
         (of_none(alloc), "Off Off 0"),
     ] {
-        assert_eq!(rt; told(alloc, answer)?.as_str(), want);
+        says(&rt, answer, want)?;
     }
     Ok(())
 }
@@ -108,7 +108,7 @@ fn options_open_connections(rt: HostRuntime) -> Result<(), Fail> {
             "error communicating with database: connection refused",
         ),
     ] {
-        assert_eq!(rt; told(alloc, answer)?.as_str(), want);
+        says(&rt, answer, want)?;
     }
     Ok(())
 }

@@ -1,11 +1,11 @@
 //! Rows and statements of `Any` by their parts, names of columns, and the results of statements.
 
+use crate::says::says;
 use sqlx_any::*;
 use sqlx_text::{AnyTypeInfoKind, Error, OutOfMemory, SqlStr, UStr};
 use std::alloc::Global;
 use std::test::*;
 use tests_backend::{StubBackend, cells};
-use tests_database::answers::told;
 
 type Db = Any<StubBackend>;
 
@@ -21,11 +21,14 @@ fn names(alloc: Global, position: usize) -> Result<ColumnNames, OutOfMemory> {
 #[test]
 fn finds_names(rt: HostRuntime) -> Result<(), Fail> {
     let alloc = rt.alloc();
-    let first = names(alloc, 1)?;
-    let copy = first.try_clone(alloc)?;
-    for (name, want) in [("x", Some(1)), ("y", Some(0)), ("z", None)] {
-        assert_eq!(rt; (first.get(name), copy.get(name)), (want, want));
-    }
+    let names = names(alloc, 1)?;
+    let copy = names.try_clone(alloc);
+    drop(names);
+    let copy = copy?;
+    assert_eq!(rt;
+        [copy.get("x"), copy.get("y"), copy.get("z")],
+        [Some(1), Some(0), None]
+    );
     Ok(())
 }
 
@@ -66,9 +69,8 @@ fn statement(
 fn lengths(alloc: Global, row: Result<AnyRow, Error>) -> Result<String, Error> {
     let row = row?;
     let copy = row.try_clone(alloc)?;
-    let columns = Row::<Db>::columns(&copy).len();
-    let len = Row::<Db>::len(&copy);
-    let empty = Row::<Db>::is_empty(&copy);
+    let columns = copy.columns().len();
+    let (len, empty) = (copy.len(), copy.is_empty());
     Ok(format!(in alloc; "{columns} {len} {empty}")?)
 }
 
@@ -83,7 +85,7 @@ fn rows_fit(rt: HostRuntime) -> Result<(), Fail> {
         (2, 2, unfit),
     ] {
         let answer = lengths(alloc, row(alloc, count, position));
-        assert_eq!(rt; told(alloc, answer)?.as_str(), want);
+        says(&rt, answer, want)?;
     }
     Ok(())
 }
@@ -91,63 +93,99 @@ fn rows_fit(rt: HostRuntime) -> Result<(), Fail> {
 // A column's position, name, type and origin.
 fn described(alloc: Global, column: &AnyColumn) -> Result<String, OutOfMemory> {
     let copy = column.try_clone(alloc)?;
-    let at = Column::<Db>::ordinal(&copy);
-    let name = Column::<Db>::name(&copy);
-    let ty = Column::<Db>::type_info(&copy);
+    let (at, name, ty) = (copy.ordinal(), copy.name(), copy.type_info());
     let origin = Column::<Db>::origin(&copy);
     let text = format!(in alloc; "{at} {name} {ty} {origin:?}");
     drop(origin);
     Ok(text?)
 }
 
-// The column at an index of a row and of a statement, and how an error calls it.
-fn column<I: ColumnIndex<AnyRow> + ColumnIndex<AnyStatement> + Drop>(
+// The column at an index of a row.
+fn in_row<I: ColumnIndex<AnyRow> + Drop>(
     alloc: Global,
+    row: &AnyRow,
     index: I,
 ) -> Result<String, Error> {
+    Ok(described(alloc, row.try_column(alloc, index)?)?)
+}
+
+// The column at an index of a statement.
+fn in_statement<I: ColumnIndex<AnyStatement> + Drop>(
+    alloc: Global,
+    statement: &AnyStatement,
+    index: I,
+) -> Result<String, Error> {
+    Ok(described(alloc, statement.try_column(alloc, index)?)?)
+}
+
+const PAST: &str = "column index out of bounds: the len is 2, but the index is 2";
+
+#[test]
+fn rows_have_columns(rt: HostRuntime) -> Result<(), Fail> {
+    let alloc = rt.alloc();
     let row = row(alloc, 2, 1)?;
-    let in_row = described(alloc, Row::<Db>::try_column(&row, alloc, &index)?)?;
-    let statement = statement(alloc, None, 1)?;
-    let label = ColumnIndex::<AnyStatement>::label(&index, alloc)?;
-    let in_statement = Statement::<Db>::try_column(&statement, alloc, index)?;
-    let in_statement = described(alloc, in_statement)?;
-    Ok(format!(in alloc; "{in_row}, {in_statement}, {label}")?)
+    says(&rt, in_row::<usize>(alloc, &row, 0), "0 y BIGINT Unknown")?;
+    says(&rt, in_row::<usize>(alloc, &row, 2), PAST)?;
+    says(&rt, in_row::<&str>(alloc, &row, "x"), "1 x TEXT Unknown")?;
+    says(
+        &rt,
+        in_row::<&str>(alloc, &row, "z"),
+        "no column found for name: z",
+    )
 }
 
 #[test]
-fn finds_columns(rt: HostRuntime) -> Result<(), Fail> {
+fn statements_have_columns(rt: HostRuntime) -> Result<(), Fail> {
     let alloc = rt.alloc();
-    for (at, want) in [
-        (0, "0 y BIGINT Unknown, 0 y BIGINT Unknown, 0"),
-        (
-            2,
-            "column index out of bounds: the len is 2, but the index is 2",
-        ),
-    ] {
-        assert_eq!(rt; told(alloc, column::<usize>(alloc, at))?.as_str(), want);
+    let it = statement(alloc, None, 1)?;
+    says(
+        &rt,
+        in_statement::<usize>(alloc, &it, 0),
+        "0 y BIGINT Unknown",
+    )?;
+    says(&rt, in_statement::<usize>(alloc, &it, 2), PAST)?;
+    says(
+        &rt,
+        in_statement::<&str>(alloc, &it, "x"),
+        "1 x TEXT Unknown",
+    )?;
+    says(
+        &rt,
+        in_statement::<&str>(alloc, &it, "z"),
+        "no column found for name: z",
+    )
+}
+
+// How an error calls a column of a statement.
+fn label<I: ColumnIndex<AnyStatement>>(alloc: Global, index: &I) -> Result<String, Error> {
+    let label = index.label(alloc)?;
+    Ok(format!(in alloc; "{label}")?)
+}
+
+#[test]
+fn columns_have_labels(rt: HostRuntime) -> Result<(), Fail> {
+    let alloc = rt.alloc();
+    says(&rt, label::<usize>(alloc, &1), "1")?;
+    says(&rt, label::<&str>(alloc, &"x"), "\"x\"")
+}
+
+// The parameters of a statement.
+fn parameters(alloc: Global, statement: &AnyStatement) -> Result<String, OutOfMemory> {
+    match statement.parameters() {
+        Some(Either::Left(types)) => Ok(format!(in alloc; "{types:?}")?),
+        Some(Either::Right(count)) => Ok(format!(in alloc; "{count}")?),
+        None => Ok("untold".to_string(alloc)?),
     }
-    for (name, want) in [
-        ("x", "1 x TEXT Unknown, 1 x TEXT Unknown, \"x\""),
-        ("z", "no column found for name: z"),
-    ] {
-        assert_eq!(rt; told(alloc, column::<&str>(alloc, name))?.as_str(), want);
-    }
-    Ok(())
 }
 
 // The parameters and the text of a copy of the statement.
 fn copied(alloc: Global, statement: Result<AnyStatement, Error>) -> Result<String, Error> {
-    let statement = statement?;
-    let copy = statement.try_clone(alloc)?;
-    let parameters = match Statement::<Db>::parameters(&copy) {
-        Some(Either::Left(types)) => format!(in alloc; "{types:?}")?,
-        Some(Either::Right(count)) => format!(in alloc; "{count}")?,
-        None => "untold".to_string(alloc)?,
-    };
-    let is_it = Statement::<Db>::sql(&copy).is("SELECT");
-    let sql = Statement::<Db>::into_sql(copy);
-    let sql = sql.as_str();
-    Ok(format!(in alloc; "{parameters} {is_it} {sql}")?)
+    let copy = statement?.try_clone(alloc)?;
+    let parameters = parameters(alloc, &copy)?;
+    let sql = copy.into_sql();
+    let text = format!(in alloc; "{parameters} {sql:?}");
+    drop(sql);
+    Ok(text?)
 }
 
 #[test]
@@ -162,14 +200,14 @@ fn statements_fit(rt: HostRuntime) -> Result<(), Fail> {
         (
             Some(Either::Left(types)),
             1,
-            "[AnyTypeInfo { kind: Bool }] true SELECT",
+            "[AnyTypeInfo { kind: Bool }] SqlStr { text: \"SELECT\" }",
         ),
-        (Some(Either::Right(2)), 1, "2 true SELECT"),
-        (None, 1, "untold true SELECT"),
+        (Some(Either::Right(2)), 1, "2 SqlStr { text: \"SELECT\" }"),
+        (None, 1, "untold SqlStr { text: \"SELECT\" }"),
         (None, 2, "a statement names no column past its own"),
     ] {
         let answer = copied(alloc, statement(alloc, parameters, position));
-        assert_eq!(rt; told(alloc, answer)?.as_str(), want);
+        says(&rt, answer, want)?;
     }
     Ok(())
 }

@@ -1,64 +1,46 @@
 //! Which Rust types read a value of `Any` of each kind, and what they read.
 
+use crate::says::says;
 use sqlx_any::*;
-use sqlx_text::{AnyTypeInfoKind, Error, OutOfMemory};
+use sqlx_text::{Error, OutOfMemory};
 use std::alloc::Global;
 use std::fmt::Debug;
 use std::test::*;
 use tests_backend::{StubBackend, cells};
-use tests_database::answers::{shown, told};
+use tests_database::answers::shown;
 
 type Db = Any<StubBackend>;
 
-// Puts a type's name and what was read behind a line, where it was read.
-fn put<T: Debug + Drop>(
+// Puts a type's name and what it reads of a row's one value behind a line, where it reads it.
+fn read_as<'r, T: AnyRead<'r> + Debug + Drop>(
     alloc: Global,
-    line: &mut String,
+    row: &'r AnyRow,
     name: &str,
-    read: Result<T, Error>,
+    line: &mut String,
 ) -> Result<(), OutOfMemory> {
-    match read {
+    match row.try_get::<T, usize>(alloc, 0) {
         Ok(value) => {
             let text = format!(in alloc; "{name} {value:?}|");
             drop(value);
             line.push_str(&text?)?;
-            Ok(())
         }
-        Err(error) => {
-            drop(error);
-            Ok(())
-        }
+        Err(error) => drop(error),
     }
-}
-
-// What a type makes of a row's one value.
-fn read_as<T: DecodeOwned<Db> + SqlType<Db> + Debug + Drop>(
-    alloc: Global,
-    row: &AnyRow,
-    line: &mut String,
-) -> Result<(), OutOfMemory> {
-    put(
-        alloc,
-        line,
-        T::name(),
-        Row::<Db>::try_get::<T, usize>(row, alloc, 0),
-    )
+    Ok(())
 }
 
 fn numbers(alloc: Global, row: &AnyRow, line: &mut String) -> Result<(), OutOfMemory> {
-    read_as::<bool>(alloc, row, line)?;
-    read_as::<i16>(alloc, row, line)?;
-    read_as::<i32>(alloc, row, line)?;
-    read_as::<i64>(alloc, row, line)
+    read_as::<bool>(alloc, row, "bool", line)?;
+    read_as::<i16>(alloc, row, "i16", line)?;
+    read_as::<i32>(alloc, row, "i32", line)?;
+    read_as::<i64>(alloc, row, "i64", line)
 }
 
 fn texts(alloc: Global, row: &AnyRow, line: &mut String) -> Result<(), OutOfMemory> {
-    let lent = reads::try_get::<Db, &str, usize>(alloc, row, 0);
-    put(alloc, line, "&str", lent)?;
-    read_as::<String>(alloc, row, line)?;
-    let lent = reads::try_get::<Db, &[u8], usize>(alloc, row, 0);
-    put(alloc, line, "&[u8]", lent)?;
-    read_as::<Vec<u8>>(alloc, row, line)
+    read_as::<&str>(alloc, row, "&str", line)?;
+    read_as::<String>(alloc, row, "String", line)?;
+    read_as::<&[u8]>(alloc, row, "&[u8]", line)?;
+    read_as::<Vec<u8>>(alloc, row, "Vec<u8>", line)
 }
 
 // The types that read a value, and what they read.
@@ -101,126 +83,117 @@ fn each_kind_has_its_readers(rt: HostRuntime) -> Result<(), Fail> {
         (cells::slice("5"), "&str \"5\"|String \"5\"|"),
         (cells::blob(alloc)?, "&[u8] [1, 2]|Vec<u8> [1, 2]|"),
     ] {
-        assert_eq!(rt; told(alloc, readers(alloc, kind))?.as_str(), want);
+        says(&rt, readers(alloc, kind), want)?;
     }
     Ok(())
 }
 
-// A value read as an option, in a row.
-fn option<T: DecodeOwned<Db> + SqlType<Db> + Debug + Drop>(
+// A row's one value, read as an option.
+fn option<'r, T: AnyRead<'r> + Debug + Drop>(
     alloc: Global,
-    kind: AnyValueKind,
+    row: &'r AnyRow,
 ) -> Result<String, Error> {
-    let row = cells::single(alloc, kind)?;
-    let read = Row::<Db>::try_get::<Option<T>, usize>(&row, alloc, 0);
-    Ok(shown(alloc, read)?)
-}
-
-fn lent_option(alloc: Global, kind: AnyValueKind) -> Result<String, Error> {
-    let row = cells::single(alloc, kind)?;
-    let read = reads::try_get::<Db, Option<&str>, usize>(alloc, &row, 0);
-    Ok(shown(alloc, read)?)
-}
-
-fn null() -> AnyValueKind {
-    AnyValueKind::Null(AnyTypeInfoKind::Text)
+    Ok(shown(alloc, row.try_get::<Option<T>, usize>(alloc, 0))?)
 }
 
 #[test]
 fn reads_options(rt: HostRuntime) -> Result<(), Fail> {
     let alloc = rt.alloc();
-    for (answer, want) in [
-        (option::<i32>(alloc, null()), "None"),
-        (option::<i32>(alloc, AnyValueKind::BigInt(5)), "Some(5)"),
-        (lent_option(alloc, null()), "None"),
-        (lent_option(alloc, cells::text("x")), "Some(\"x\")"),
-        (
-            option::<i32>(alloc, cells::text("5")),
-            "error occurred while decoding column 0: mismatched types; Rust type `i32` is not compatible with SQL type `TEXT`",
-        ),
-    ] {
-        assert_eq!(rt; told(alloc, answer)?.as_str(), want);
-    }
-    Ok(())
+    let null = cells::single(alloc, AnyValueKind::Null(AnyTypeInfoKind::Text))?;
+    let number = cells::single(alloc, AnyValueKind::BigInt(5))?;
+    let text = cells::single(alloc, cells::text("x"))?;
+    let mismatch =
+        "error occurred while decoding column 0: mismatched types; Rust type `i32` is not compatible with SQL type `TEXT`";
+    says(&rt, option::<i32>(alloc, &null), "None")?;
+    says(&rt, option::<i32>(alloc, &number), "Some(5)")?;
+    says(&rt, option::<&str>(alloc, &null), "None")?;
+    says(&rt, option::<&str>(alloc, &text), "Some(\"x\")")?;
+    says(&rt, option::<i32>(alloc, &text), mismatch)
 }
 
-// How a row and a value refuse to be read as a type: checked by a name and by a value, and unchecked by both.
-fn refusals<T: DecodeOwned<Db> + SqlType<Db> + Debug + Drop>(
+// What a type makes of a row's one value: checked by a name, unchecked, and checked and unchecked alone.
+fn inherent<'r, T: AnyRead<'r> + Debug + Drop>(
     alloc: Global,
-    kind: AnyValueKind,
-) -> Result<[String; 4], Error> {
-    let row = cells::single(alloc, kind)?;
-    let named = shown(alloc, Row::<Db>::try_get::<T, &str>(&row, alloc, "what"))?;
-    let unchecked = Row::<Db>::try_get_unchecked::<T, usize>(&row, alloc, 0);
+    row: &'r AnyRow,
+) -> Result<String, Error> {
+    let named = shown(alloc, row.try_get::<T, &str>(alloc, "what"))?;
+    let unchecked = shown(alloc, row.try_get_unchecked::<T, usize>(alloc, 0))?;
+    let value = row.try_get_raw(alloc, 0usize)?;
+    let alone = shown(alloc, value.try_decode::<T>(alloc))?;
+    let unchecked_alone = shown(alloc, value.try_decode_unchecked::<T>(alloc))?;
+    Ok(format!(in alloc; "{named}; {unchecked}; {alone}; {unchecked_alone}")?)
+}
+
+// The same by the calls of a driver's rows and values.
+fn by_traits<T: DecodeOwned<Db> + SqlType<Db> + Debug + Drop>(
+    alloc: Global,
+    row: &AnyRow,
+) -> Result<String, Error> {
+    let named = shown(alloc, Row::<Db>::try_get::<T, &str>(row, alloc, "what"))?;
+    let unchecked = Row::<Db>::try_get_unchecked::<T, usize>(row, alloc, 0);
     let unchecked = shown(alloc, unchecked)?;
-    let value = Row::<Db>::try_get_raw(&row, alloc, 0usize)?;
+    let value = Row::<Db>::try_get_raw(row, alloc, 0usize)?;
     let alone = shown(alloc, Value::<Db>::try_decode::<T>(value, alloc))?;
-    let unchecked_alone = shown(alloc, Value::<Db>::try_decode_unchecked::<T>(value, alloc))?;
-    Ok([named, unchecked, alone, unchecked_alone])
+    let unchecked_alone = Value::<Db>::try_decode_unchecked::<T>(value, alloc);
+    let unchecked_alone = shown(alloc, unchecked_alone)?;
+    Ok(format!(in alloc; "{named}; {unchecked}; {alone}; {unchecked_alone}")?)
 }
 
 #[test]
 fn tells_why_a_value_is_not_read(rt: HostRuntime) -> Result<(), Fail> {
     let alloc = rt.alloc();
-    for (kind, wants) in [
+    let in_row = "error occurred while decoding column";
+    let alone = "error occurred while decoding:";
+    for (kind, checked, checked_alone, unchecked) in [
         (
             AnyValueKind::BigInt(70_000),
-            [
-                "error occurred while decoding column \"what\": out of range integral type conversion attempted",
-                "error occurred while decoding column 0: out of range integral type conversion attempted",
-                "error occurred while decoding: out of range integral type conversion attempted",
-                "error occurred while decoding: out of range integral type conversion attempted",
-            ],
+            "out of range integral type conversion attempted",
+            "out of range integral type conversion attempted",
+            "out of range integral type conversion attempted",
         ),
         (
-            null(),
-            [
-                "error occurred while decoding column \"what\": expected SMALLINT, got NULL",
-                "error occurred while decoding column 0: expected SMALLINT, got NULL",
-                "error occurred while decoding: expected SMALLINT, got NULL",
-                "error occurred while decoding: expected SMALLINT, got NULL",
-            ],
+            AnyValueKind::Null(AnyTypeInfoKind::Text),
+            "expected SMALLINT, got NULL",
+            "expected SMALLINT, got NULL",
+            "expected SMALLINT, got NULL",
         ),
         (
             cells::text("5"),
-            [
-                "error occurred while decoding column \"what\": mismatched types; Rust type `i16` is not compatible with SQL type `TEXT`",
-                "error occurred while decoding column 0: expected SMALLINT, got TEXT",
-                "error occurred while decoding: mismatched types; Rust type `i16` (as SQL type `SMALLINT`) is not compatible with SQL type `TEXT`",
-                "error occurred while decoding: expected SMALLINT, got TEXT",
-            ],
+            "mismatched types; Rust type `i16` is not compatible with SQL type `TEXT`",
+            "mismatched types; Rust type `i16` (as SQL type `SMALLINT`) is not compatible with SQL type `TEXT`",
+            "expected SMALLINT, got TEXT",
         ),
-        (AnyValueKind::SmallInt(5), ["5", "5", "5", "5"]),
     ] {
-        for (answer, want) in refusals::<i16>(alloc, kind)?.into_iter().zip(wants) {
-            assert_eq!(rt; answer.as_str(), want);
-        }
+        let row = cells::single(alloc, kind)?;
+        let want = format!(in alloc;
+            "{in_row} \"what\": {checked}; {in_row} 0: {unchecked}; {alone} {checked_alone}; {alone} {unchecked}"
+        )?;
+        says(&rt, inherent::<i16>(alloc, &row), want.as_str())?;
+        says(&rt, by_traits::<i16>(alloc, &row), want.as_str())?;
     }
     Ok(())
 }
 
-// A column of a row of two numbers.
-fn column<I: ColumnIndex<AnyRow> + Drop>(alloc: Global, index: I) -> Result<String, Error> {
-    let row = cells::pair(alloc)?;
-    let read = Row::<Db>::try_get::<i64, I>(&row, alloc, index);
-    Ok(shown(alloc, read)?)
+// The number at an index of a row.
+fn at<I: ColumnIndex<AnyRow> + Drop>(
+    alloc: Global,
+    row: &AnyRow,
+    index: I,
+) -> Result<String, Error> {
+    Ok(shown(alloc, row.try_get::<i64, I>(alloc, index))?)
 }
 
 #[test]
 fn finds_columns(rt: HostRuntime) -> Result<(), Fail> {
     let alloc = rt.alloc();
-    for (at, want) in [
-        (0, "5"),
-        (1, "7"),
-        (
-            2,
-            "column index out of bounds: the len is 2, but the index is 2",
-        ),
-    ] {
-        assert_eq!(rt; told(alloc, column::<usize>(alloc, at))?.as_str(), want);
-    }
-    for (name, want) in [("x", "5"), ("y", "7"), ("z", "no column found for name: z")] {
-        assert_eq!(rt; told(alloc, column::<&str>(alloc, name))?.as_str(), want);
-    }
-    Ok(())
+    let row = cells::pair(alloc)?;
+    let past = "column index out of bounds: the len is 2, but the index is 2";
+    says(&rt, at::<usize>(alloc, &row, 1), "7")?;
+    says(&rt, at::<usize>(alloc, &row, 2), past)?;
+    says(&rt, at::<&str>(alloc, &row, "x"), "5")?;
+    says(
+        &rt,
+        at::<&str>(alloc, &row, "z"),
+        "no column found for name: z",
+    )
 }

@@ -1,12 +1,12 @@
 //! What can be run: texts, and pairs of a text and its arguments; and what an executor is handed of them.
 
+use crate::says::says;
 use sqlx_any::*;
 use sqlx_text::{AssertSqlSafe, Error, Fault, OutOfMemory, SqlStr, UStr};
 use std::alloc::Global;
 use std::borrow::CowStr;
 use std::test::*;
 use tests_backend::StubBackend;
-use tests_database::answers::told;
 use tests_database::steps::steps;
 use tests_database::{Toy, ToyArguments, ToyConnection};
 
@@ -20,18 +20,14 @@ fn asked<Q: Execute<Toy>>(alloc: Global, query: Q) -> Result<String, Error> {
 #[test]
 fn texts_are_kept(rt: HostRuntime) -> Result<(), Fail> {
     let alloc = rt.alloc();
+    let want = "SELECT kept bare";
     let owned = "SELECT".to_string(alloc)?;
+    says(&rt, asked(alloc, AssertSqlSafe(owned)), want)?;
     let boxed = "SELECT".to_string(alloc)?.into_boxed_str();
-    for answer in [
-        asked(alloc, "SELECT"),
-        asked(alloc, SqlStr::from_static("SELECT")),
-        asked(alloc, AssertSqlSafe("SELECT")),
-        asked(alloc, AssertSqlSafe(owned)),
-        asked(alloc, AssertSqlSafe(boxed)),
-    ] {
-        assert_eq!(rt; told(alloc, answer)?.as_str(), "SELECT kept bare");
-    }
-    Ok(())
+    says(&rt, asked(alloc, AssertSqlSafe(boxed)), want)?;
+    says(&rt, asked(alloc, "SELECT"), want)?;
+    says(&rt, asked(alloc, SqlStr::from_static("SELECT")), want)?;
+    says(&rt, asked(alloc, AssertSqlSafe("SELECT")), want)
 }
 
 // Arguments of a text and of no text.
@@ -45,20 +41,14 @@ fn two(alloc: Global) -> Result<ToyArguments, Fault> {
 #[test]
 fn pairs_have_their_arguments(rt: HostRuntime) -> Result<(), Fail> {
     let alloc = rt.alloc();
-    let cow = AssertSqlSafe(CowStr::Borrowed("SELECT"));
+    let want = "SELECT kept bare";
     let shared = AssertSqlSafe(UStr::from_static("SELECT"));
-    for (answer, want) in [
-        (asked(alloc, cow), "SELECT kept bare"),
-        (asked(alloc, shared), "SELECT kept bare"),
-        (asked(alloc, ("SELECT", None)), "SELECT kept bare"),
-        (
-            asked(alloc, ("SELECT", two(alloc).ok())),
-            "SELECT kept|x|null",
-        ),
-    ] {
-        assert_eq!(rt; told(alloc, answer)?.as_str(), want);
-    }
-    Ok(())
+    says(&rt, asked(alloc, shared), want)?;
+    let cow = AssertSqlSafe(CowStr::Borrowed("SELECT"));
+    says(&rt, asked(alloc, cow), want)?;
+    says(&rt, asked(alloc, ("SELECT", None)), want)?;
+    let bound = ("SELECT", two(alloc).ok());
+    says(&rt, asked(alloc, bound), "SELECT kept|x|null")
 }
 
 // A query whose arguments can't be had.
@@ -94,8 +84,8 @@ impl<DB: Database> Execute<DB> for Unbound {
     }
 }
 
-// What a backend is handed with a query, and the steps that come of it.
-fn handed<Q: Execute<Any<StubBackend>>>(alloc: Global, query: Q) -> Result<String, Error> {
+/// What a backend is handed with a query, and the steps that come of it.
+pub fn handed<Q: Execute<Any<StubBackend>>>(alloc: Global, query: Q) -> Result<String, Error> {
     let mut conn = AnyConnection::new(StubBackend::new(alloc, "i")?);
     let steps = steps::<Any<StubBackend>>(alloc, conn.fetch_many(alloc, query))?;
     let handed = conn.backend().handed_shown(alloc)?;
@@ -112,19 +102,15 @@ fn numbers(alloc: Global) -> Result<AnyArguments, OutOfMemory> {
 #[test]
 fn a_backend_is_handed_the_query(rt: HostRuntime) -> Result<(), Fail> {
     let alloc = rt.alloc();
-    for (answer, want) in [
-        (handed(alloc, "SELECT"), "SELECT kept bare, number|"),
-        (
-            handed(alloc, ("SELECT", Some(numbers(alloc)?))),
-            "SELECT kept BigInt 5|Bool true|, number|",
-        ),
-        (
-            handed(alloc, Unbound),
-            "nothing, error occurred while encoding a value: out of range integral type conversion attempted|",
-        ),
-        (asked(alloc, Unbound), "nothing"),
-    ] {
-        assert_eq!(rt; told(alloc, answer)?.as_str(), want);
-    }
-    Ok(())
+    let pair = ("SELECT", Some(numbers(alloc)?));
+    let unbound =
+        "nothing, error occurred while encoding a value: out of range integral type conversion attempted|";
+    says(
+        &rt,
+        handed(alloc, pair),
+        "SELECT kept BigInt 5|Bool true|, number|",
+    )?;
+    says(&rt, handed(alloc, "SELECT"), "SELECT kept bare, number|")?;
+    says(&rt, handed(alloc, Unbound), unbound)?;
+    says(&rt, asked(alloc, Unbound), "nothing")
 }

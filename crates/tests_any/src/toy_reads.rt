@@ -1,20 +1,21 @@
 //! Reads of a driver's rows, values and columns, at the toy database.
 
 use crate::present::Present;
+use crate::says::says;
 use sqlx_text::{Error, OutOfMemory, SqlStr};
 use sqlx_traits::*;
 use std::alloc::Global;
 use std::test::*;
-use tests_database::answers::{shown, told};
+use tests_database::answers::shown;
 use tests_database::letters::{columns_of, row_of, single};
 use tests_database::{Toy, ToyRow, ToyStatement};
 
-// The text at an index, lent and owned, checked and unchecked, in a row and alone.
+// The text at an index, lent and owned, checked and unchecked.
 fn texts<I: ColumnIndex<ToyRow> + Drop>(
     alloc: Global,
     row: &ToyRow,
     index: I,
-) -> Result<[String; 4], OutOfMemory> {
+) -> Result<String, Error> {
     let lent = reads::try_get::<Toy, &str, &I>(alloc, row, &index);
     let lent = shown(alloc, lent)?;
     let unchecked = reads::try_get_unchecked::<Toy, &str, &I>(alloc, row, &index);
@@ -24,41 +25,39 @@ fn texts<I: ColumnIndex<ToyRow> + Drop>(
         alloc,
         row.try_get_unchecked::<Option<String>, I>(alloc, index),
     )?;
-    Ok([lent, unchecked, owned, option])
+    Ok(format!(in alloc; "{lent}; {unchecked}; {owned}; {option}")?)
 }
 
 #[test]
 fn reads_texts(rt: HostRuntime) -> Result<(), Fail> {
     let alloc = rt.alloc();
-    let missing = "no column found for name: when";
+    let row = row_of(alloc, "tnb")?;
     let null =
         "error occurred while decoding column \"none\": unexpected null; try decoding as an `Option`";
-    let flag =
-        "error occurred while decoding column \"flag\": mismatched types; Rust type `&str` (as SQL type `TEXT`) is not compatible with SQL type `BOOLEAN`";
-    let owned_flag =
-        "error occurred while decoding column \"flag\": mismatched types; Rust type `String` (as SQL type `TEXT`) is not compatible with SQL type `BOOLEAN`";
-    let unread =
-        "error occurred while decoding column \"flag\": out of range integral type conversion attempted";
-    let row = row_of(alloc, "tnb")?;
-    for (name, wants) in [
-        ("text", ["\"x\"", "\"x\"", "\"x\"", "Some(\"x\")"]),
-        ("none", [null, null, null, "None"]),
-        ("flag", [flag, unread, owned_flag, unread]),
-        ("when", [missing, missing, missing, missing]),
+    let nulls = format!(in alloc; "{null}; {null}; {null}; None")?;
+    let flag = "error occurred while decoding column \"flag\":";
+    let unfit = "(as SQL type `TEXT`) is not compatible with SQL type `BOOLEAN`";
+    let unread = "out of range integral type conversion attempted";
+    let flags = format!(in alloc;
+        "{flag} mismatched types; Rust type `&str` {unfit}; {flag} {unread}; {flag} mismatched types; Rust type `String` {unfit}; {flag} {unread}"
+    )?;
+    let missing = "no column found for name: when";
+    let missing = format!(in alloc; "{missing}; {missing}; {missing}; {missing}")?;
+    for (name, want) in [
+        ("text", "\"x\"; \"x\"; \"x\"; Some(\"x\")"),
+        ("none", nulls.as_str()),
+        ("flag", flags.as_str()),
+        ("when", missing.as_str()),
     ] {
-        for (answer, want) in texts(alloc, &row, name)?.into_iter().zip(wants) {
-            assert_eq!(rt; answer.as_str(), want);
-        }
+        says(&rt, texts::<&str>(alloc, &row, name), want)?;
     }
     let past = "column index out of bounds: the len is 3, but the index is 3";
-    for answer in texts(alloc, &row, 3usize)? {
-        assert_eq!(rt; answer.as_str(), past);
-    }
-    Ok(())
+    let past = format!(in alloc; "{past}; {past}; {past}; {past}")?;
+    says(&rt, texts::<usize>(alloc, &row, 3), past.as_str())
 }
 
 // A value alone, lent and owned, checked and unchecked.
-fn decoded(alloc: Global, letter: char) -> Result<[String; 4], Error> {
+fn decoded(alloc: Global, letter: char) -> Result<String, Error> {
     let row = single(alloc, letter)?;
     let value = row.try_get_raw(alloc, 0usize)?;
     let lent = shown(alloc, reads::try_decode::<Toy, &str>(alloc, value))?;
@@ -66,28 +65,23 @@ fn decoded(alloc: Global, letter: char) -> Result<[String; 4], Error> {
     let unchecked = shown(alloc, unchecked)?;
     let owned = shown(alloc, value.try_decode::<String>(alloc))?;
     let owned_unchecked = shown(alloc, value.try_decode_unchecked::<String>(alloc))?;
-    Ok([lent, unchecked, owned, owned_unchecked])
+    Ok(format!(in alloc; "{lent}; {unchecked}; {owned}; {owned_unchecked}")?)
 }
 
 #[test]
 fn decodes_values(rt: HostRuntime) -> Result<(), Fail> {
     let alloc = rt.alloc();
-    let null = "error occurred while decoding: unexpected null; try decoding as an `Option`";
-    let number =
-        "error occurred while decoding: mismatched types; Rust type `&str` (as SQL type `TEXT`) is not compatible with SQL type `INTEGER`";
-    let owned_number =
-        "error occurred while decoding: mismatched types; Rust type `String` (as SQL type `TEXT`) is not compatible with SQL type `INTEGER`";
-    let unread = "error occurred while decoding: out of range integral type conversion attempted";
-    for (letter, wants) in [
-        ('t', ["\"x\"", "Some(\"x\")", "\"x\"", "\"x\""]),
-        ('z', [null, "None", null, null]),
-        ('i', [number, unread, owned_number, unread]),
-    ] {
-        for (answer, want) in decoded(alloc, letter)?.into_iter().zip(wants) {
-            assert_eq!(rt; answer.as_str(), want);
-        }
-    }
-    Ok(())
+    let refused = "error occurred while decoding:";
+    let null = "unexpected null; try decoding as an `Option`";
+    let nulls = format!(in alloc; "{refused} {null}; None; {refused} {null}; {refused} {null}")?;
+    let unfit = "(as SQL type `TEXT`) is not compatible with SQL type `INTEGER`";
+    let unread = "out of range integral type conversion attempted";
+    let numbers = format!(in alloc;
+        "{refused} mismatched types; Rust type `&str` {unfit}; {refused} {unread}; {refused} mismatched types; Rust type `String` {unfit}; {refused} {unread}"
+    )?;
+    says(&rt, decoded(alloc, 't'), "\"x\"; Some(\"x\"); \"x\"; \"x\"")?;
+    says(&rt, decoded(alloc, 'z'), nulls.as_str())?;
+    says(&rt, decoded(alloc, 'i'), numbers.as_str())
 }
 
 // The first value by each call that needs to know that it can be read; `None` where there is none.
@@ -148,35 +142,38 @@ fn described<DB: Database>(alloc: Global, column: &DB::Column) -> Result<String,
     Ok(text?)
 }
 
-// The column of a row at an index, as it is tried and as it is known to be there.
-fn in_row(alloc: Global, row: &ToyRow, at: usize) -> Result<[String; 2], Error> {
+// The column of a row at a position, as it is tried and as it is known to be there.
+fn in_row(alloc: Global, row: &ToyRow, at: usize) -> Result<String, Error> {
     let tried = described::<Toy>(alloc, row.try_column(alloc, at)?)?;
     let known = described::<Toy>(alloc, row.column(alloc, at)?)?;
-    Ok([tried, known])
+    Ok(format!(in alloc; "{tried}; {known}")?)
 }
 
-fn in_statement(alloc: Global, statement: &ToyStatement, at: usize) -> Result<[String; 2], Error> {
+fn in_statement(alloc: Global, statement: &ToyStatement, at: usize) -> Result<String, Error> {
     let tried = described::<Toy>(alloc, statement.try_column(alloc, at)?)?;
     let known = described::<Toy>(alloc, statement.column(alloc, at)?)?;
-    Ok([tried, known])
+    Ok(format!(in alloc; "{tried}; {known}")?)
+}
+
+fn prepared(alloc: Global) -> Result<ToyStatement, OutOfMemory> {
+    Ok(ToyStatement {
+        sql: SqlStr::from_static("SELECT"),
+        columns: columns_of(alloc, "tp")?,
+        types: Vec::new(alloc),
+    })
 }
 
 #[test]
 fn finds_columns(rt: HostRuntime) -> Result<(), Fail> {
     let alloc = rt.alloc();
     let row = row_of(alloc, "tp")?;
-    let statement = ToyStatement {
-        sql: SqlStr::from_static("SELECT"),
-        columns: columns_of(alloc, "tp")?,
-        types: Vec::new(alloc),
-    };
-    for (at, want) in [(0, "0 text TEXT Unknown"), (1, "1 point POINT Unknown")] {
-        for answer in in_row(alloc, &row, at)? {
-            assert_eq!(rt; answer.as_str(), want);
-        }
-        for answer in in_statement(alloc, &statement, at)? {
-            assert_eq!(rt; answer.as_str(), want);
-        }
+    let statement = prepared(alloc)?;
+    for (at, want) in [
+        (0, "0 text TEXT Unknown; 0 text TEXT Unknown"),
+        (1, "1 point POINT Unknown; 1 point POINT Unknown"),
+    ] {
+        says(&rt, in_row(alloc, &row, at), want)?;
+        says(&rt, in_statement(alloc, &statement, at), want)?;
     }
     Ok(())
 }

@@ -1,5 +1,5 @@
 -- The values that arguments become.
-use Rattle.std.specs.Prelude.{ℤ, ℕ, List, Option, Some}
+use Rattle.std.specs.Prelude.{Option, Some}
 use Rattle.sqlx_text.specs.declared.kind.AnyTypeInfoKind.{AnyTypeInfoKind}
 use Rattle.tests_database.specs.declared.value.ToyValue.{ToyValue}
 use Rattle.tests_database.specs.declared.value.Held.{Held}

@@ -2,12 +2,13 @@
 ghost use Rattle.std.specs.Prelude.{◌≡◌, Bool, IfOk};
 
 use crate::calls::{numbers, ran, ran_read};
+use crate::says::says;
 use sqlx_query::{PushTuple, QueryBuilder, Separated, placeholders_are_arguments};
 use sqlx_text::{Error, Fault, OutOfMemory};
 use std::alloc::Global;
 use std::test::*;
 use tests_database::Toy;
-use tests_database::answers::{taken, told};
+use tests_database::answers::taken;
 use tests_database::steps::Call;
 
 type Builder = QueryBuilder<Toy>;
@@ -75,7 +76,7 @@ fn pushes_pieces(rt: HostRuntime) -> Result<(), Fail> {
             "SELECT $1 IN (a,$2,$3$4) kept|9|5|6|7: ToyQueryResult(2)",
         ),
     ] {
-        assert_eq!(rt; told(alloc, answer)?.as_str(), want);
+        says(&rt, answer, want)?;
     }
     Ok(())
 }
@@ -171,7 +172,7 @@ fn pushes_tuples(rt: HostRuntime) -> Result<(), Fail> {
             "SELECT $1 IN ()  kept|9: ToyQueryResult(2)",
         ),
     ] {
-        assert_eq!(rt; told(alloc, answer)?.as_str(), want);
+        says(&rt, answer, want)?;
     }
     Ok(())
 }
@@ -265,7 +266,7 @@ fn builds_queries(rt: HostRuntime) -> Result<(), Fail> {
             "SqlStr { text: \"SELECT $1\" } SqlStr { text: \"SELECT $1\" }",
         ),
     ] {
-        assert_eq!(rt; told(alloc, answer)?.as_str(), want);
+        says(&rt, answer, want)?;
     }
     Ok(())
 }

@@ -5,6 +5,7 @@ ghost use Rattle.sqlx_text.specs.declared.error.Error.{Error};
 ghost use Rattle.sqlx_traits.specs.StepList.{Ran, first_of, one_or, rows_of};
 
 use crate::calls::asked;
+use crate::says::says;
 use sqlx_query::{QueryBuilder, query};
 use sqlx_text::{Error, Fault};
 use sqlx_traits::{
@@ -12,7 +13,6 @@ use sqlx_traits::{
 };
 use std::alloc::Global;
 use std::test::*;
-use tests_database::answers::told;
 use tests_database::steps::one_row;
 use tests_database::{Toy, ToyConnection};
 
@@ -74,7 +74,7 @@ fn callers_run(rt: HostRuntime) -> Result<(), Fail> {
         ),
         (notes(alloc), "SELECT WHERE day = $1 LIMIT 1"),
     ] {
-        assert_eq!(rt; told(alloc, answer)?.as_str(), want);
+        says(&rt, answer, want)?;
     }
     Ok(())
 }

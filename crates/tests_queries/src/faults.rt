@@ -1,11 +1,12 @@
 //! Arguments that can't be encoded: what a query says of them, and that nothing is run. The toy database refuses truth values.
 
 use crate::calls::{ran, ran_read};
+use crate::says::says;
 use sqlx_query::*;
 use sqlx_text::{Error, Fault};
 use std::alloc::Global;
 use std::test::*;
-use tests_database::answers::{taken, told};
+use tests_database::answers::taken;
 use tests_database::steps::Call;
 use tests_database::{Toy, ToyArguments};
 
@@ -34,16 +35,17 @@ fn second(alloc: Global) -> Result<String, Error> {
 fn tells_the_first_fault(rt: HostRuntime) -> Result<(), Fail> {
     let alloc = rt.alloc();
     for call in [Call::Execute, Call::FetchAll, Call::FetchOptional] {
-        assert_eq!(rt; told(alloc, first(alloc, call))?.as_str(), FIRST);
+        says(&rt, first(alloc, call), FIRST)?;
     }
     let alone = format!(in alloc; "{FIRST}|")?;
     for call in [Call::Fetch, Call::FetchMany, Call::ExecuteMany] {
-        assert_eq!(rt; told(alloc, first(alloc, call))?.as_str(), alone.as_str());
+        says(&rt, first(alloc, call), alone.as_str())?;
     }
-    assert_eq!(rt;
-        told(alloc, second(alloc))?.as_str(),
-        "nothing: error occurred while encoding a value: Encoding argument $2 failed: out of range integral type conversion attempted"
-    );
+    says(
+        &rt,
+        second(alloc),
+        "nothing: error occurred while encoding a value: Encoding argument $2 failed: out of range integral type conversion attempted",
+    )?;
     Ok(())
 }
 
@@ -80,7 +82,7 @@ fn a_refused_try_is_forgotten(rt: HostRuntime) -> Result<(), Fail> {
         ),
         (of_scalar(alloc), FIRST),
     ] {
-        assert_eq!(rt; told(alloc, answer)?.as_str(), want);
+        says(&rt, answer, want)?;
     }
     Ok(())
 }
@@ -108,7 +110,7 @@ fn scalar_with(alloc: Global) -> Result<String, Error> {
 fn tells_a_given_fault(rt: HostRuntime) -> Result<(), Fail> {
     let alloc = rt.alloc();
     for answer in [with(alloc), as_with(alloc), scalar_with(alloc)] {
-        assert_eq!(rt; told(alloc, answer)?.as_str(), OUT_OF_RANGE);
+        says(&rt, answer, OUT_OF_RANGE)?;
     }
     Ok(())
 }

@@ -1,4 +1,4 @@
-//! Tests of `sqlx_from_row` and `sqlx_query`, at the toy database and at a stub backend.
+//! Tests of `sqlx_from_row` and `sqlx_query`, at the toy database.
 #![tactic(auto)]
 
 #[cfg(test)]
@@ -17,5 +17,7 @@ mod queries;
 mod read;
 #[cfg(test)]
 mod rows;
+#[cfg(test)]
+mod says;
 #[cfg(test)]
 mod statements;

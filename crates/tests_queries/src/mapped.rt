@@ -1,12 +1,12 @@
 //! Queries whose rows are mapped.
 
 use crate::calls::ran_map;
+use crate::says::says;
 use sqlx_query::{Query, query};
 use sqlx_text::{Error, Fault, OutOfMemory};
 use sqlx_traits::*;
 use std::alloc::Global;
 use std::test::*;
-use tests_database::answers::told;
 use tests_database::steps::Call;
 use tests_database::{Toy, ToyArguments, ToyRow};
 
@@ -64,7 +64,7 @@ fn maps_rows(rt: HostRuntime) -> Result<(), Fail> {
         (Call::FetchOptional, "2", "SELECT|1: None"),
         (Call::FetchOne, "tl", "SELECT|1: -1"),
     ] {
-        assert_eq!(rt; told(alloc, mapped(alloc, call, letters))?.as_str(), want);
+        says(&rt, mapped(alloc, call, letters), want)?;
     }
     Ok(())
 }
@@ -81,16 +81,10 @@ fn a_refused_row_is_the_last(rt: HostRuntime) -> Result<(), Fail> {
         (Call::FetchOne, "t", mismatch),
     ] {
         let want = format!(in alloc; "SELECT kept|1: {given}")?;
-        assert_eq!(rt;
-            told(alloc, tried(alloc, call, letters))?.as_str(),
-            want.as_str()
-        );
+        says(&rt, tried(alloc, call, letters), want.as_str())?;
     }
     let want = format!(in alloc; "SELECT kept|1: 7|{mismatch}|")?;
-    assert_eq!(rt;
-        told(alloc, tried(alloc, Call::Fetch, "ltl"))?.as_str(),
-        want.as_str()
-    );
+    says(&rt, tried(alloc, Call::Fetch, "ltl"), want.as_str())?;
     Ok(())
 }
 
@@ -119,7 +113,7 @@ fn maps_what_was_mapped(rt: HostRuntime) -> Result<(), Fail> {
             "SELECT kept|1: 7|error occurred while decoding: out of range integral type conversion attempted|",
         ),
     ] {
-        assert_eq!(rt; told(alloc, answer)?.as_str(), want);
+        says(&rt, answer, want)?;
     }
     Ok(())
 }

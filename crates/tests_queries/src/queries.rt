@@ -1,11 +1,11 @@
 //! The seven running calls of a query and of a raw text, and what a query takes its arguments from.
 
 use crate::calls::{asked, numbers, of_raw, ran};
+use crate::says::says;
 use sqlx_query::{query, query_with, query_with_result, raw_sql};
 use sqlx_text::Error;
 use std::alloc::Global;
 use std::test::*;
-use tests_database::answers::told;
 use tests_database::steps::Call;
 use tests_database::{Toy, ToyConnection};
 
@@ -47,15 +47,9 @@ fn runs_queries_and_raw_texts(rt: HostRuntime) -> Result<(), Fail> {
         ),
     ] {
         let want = format!(in alloc; "SELECT kept|1|x: {given}")?;
-        assert_eq!(rt;
-            told(alloc, bound(alloc, call, letters))?.as_str(),
-            want.as_str()
-        );
+        says(&rt, bound(alloc, call, letters), want.as_str())?;
         let want = format!(in alloc; "DELETE; SELECT bare: {given}")?;
-        assert_eq!(rt;
-            told(alloc, raw(alloc, call, letters))?.as_str(),
-            want.as_str()
-        );
+        says(&rt, raw(alloc, call, letters), want.as_str())?;
     }
     Ok(())
 }
@@ -84,7 +78,7 @@ fn queries_have_their_arguments(rt: HostRuntime) -> Result<(), Fail> {
         (with_result(alloc), "UPDATE kept|8: ToyQueryResult(1)"),
         (unkept(alloc), "UPDATE|9: ToyQueryResult(1)"),
     ] {
-        assert_eq!(rt; told(alloc, answer)?.as_str(), want);
+        says(&rt, answer, want)?;
     }
     Ok(())
 }

@@ -1,14 +1,12 @@
-//! Queries whose rows become values, and queries of the first column; at the toy database and at a connection of `Any`.
+//! Queries whose rows become values, and queries of the first column.
 
 use crate::calls::{asked, numbers, of_read, ran_read};
 use crate::rows::Note;
-use sqlx_any::{Any, AnyConnection};
+use crate::says::says;
 use sqlx_query::*;
 use sqlx_text::Error;
 use std::alloc::Global;
 use std::test::*;
-use tests_backend::StubBackend;
-use tests_database::answers::told;
 use tests_database::letters::row_of;
 use tests_database::steps::Call;
 use tests_database::{Toy, ToyConnection};
@@ -47,10 +45,7 @@ fn reads_rows_and_columns(rt: HostRuntime) -> Result<(), Fail> {
         (Call::FetchOne, "tl", MISMATCH),
     ] {
         let want = format!(in alloc; "SELECT|1: {given}")?;
-        assert_eq!(rt;
-            told(alloc, scalars(alloc, call, letters))?.as_str(),
-            want.as_str()
-        );
+        says(&rt, scalars(alloc, call, letters), want.as_str())?;
     }
     for (call, letters, given) in [
         (Call::Fetch, "ll2", "(7,)|(7,)|"),
@@ -59,10 +54,7 @@ fn reads_rows_and_columns(rt: HostRuntime) -> Result<(), Fail> {
         (Call::FetchOne, "lt2", "(7,)"),
     ] {
         let want = format!(in alloc; "SELECT|1: {given}")?;
-        assert_eq!(rt;
-            told(alloc, tuples(alloc, call, letters))?.as_str(),
-            want.as_str()
-        );
+        says(&rt, tuples(alloc, call, letters), want.as_str())?;
     }
     Ok(())
 }
@@ -100,7 +92,7 @@ fn reads_with_arguments(rt: HostRuntime) -> Result<(), Fail> {
         (scalar_with(alloc), "SELECT kept|8: 7"),
         (scalar_with_result(alloc), "SELECT kept|9: 7"),
     ] {
-        assert_eq!(rt; told(alloc, answer)?.as_str(), want);
+        says(&rt, answer, want)?;
     }
     Ok(())
 }
@@ -112,17 +104,8 @@ fn note(alloc: Global, letters: &str) -> Result<String, Error> {
     asked(alloc, conn, given)
 }
 
-fn of_any(alloc: Global, letters: &str) -> Result<String, Error> {
-    let query = query_as::<Any<StubBackend>, (i64,), _>(alloc, "SELECT")?.bind(alloc, 1i64);
-    let mut conn = AnyConnection::new(StubBackend::new(alloc, letters)?);
-    let given = of_read(alloc, Call::FetchAll, query, &mut conn);
-    let given = told(alloc, given)?;
-    let handed = conn.backend().handed_shown(alloc)?;
-    Ok(format!(in alloc; "{handed}: {given}")?)
-}
-
 #[test]
-fn reads_a_struct_and_of_any(rt: HostRuntime) -> Result<(), Fail> {
+fn reads_a_struct(rt: HostRuntime) -> Result<(), Fail> {
     let alloc = rt.alloc();
     for (answer, want) in [
         (
@@ -133,13 +116,8 @@ fn reads_a_struct_and_of_any(rt: HostRuntime) -> Result<(), Fail> {
             note(alloc, "l"),
             "SELECT kept: column index out of bounds: the len is 1, but the index is 1",
         ),
-        (of_any(alloc, "ii"), "SELECT kept BigInt 1|: [(5,), (5,)]"),
-        (
-            of_any(alloc, "it"),
-            "SELECT kept BigInt 1|: error occurred while decoding column 0: mismatched types; Rust type `i64` is not compatible with SQL type `TEXT`",
-        ),
     ] {
-        assert_eq!(rt; told(alloc, answer)?.as_str(), want);
+        says(&rt, answer, want)?;
     }
     Ok(())
 }

@@ -1,11 +1,11 @@
 //! Queries of a prepared statement, by functions and by its calls.
 
 use crate::calls::{numbers, ran, ran_read};
+use crate::says::says;
 use sqlx_query::*;
 use sqlx_text::{Error, SqlStr};
 use std::alloc::Global;
 use std::test::*;
-use tests_database::answers::told;
 use tests_database::steps::Call;
 use tests_database::{Toy, ToyStatement};
 
@@ -71,7 +71,7 @@ fn a_statement_is_asked(rt: HostRuntime) -> Result<(), Fail> {
             (scalars(alloc, ask, &statement), "7"),
         ] {
             let want = format!(in alloc; "{asked}: {given}")?;
-            assert_eq!(rt; told(alloc, answer)?.as_str(), want.as_str());
+            says(&rt, answer, want.as_str())?;
         }
     }
     Ok(())
