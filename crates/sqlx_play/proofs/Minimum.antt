@@ -16,7 +16,7 @@ use Rattle.sqlx_play.specs.StageAdvance.{StageAdvance}
 use Rattle.sqlx_play.specs.KeepsMinimum.{KeepsMinimum}
 use Rattle.sqlx_rules.proofs.Gone.{gone-openings}
 use Rattle.sqlx_rules.proofs.Pairs.{tries_of-push}
-use Rattle.sqlx_play.proofs.Coming.{at-pairs, comes-stands}
+use Rattle.sqlx_play.proofs.StageAdvanceLemmas.{at-pairs, comes-stands}
 use Rattle.sqlx_rules.specs.Pairs.{Pairs}
 
 pub plays-min : (old new : Stage) (pairs : Pairs) (moment : Moment) (opens n : ℕ) → StageStands old pairs → KeepsMinimum old new moment.0 opens n

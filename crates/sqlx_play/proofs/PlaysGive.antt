@@ -23,8 +23,8 @@ use Rattle.sqlx_play.specs.KeepsMinimum.{KeepsMinimum}
 use Rattle.sqlx_play.specs.GivesBack.{returned, GivesBack}
 use Rattle.sqlx_rules.proofs.Gone.{gone-openings}
 use Rattle.sqlx_rules.proofs.Pairs.{tries_of-push}
-use Rattle.sqlx_play.proofs.Coming.{at-pairs, comes-stands}
-use Rattle.sqlx_play.proofs.FillBehind.{fill-behind}
+use Rattle.sqlx_play.proofs.StageAdvanceLemmas.{at-pairs, comes-stands}
+use Rattle.sqlx_play.proofs.KeepsMinimumBehind.{fill-behind}
 use Rattle.sqlx_rules.specs.Pairs.{Pairs}
 
 -- the reply by the word, where a connection that was closed has this one

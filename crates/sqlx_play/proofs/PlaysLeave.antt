@@ -20,8 +20,8 @@ use Rattle.sqlx_play.specs.KeepsMinimum.{KeepsMinimum}
 use Rattle.sqlx_play.specs.LoanEnds.{LoanEnds}
 use Rattle.sqlx_rules.proofs.Gone.{gone-openings}
 use Rattle.sqlx_rules.proofs.Pairs.{tries_of-push}
-use Rattle.sqlx_play.proofs.Coming.{at-pairs, comes-stands}
-use Rattle.sqlx_play.proofs.FillBehind.{fill-behind}
+use Rattle.sqlx_play.proofs.StageAdvanceLemmas.{at-pairs, comes-stands}
+use Rattle.sqlx_play.proofs.KeepsMinimumBehind.{fill-behind}
 use Rattle.sqlx_rules.specs.Pairs.{Pairs}
 
 module _ (old : Stage) (pairs : Pairs) (moment : Moment) (k c opens : ℕ) (s : StageStands old pairs) where

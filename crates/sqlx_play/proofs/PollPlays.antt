@@ -39,7 +39,7 @@ use Rattle.sqlx_play.specs.StageStands.{IsTriedAt, StageStands, numbers_of}
 use Rattle.sqlx_play.specs.PlaysEvent.{PlaysEvent}
 use Rattle.sqlx_play.specs.ConnectByReply.{connect_marks, after_connect}
 use Rattle.sqlx_rules.proofs.Pairs.{tries_of-push}
-use Rattle.sqlx_play.proofs.Passing.{stays-standing}
+use Rattle.sqlx_play.proofs.CancelAndTry.{stays-standing}
 use Rattle.sqlx_play.proofs.PollTurns.{AtTest, AtBackoff}
 use Rattle.sqlx_play.proofs.PollReplies.{connecting, poll-reply, tried-of}
 use Rattle.sqlx_play.proofs.PollMarks.{waits-backoff}

@@ -29,10 +29,19 @@ ReadIfFits false mismatch reads r = (r ≡ Err mismatch) ⊎ (r ≡ Err fault.Ou
 abbrev pub fits : {V I : Type 0} → (V → Bool) → (V → I) → (I → Bool) → (I → Bool) → V → Bool
 fits null type_of null_type reads_type v = null v || (null_type (type_of v) || reads_type (type_of v))
 
+-- the refusal of a type that doesn't fit: it names the Rust type, its SQL type, where that is told, and the type
+abbrev pub mismatch_of : {I : Type 0} → (I → List ℕ) → Bool → List ℕ → I → I → Fault
+mismatch_of named names_own rust own ty = fault.Mismatched rust (told names_own (named own)) (named ty)
+
+-- no fault where the value fits, and else this one, or want of memory
+abbrev pub Misfit : Bool → Fault → Option Fault → Type 0
+Misfit fits mismatch None = fits ≡ true
+Misfit fits mismatch (Some f) = (fits ≡ false) × ((f ≡ mismatch) ⊎ (f ≡ fault.OutOfMemory))
+
 -- a checked read: `null` and `type_of` speak of values, `null_type` and `named` of types; the Rust type is called `rust`, its SQL type is `own`, which a refusal names where `names_own`, it takes the types `reads_type` and reads as `reads` says
 abbrev pub Checked : {V I T : Type 0} → (V → Bool) → (V → I) → (I → Bool) → (I → List ℕ) → Bool → List ℕ → I → (I → Bool) → (V → Result T Fault → Type 0) → V → Result T Fault → Type 0
 Checked null type_of null_type named names_own rust own reads_type reads v r =
-    ReadIfFits (fits null type_of null_type reads_type v) (fault.Mismatched rust (told names_own (named own)) (named (type_of v))) (reads v) r
+    ReadIfFits (fits null type_of null_type reads_type v) (mismatch_of named names_own rust own (type_of v)) (reads v) r
 
 -- a fault becomes an error
 abbrev pub with_error : {T : Type 0} → (Fault → Error) → Result T Fault → Result T Error

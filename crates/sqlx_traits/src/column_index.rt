@@ -50,7 +50,7 @@ pub fn index_of_position(index: usize, len: usize) -> Result<usize, Error>
 }
 
 /// The item at a position, and `ColumnIndexOutOfBounds` exactly where there is none.
-pub(crate) fn item_at<T>(items: &[T], index: usize) -> Result<&T, Error>
+pub fn item_at<T>(items: &[T], index: usize) -> Result<&T, Error>
     ensures { Answers (λ item. item.now) Error.OutOfMemory (at_place items.now (Ok index)) result }
 {
     match items.get(index) {

@@ -1,9 +1,9 @@
 //! Typed reads that may borrow from what they read: the calls of sqlx's `Row` and `Value` of the same
 //! names, as functions. A type that owns what it reads is read by the methods of `Row` and `Value`.
-ghost use Rattle.std.specs.Prelude.{◌≡◌, ◌⊎◌, ◌||◌, Err, IfOk, MatchOption, Ok, false, true};
+ghost use Rattle.std.specs.Prelude.{◌≡◌, ◌⊎◌, ◌||◌, Err, IfOk, Ok, true};
 ghost use Rattle.sqlx_text.specs.declared.error.Error.{Error};
 ghost use Rattle.sqlx_traits.specs.Places.{IsGiven};
-ghost use Rattle.sqlx_traits.specs.Reads.{Checked, GivesValue, NeverRefuses, RowRead, ValueRead, column_error, fits, told, with_error};
+ghost use Rattle.sqlx_traits.specs.Reads.{Checked, GivesValue, Misfit, NeverRefuses, RowRead, ValueRead, column_error, fits, mismatch_of, with_error};
 
 use crate::sql_type::mismatched;
 use crate::{ColumnIndex, Database, Decode, DecodeOwned, Row, SqlType, TypeInfo, Value};
@@ -130,10 +130,8 @@ fn mismatch<DB: Database, T: SqlType<DB>>(
     value: &DB::Value,
     names_own: bool,
 ) -> Option<Fault>
-    ensures { MatchOption result
-        (fits DB.Value.null DB.Value.type_of DB.TypeInfo.null_type T.reads_type value.now ≡ true)
-        (λ f. (fits DB.Value.null DB.Value.type_of DB.TypeInfo.null_type T.reads_type value.now ≡ false)
-        × ((f ≡ Fault.Mismatched T.called (told names_own (DB.TypeInfo.named T.own_type)) (DB.TypeInfo.named (DB.Value.type_of value.now))) ⊎ (f ≡ Fault.OutOfMemory))) }
+    ensures { Misfit (fits DB.Value.null DB.Value.type_of DB.TypeInfo.null_type T.reads_type value.now)
+        (mismatch_of DB.TypeInfo.named names_own T.called T.own_type (DB.Value.type_of value.now)) result }
 {
     if value.is_null() {
         return None;
@@ -179,8 +177,8 @@ pub(crate) fn owned_checked<DB: Database, T: DecodeOwned<DB> + SqlType<DB>>(
     }
 }
 
-// What was read of a column, whose label stands in the error of one that can't be read.
-pub(crate) fn labelled<R, I: ColumnIndex<R>, T>(
+/// What was read of a column, whose label stands in the error of one that can't be read. For a driver's own rows.
+pub fn labelled<R, I: ColumnIndex<R>, T>(
     alloc: Global,
     index: &I,
     read: Result<T, Fault>,
@@ -209,8 +207,8 @@ fn refused<R, I: ColumnIndex<R>>(alloc: Global, index: &I, fault: Fault) -> Erro
     }
 }
 
-// A value that is known to be given, where there is memory.
-pub(crate) fn given<T>(answer: Result<T, Error>) -> Result<T, OutOfMemory>
+/// A value that is known to be given, where there is memory.
+pub fn given<T>(answer: Result<T, Error>) -> Result<T, OutOfMemory>
     requires { IsGiven answer }
     ensures { IfOk result (λ x. answer ≡ Ok x) }
 {

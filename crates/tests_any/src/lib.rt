@@ -1,4 +1,4 @@
-//! Tests of `sqlx_traits` and `sqlx_any`, at the toy database and at a stub backend.
+//! Tests of `sqlx_traits` and `sqlx_any`, at the toy database and at a stub backend, and queries over that.
 #![tactic(auto)]
 
 #[cfg(test)]
@@ -19,6 +19,8 @@ mod options;
 mod parts;
 #[cfg(test)]
 mod present;
+#[cfg(test)]
+mod queries;
 #[cfg(test)]
 mod reads;
 #[cfg(test)]

@@ -1,4 +1,4 @@
-//! Tests of `sqlx_from_row` and `sqlx_query`, at the toy database and at a stub backend.
+//! Tests of `sqlx_from_row` and `sqlx_query`, at the toy database.
 #![tactic(auto)]
 
 #[cfg(test)]

@@ -1,13 +1,11 @@
-//! Queries whose rows become values, and queries of the first column; at the toy database and at a connection of `Any`.
+//! Queries whose rows become values, and queries of the first column.
 
 use crate::calls::{asked, numbers, of_read, ran_read};
 use crate::rows::Note;
-use sqlx_any::{Any, AnyConnection};
 use sqlx_query::*;
 use sqlx_text::Error;
 use std::alloc::Global;
 use std::test::*;
-use tests_backend::StubBackend;
 use tests_database::answers::told;
 use tests_database::letters::row_of;
 use tests_database::steps::Call;
@@ -112,17 +110,8 @@ fn note(alloc: Global, letters: &str) -> Result<String, Error> {
     asked(alloc, conn, given)
 }
 
-fn of_any(alloc: Global, letters: &str) -> Result<String, Error> {
-    let query = query_as::<Any<StubBackend>, (i64,), _>(alloc, "SELECT")?.bind(alloc, 1i64);
-    let mut conn = AnyConnection::new(StubBackend::new(alloc, letters)?);
-    let given = of_read(alloc, Call::FetchAll, query, &mut conn);
-    let given = told(alloc, given)?;
-    let handed = conn.backend().handed_shown(alloc)?;
-    Ok(format!(in alloc; "{handed}: {given}")?)
-}
-
 #[test]
-fn reads_a_struct_and_of_any(rt: HostRuntime) -> Result<(), Fail> {
+fn reads_a_struct(rt: HostRuntime) -> Result<(), Fail> {
     let alloc = rt.alloc();
     for (answer, want) in [
         (
@@ -132,11 +121,6 @@ fn reads_a_struct_and_of_any(rt: HostRuntime) -> Result<(), Fail> {
         (
             note(alloc, "l"),
             "SELECT kept: column index out of bounds: the len is 1, but the index is 1",
-        ),
-        (of_any(alloc, "ii"), "SELECT kept BigInt 1|: [(5,), (5,)]"),
-        (
-            of_any(alloc, "it"),
-            "SELECT kept BigInt 1|: error occurred while decoding column 0: mismatched types; Rust type `i64` is not compatible with SQL type `TEXT`",
         ),
     ] {
         assert_eq!(rt; told(alloc, answer)?.as_str(), want);

@@ -1,7 +1,7 @@
 use Rattle.std.proofs.Common.{ℕ, Result, Ok, Err, IfOk}
 use Rattle.sqlx_play.specs.declared.error.PlayError.{PlayError}
 use Rattle.sqlx_play.specs.KeepsMinimum.{KeepsMinimum}
-use Rattle.sqlx_play.proofs.Filling.{fills-from}
+use Rattle.sqlx_play.proofs.KeepsMinimumLemmas.{fills-from}
 use Rattle.sqlx_play.proofs.stage.fill.fill.Goals as goal
 
 pub returns-clause-ok : goal.returns-clause-ok

@@ -1,7 +1,7 @@
 use Rattle.std.proofs.Common.{◌≡◌, ℕ, Bool, refl, sym, ap, subst, ◌∙◌, arith}
 use Rattle.sqlx_script.specs.Built.{sets_up}
 use Rattle.sqlx_play.specs.KeepsMinimum.{OpensOne, KeepsMinimum}
-use Rattle.sqlx_play.proofs.Filling.{HasOpened, opened-none, opened-more, filled-whole, filled-part}
+use Rattle.sqlx_play.proofs.KeepsMinimumLemmas.{HasOpened, opened-none, opened-more, filled-whole, filled-part}
 use Rattle.sqlx_play.proofs.stage.fill.open_accepted.Goals as goal
 
 pub loop-init : goal.loop-init

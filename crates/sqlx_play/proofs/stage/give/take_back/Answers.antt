@@ -10,7 +10,7 @@ use Rattle.sqlx_play.specs.LentLinks.{is_lent}
 use Rattle.sqlx_play.specs.GivesBack.{lets_rest}
 use Rattle.sqlx_play.proofs.LinksGone.{closed_in}
 use Rattle.sqlx_play.proofs.LentTaken.{none-there, taken-at, place-below}
-use Rattle.sqlx_play.proofs.Returning.{returns-unlent, returns-kept, returns-closed, returns-not_held}
+use Rattle.sqlx_play.proofs.GivesBackLemmas.{returns-unlent, returns-kept, returns-closed, returns-not_held}
 use Rattle.sqlx_play.proofs.stage.give.take_back.Goals as goal
 
 pub returns-in_default-clause-ok : goal.returns-in_default-clause-ok

@@ -15,7 +15,7 @@ use Rattle.sqlx_script.specs.declared.reply.Reply.TheVariants.{NotHeld, PoolClos
 use Rattle.sqlx_rules.specs.Answer.{answer, passes_test}
 use Rattle.sqlx_rules.specs.ScriptMarks.{marks_of, leaving, waits}
 use Rattle.sqlx_rules.proofs.Pairs.{tries_of-push}
-use Rattle.sqlx_play.proofs.Passing.{stays-standing, ends-standing}
+use Rattle.sqlx_play.proofs.CancelAndTry.{stays-standing, ends-standing}
 use Rattle.sqlx_play.proofs.Asked.{by-letters, depth-rests}
 use Rattle.sqlx_play.proofs.PollTurns.{AtTest, at-test, at-connect, at-backoff, is-tested, is-refused, is-trying}
 use Rattle.sqlx_play.proofs.PollReplies.{connecting, poll-reply}

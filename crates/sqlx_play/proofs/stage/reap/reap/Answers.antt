@@ -1,5 +1,5 @@
 use Rattle.sqlx_rules.specs.Answer.{answer}
-use Rattle.sqlx_play.proofs.Reaping.{plays-reap}
+use Rattle.sqlx_play.proofs.ReapsLemmas.{plays-reap}
 use Rattle.sqlx_play.proofs.stage.reap.reap.Goals as goal
 
 pub returns-clause-ok : goal.returns-clause-ok

@@ -5,7 +5,7 @@ use Rattle.sqlx_script.specs.declared.reply.Reply.TheVariants.{Ready}
 use Rattle.sqlx_rules.specs.Answer.{answer}
 use Rattle.sqlx_play.specs.PlaysEvent.{PlaysEvent}
 use Rattle.sqlx_play.specs.declared.error.PlayError.{PlayError}
-use Rattle.sqlx_play.proofs.Passing.{try-reply, unlent-stands, tried-stands, first-idle}
+use Rattle.sqlx_play.proofs.CancelAndTry.{try-reply, unlent-stands, tried-stands, first-idle}
 use Rattle.sqlx_play.proofs.stage.try_acquire.try_acquire.Goals as goal
 
 pub returns-in-None-clause-ok : goal.returns-in-None-clause-ok

@@ -20,7 +20,7 @@ use Rattle.sqlx_play.specs.StageStands.{IsSetUp}
 use Rattle.sqlx_rules.specs.Answer.{opened_for_minimum}
 use Rattle.sqlx_play.specs.StageAdvance.{IsAt, StageAdvance}
 use Rattle.sqlx_play.specs.KeepsMinimum.{core_passes, least, OpensOne, KeepsMinimum}
-use Rattle.sqlx_play.proofs.Coming.{comes-then, comes-nowhere, at-next}
+use Rattle.sqlx_play.proofs.StageAdvanceLemmas.{comes-then, comes-nowhere, at-next}
 
 -- ---- openings behind openings
 

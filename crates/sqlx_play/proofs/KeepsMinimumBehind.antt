@@ -9,7 +9,7 @@ use Rattle.sqlx_rules.specs.ScriptMarks.{openings}
 use Rattle.sqlx_rules.specs.Answer.{opened_for_minimum}
 use Rattle.sqlx_play.specs.StageAdvance.{IsAt, StageAdvance}
 use Rattle.sqlx_play.specs.KeepsMinimum.{KeepsMinimum}
-use Rattle.sqlx_play.proofs.Coming.{at-next, comes-then}
+use Rattle.sqlx_play.proofs.StageAdvanceLemmas.{at-next, comes-then}
 
 pub fill-behind : (old mid new : Stage) (marks made : List Mark) (past past' : History) (m opens n : ℕ) → next_conn (marks ++ made) ≡ next_conn marks → IsAt old marks past → StageAdvance old mid marks made past' → KeepsMinimum mid new m opens n
     → (n ≡ opened_for_minimum old.pool (marks ++ made) opens) × StageAdvance old new marks (made ++ openings n (next_conn marks) m) past'

@@ -34,7 +34,7 @@ use Rattle.sqlx_play.proofs.LinksGone.{lent-counted, closed_in, links-leave}
 use Rattle.sqlx_play.proofs.LinksKept.{links-kept}
 use Rattle.sqlx_play.proofs.LentTaken.{first-only, put-back}
 use Rattle.sqlx_play.proofs.Owners.{held-once}
-use Rattle.sqlx_play.proofs.GivesBack.{Loaned, told-kept, told-closed, told-not_held, word-told, stranger-told, unlent-loan}
+use Rattle.sqlx_play.proofs.GiveAnswers.{Loaned, told-kept, told-closed, told-not_held, word-told, stranger-told, unlent-loan}
 
 -- ---- no link
 

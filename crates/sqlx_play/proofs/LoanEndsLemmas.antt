@@ -24,7 +24,7 @@ use Rattle.sqlx_play.proofs.LinksSame.{links-same}
 use Rattle.sqlx_play.proofs.LinksGone.{lent-counted, closed_in, links-leave}
 use Rattle.sqlx_play.proofs.LentTaken.{first-only}
 use Rattle.sqlx_play.proofs.Owners.{owner-stands, held-once}
-use Rattle.sqlx_play.proofs.Coming.{comes-nowhere}
+use Rattle.sqlx_play.proofs.StageAdvanceLemmas.{comes-nowhere}
 
 -- What a loan's end leaves of a core.
 pub record EndsLoan (old new : Core Link) (c : ℕ) : Type 0 where

@@ -21,7 +21,7 @@ use Rattle.sqlx_play.specs.LinksStand.{LinksStand}
 use Rattle.sqlx_play.specs.KeepsMinimum.{core_passes, least, OpensOne}
 use Rattle.sqlx_play.proofs.LinksSame.{links-same}
 use Rattle.sqlx_play.proofs.LinksKept.{links-born}
-use Rattle.sqlx_play.proofs.Coming.{comes-nowhere}
+use Rattle.sqlx_play.proofs.StageAdvanceLemmas.{comes-nowhere}
 
 drop_true : (a b c : Bool) → c ≡ true → (a && b && c) ≡ (a && b)
 drop_true true true c e = e

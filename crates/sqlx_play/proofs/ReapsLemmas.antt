@@ -35,8 +35,8 @@ use Rattle.sqlx_play.specs.StageAdvance.{IsAt, StageAdvance}
 use Rattle.sqlx_play.specs.KeepsMinimum.{core_passes, KeepsMinimum}
 use Rattle.sqlx_play.specs.Reaps.{reapable, reap_mark, Reaps, ReapsOne, ReapsAll}
 use Rattle.sqlx_play.proofs.SetUpLimits.{limits-set_up}
-use Rattle.sqlx_play.proofs.Coming.{at-pairs, at-next, comes-then, comes-nowhere, comes-stands}
-use Rattle.sqlx_play.proofs.Filling.{passes-stands}
+use Rattle.sqlx_play.proofs.StageAdvanceLemmas.{at-pairs, at-next, comes-then, comes-nowhere, comes-stands}
+use Rattle.sqlx_play.proofs.KeepsMinimumLemmas.{passes-stands}
 use Rattle.sqlx_rules.proofs.Gone.{gone-openings}
 use Rattle.sqlx_play.proofs.LinksGone.{closed_in, links-unrest}
 use Rattle.sqlx_play.proofs.LinksSame.{links-same}
