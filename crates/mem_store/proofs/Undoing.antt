@@ -5,41 +5,43 @@ use Rattle.std.specs.Option.{unwrap_or}
 use Rattle.std.proofs.lemmas.Bool.{lt-ltb, le-ltb, cond-true, cond-false}
 use Rattle.std.specs.Ordering.{int_cmp, eq_by_cmp}
 use Rattle.std.specs.Cmp.{int_cmp_total, eq_by_cmp_equiv}
-use Rattle.std.specs.FinMap.{get, insert, from_entries, get-insert, get-remove, same_map, int_cmp-IsAntisymmetric}
-use Rattle.sqlx_savepoints.specs.Rows.{Writes}
+use Rattle.std.specs.FinMap.{FinMap, get, insert, from_entries, get-insert, get-remove, same_map, int_cmp-IsAntisymmetric}
+use Rattle.sqlx_savepoints.specs.Rows.{Rows, Writes}
 use Rattle.sqlx_savepoints.specs.NamedSavepoints.{Entry, newest}
 use Rattle.mem_store.specs.declared.saved.Saved.{Saved}
 use Rattle.mem_store.specs.declared.saved.Change.{Change}
+use Rattle.mem_store.specs.declared.saved.Overwrite.{Overwrite}
 use Rattle.mem_store.specs.SavepointStack.{SavepointStack, saved_at, released_to, restored_to}
-use Rattle.mem_store.specs.UndoLog.{put_back, as_of, entries_at, AreMarked, from_name, first_mark}
+use Rattle.mem_store.specs.UndoLog.{put_back, unwritten, as_of, entries_at, AreMarked, from_name, first_mark}
 use Rattle.mem_store.proofs.Trees.{found, Updated, get-found, from_entries-insert, tied}
 
 -- ---- one change
 
-same_key : (own : Writes) (q key : ℤ) → eq_by_cmp int_cmp q key ≡ true → get own q ≡ get own key
-same_key own q key e = ap (get own) (int_cmp-IsAntisymmetric q key (tied (int_cmp q key) e))
+module _ {X : Type 0} where
+  same_key : (values : FinMap int_cmp X) (q key : ℤ) → eq_by_cmp int_cmp q key ≡ true → get values q ≡ get values key
+  same_key values q key e = ap (get values) (int_cmp-IsAntisymmetric q key (tied (int_cmp q key) e))
 
--- a key is written, and then as before
-undone_at : (own : Writes) (q key : ℤ) (value before : Option (Option ℤ)) (b : Bool) → get own key ≡ before → eq_by_cmp int_cmp q key ≡ b → cond b before (cond b value (get own q)) ≡ get own q
-undone_at own q key value before true is e = sym (same_key own q key e ∙ is)
-undone_at own q key value before false is e = refl
+  -- a key is written, and then as before
+  undone_at : (values : FinMap int_cmp X) (q key : ℤ) (value before : Option X) (b : Bool) → get values key ≡ before → eq_by_cmp int_cmp q key ≡ b → cond b before (cond b value (get values q)) ≡ get values q
+  undone_at values q key value before true is e = sym (same_key values q key e ∙ is)
+  undone_at values q key value before false is e = refl
 
-undone_by : (own : Writes) (key : ℤ) (value : Option ℤ) (before : Option (Option ℤ)) → get own key ≡ before → put_back key before (insert own key value) ≡ own
-undone_by own key value None is = same_map int_cmp_total int_cmp-IsAntisymmetric _ _ (λ q.
-    get-remove int_cmp_total (insert own key value) key q
-    ∙ ap (cond (eq_by_cmp int_cmp q key) None) (get-insert int_cmp_total own key value q)
-    ∙ undone_at own q key (Some value) None (eq_by_cmp int_cmp q key) is refl)
-undone_by own key value (Some old) is =
-    let written = insert own key value in
-    let there : is_some (get written key) ≡ true = ap is_some (get-insert int_cmp_total own key value key ∙ cond-true (eq_by_cmp int_cmp key key) (Some value) (get own key) ((eq_by_cmp_equiv int_cmp_total).refl key)) in
-    cond-true (is_some (get written key)) (insert written key old) written there
-    ∙ same_map int_cmp_total int_cmp-IsAntisymmetric _ _ (λ q.
-    get-insert int_cmp_total written key old q
-    ∙ ap (cond (eq_by_cmp int_cmp q key) (Some old)) (get-insert int_cmp_total own key value q)
-    ∙ undone_at own q key (Some value) (Some old) (eq_by_cmp int_cmp q key) is refl)
+  undone_by : (values : FinMap int_cmp X) (key : ℤ) (value : X) (before : Option X) → get values key ≡ before → put_back key before (insert values key value) ≡ values
+  undone_by values key value None is = same_map int_cmp_total int_cmp-IsAntisymmetric _ _ (λ q.
+      get-remove int_cmp_total (insert values key value) key q
+      ∙ ap (cond (eq_by_cmp int_cmp q key) None) (get-insert int_cmp_total values key value q)
+      ∙ undone_at values q key (Some value) None (eq_by_cmp int_cmp q key) is refl)
+  undone_by values key value (Some old) is =
+      let written = insert values key value in
+      let there : is_some (get written key) ≡ true = ap is_some (get-insert int_cmp_total values key value key ∙ cond-true (eq_by_cmp int_cmp key key) (Some value) (get values key) ((eq_by_cmp_equiv int_cmp_total).refl key)) in
+      cond-true (is_some (get written key)) (insert written key old) written there
+      ∙ same_map int_cmp_total int_cmp-IsAntisymmetric _ _ (λ q.
+      get-insert int_cmp_total written key old q
+      ∙ ap (cond (eq_by_cmp int_cmp q key) (Some old)) (get-insert int_cmp_total values key value q)
+      ∙ undone_at values q key (Some value) (Some old) (eq_by_cmp int_cmp q key) is refl)
 
-pub put_back-insert : (own : Writes) (key : ℤ) (value : Option ℤ) → put_back key (get own key) (insert own key value) ≡ own
-put_back-insert own key value = undone_by own key value (get own key) refl
+  pub put_back-insert : (values : FinMap int_cmp X) (key : ℤ) (value : X) → put_back key (get values key) (insert values key value) ≡ values
+  put_back-insert values key value = undone_by values key value (get values key) refl
 
 -- ---- changes in their order
 
@@ -218,14 +220,29 @@ pub pushed : {X E : Type 0} (r : Result X E) (b : Bool) → b ≡ is_err r → b
 pushed (Ok x) b is none = refl
 pushed (Err e) b is some = absurd cc
 
--- ---- the tree, where a write is put back
+-- ---- the tree, where a value is put back
 
-pub put_back-absent : (tree : List (ℤ × Option ℤ)) (key : ℤ) (value : Option ℤ) → None ≡ found tree key → from_entries {R = int_cmp} tree ≡ put_back key (Some value) (from_entries {R = int_cmp} tree)
-put_back-absent tree key value none =
-    let own : Writes = from_entries {R = int_cmp} tree in
-    sym (cond-false (is_some (get own key)) (insert own key value) own (ap is_some (get-found tree key ∙ sym none)))
+module _ {X : Type 0} where
+  pub put_back-absent : (tree : List (ℤ × X)) (key : ℤ) (value : X) → None ≡ found tree key → from_entries {R = int_cmp} tree ≡ put_back key (Some value) (from_entries {R = int_cmp} tree)
+  put_back-absent tree key value none =
+      let values : FinMap int_cmp X = from_entries {R = int_cmp} tree in
+      sym (cond-false (is_some (get values key)) (insert values key value) values (ap is_some (get-found tree key ∙ sym none)))
 
-pub put_back-present : (old new : List (ℤ × Option ℤ)) (key : ℤ) (value there : Option ℤ) → Some there ≡ found old key → Updated old new key (Some value) → from_entries {R = int_cmp} new ≡ put_back key (Some value) (from_entries {R = int_cmp} old)
-put_back-present old new key value there some is =
-    let own : Writes = from_entries {R = int_cmp} old in
-    from_entries-insert old new key value is ∙ sym (cond-true (is_some (get own key)) (insert own key value) own (ap is_some (get-found old key ∙ sym some)))
+  pub put_back-present : (old new : List (ℤ × X)) (key : ℤ) (value there : X) → Some there ≡ found old key → Updated old new key (Some value) → from_entries {R = int_cmp} new ≡ put_back key (Some value) (from_entries {R = int_cmp} old)
+  put_back-present old new key value there some is =
+      let values : FinMap int_cmp X = from_entries {R = int_cmp} old in
+      from_entries-insert old new key value is ∙ sym (cond-true (is_some (get values key)) (insert values key value) values (ap is_some (get-found old key ∙ sym some)))
+
+-- ---- rows that are written in place
+
+-- an overwrite that is noted
+pub unwritten-noted : (older : List Overwrite) (rows : Rows) (key value : ℤ) → unwritten (record { key = key; before = get rows key } ∷ older) (insert rows key value) ≡ unwritten older rows
+unwritten-noted older rows key value = ap (unwritten older) (put_back-insert rows key value)
+
+-- the same of what stands in the fields
+pub unwritten-by : (older noted : List Overwrite) (rows new : Rows) (key value : ℤ) (before : Option ℤ) → before ≡ get rows key → noted ≡ record { key = key; before = before } ∷ older → new ≡ insert rows key value
+    → unwritten noted new ≡ unwritten older rows
+unwritten-by older noted rows new key value before before_is noted_is new_is =
+    ap (λ list. unwritten list new) (noted_is ∙ ap (λ (b : Option ℤ). record { key = key; before = b } ∷ older) before_is)
+    ∙ ap (unwritten (record { key = key; before = get rows key } ∷ older)) new_is
+    ∙ unwritten-noted older rows key value

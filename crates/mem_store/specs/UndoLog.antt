@@ -1,15 +1,17 @@
 -- How savepoints are held without copies: what changed since is noted, and one is the own writes with the changes behind it undone.
 use Rattle.std.specs.Prelude.{ℤ, ℕ, ◌≤◌, ◌==◌, nat_lt, is_some, if◌then◌else◌, Option, Some, None, List, [], ◌∷◌, length, map}
-use Rattle.std.specs.FinMap.{get, insert, remove}
-use Rattle.sqlx_savepoints.specs.Rows.{Writes}
+use Rattle.std.specs.FinMap.{FinMap, get, insert, remove}
+use Rattle.std.specs.Ordering.{int_cmp}
+use Rattle.sqlx_savepoints.specs.Rows.{Rows, Writes}
 use Rattle.sqlx_savepoints.specs.NamedSavepoints.{Entry}
 use Rattle.mem_store.specs.declared.saved.Saved.{Saved}
 use Rattle.mem_store.specs.declared.saved.Change.{Change}
+use Rattle.mem_store.specs.declared.saved.Overwrite.{Overwrite}
 
--- what stood at the key is put back: nothing, or a write in place of the one that is there
-abbrev pub put_back : ℤ → Option (Option ℤ) → Writes → Writes
-put_back key None own = remove own key
-put_back key (Some value) own = if is_some (get own key) then insert own key value else own
+-- what stood at the key is put back: nothing, or a value in place of the one that is there
+abbrev pub put_back : {X : Type 0} → ℤ → Option X → FinMap int_cmp X → FinMap int_cmp X
+put_back key None values = remove values key
+put_back key (Some value) values = if is_some (get values key) then insert values key value else values
 
 -- the own writes as they stood when so many changes were noted; the newest is noted first
 abbrev pub as_of : ℕ → List Change → Writes → Writes
@@ -37,3 +39,22 @@ from_name name (top ∷ older) = if name == top.name then top ∷ older else fro
 abbrev pub first_mark : List Saved → Option ℕ
 first_mark [] = None
 first_mark (top ∷ older) = Some top.mark
+
+-- ---- rows that are written in place
+
+-- the rows as they stood before these overwrites, the newest first
+abbrev pub unwritten : List Overwrite → Rows → Rows
+unwritten [] rows = rows
+unwritten (newest ∷ older) rows = unwritten older (put_back newest.key newest.before rows)
+
+-- the rows after the values among these writes were inserted
+abbrev pub values_inserted : List (ℤ × Option ℤ) → Rows → Rows
+values_inserted [] rows = rows
+values_inserted ((key, Some value) ∷ writes) rows = values_inserted writes (insert rows key value)
+values_inserted ((key, None) ∷ writes) rows = values_inserted writes rows
+
+-- the rows after the deletions among these writes were done
+abbrev pub deletions_done : List (ℤ × Option ℤ) → Rows → Rows
+deletions_done [] rows = rows
+deletions_done ((key, Some value) ∷ writes) rows = deletions_done writes rows
+deletions_done ((key, None) ∷ writes) rows = deletions_done writes (remove rows key)

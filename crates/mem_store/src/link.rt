@@ -159,7 +159,7 @@ impl StoreLink {
         ensures link { OnOk result (self.new ≡ at_rest self.old) }
         ensures err { OnErr result ((rows.new ≡ rows.old) × (self.new ≡ self.old)) }
     {
-        *rows = self.laid_over(rows)?;
+        self.stack.lay_over(rows)?;
         self.end();
         Ok(())
     }

@@ -13,3 +13,10 @@ pub(crate) struct Change {
     pub(crate) key: i64,
     pub(crate) before: Option<Option<i64>>,
 }
+
+/// A row that was overwritten: its key, and its value before, if any.
+#[derive(Clone, Copy)]
+pub(crate) struct Overwrite {
+    pub(crate) key: i64,
+    pub(crate) before: Option<i64>,
+}

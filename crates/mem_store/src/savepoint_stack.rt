@@ -67,6 +67,14 @@ impl SavepointStack {
         self.own.get(key)
     }
 
+    /// Lays the own writes over the rows, in place. Where memory is wanting the rows are as before.
+    pub(crate) fn lay_over(&self, rows: &mut Rows) -> Result<(), OutOfMemory>
+        ensures ok { OnOk result (rows.new ≡ laid self.now.own rows.old) }
+        ensures err { OnErr result (rows.new ≡ rows.old) }
+    {
+        self.own.lay_over(rows)
+    }
+
     /// New rows: the own writes laid over the given ones.
     pub(crate) fn laid_over(&self, rows: &Rows) -> Result<Rows, OutOfMemory>
         ensures { IfOk result (λ made. made ≡ laid self.now.own rows.now) }

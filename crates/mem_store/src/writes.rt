@@ -1,19 +1,21 @@
 //! A connection's own writes.
-ghost use Rattle.std.specs.Prelude.{◌≡◌, IfOk, OnOk, OnErr};
+ghost use Rattle.std.specs.Prelude.{◌≡◌, ◌∷◌, [], IfOk, OnOk, OnErr};
 ghost use Rattle.std.specs.FinMap as finite;
 ghost use Rattle.sqlx_savepoints.specs.Rows.{laid, written};
-ghost use Rattle.mem_store.specs.UndoLog.{put_back};
+ghost use Rattle.mem_store.specs.UndoLog.{deletions_done, put_back, unwritten, values_inserted};
 
 use crate::rows::Rows;
+use crate::saved::Overwrite;
 use sqlx_text::OutOfMemory;
 use std::alloc::Global;
-use std::collections::BTreeMap;
+use std::collections::{BTreeMap, VecDeque};
 use std::marker::Model;
 
 /// Writes that aren't committed: for each key the value, or none where it was deleted.
 #[derive(Drop)]
 pub(crate) struct Writes {
     tree: BTreeMap<i64, Option<i64>>,
+    alloc: Global,
 }
 
 impl Model for Writes {
@@ -35,6 +37,7 @@ impl Writes {
     {
         Writes {
             tree: BTreeMap::new(alloc),
+            alloc,
         }
     }
 
@@ -81,10 +84,52 @@ impl Writes {
         ensures { IfOk result (λ made. made ≡ laid self.now rows.now) }
     {
         let mut made = rows.try_clone()?;
-        for pair in self.tree.iter() {
-            write_pair(&mut made, pair)?;
+        match self.lay_over(&mut made) {
+            Ok(()) => Ok(made),
+            Err(error) => Err(error),
         }
-        Ok(made)
+    }
+
+    /// Lays these writes over the rows, in place. Where memory is wanting the rows are as before:
+    /// all that takes memory comes first, and is undone, which takes none.
+    #[tactic(auto, using(crate::proofs::Trees::in_place_laid))]
+    pub(crate) fn lay_over(&self, rows: &mut Rows) -> Result<(), OutOfMemory>
+        ensures ok { OnOk result (rows.new ≡ laid self.now rows.old) }
+        ensures err { OnErr result (rows.new ≡ rows.old) }
+    {
+        let mut noted = VecDeque::new(self.alloc);
+        match self.insert_values(rows, &mut noted) {
+            Ok(()) => {
+                self.do_deletions(rows);
+                Ok(())
+            }
+            Err(error) => {
+                unwrite(rows, &mut noted);
+                Err(error)
+            }
+        }
+    }
+
+    fn insert_values(
+        &self,
+        rows: &mut Rows,
+        noted: &mut VecDeque<Overwrite>,
+    ) -> Result<(), OutOfMemory>
+        ensures ok { OnOk result (rows.new ≡ values_inserted (finite.entries self.now) rows.old) }
+        ensures undo { unwritten noted.new.items rows.new ≡ unwritten noted.old.items rows.old }
+    {
+        for pair in self.tree.iter() {
+            insert_pair(rows, noted, pair)?;
+        }
+        Ok(())
+    }
+
+    fn do_deletions(&self, rows: &mut Rows)
+        ensures { rows.new ≡ deletions_done (finite.entries self.now) rows.old }
+    {
+        for pair in self.tree.iter() {
+            delete_pair(rows, pair);
+        }
     }
 }
 
@@ -102,9 +147,58 @@ pub(crate) fn write(rows: &mut Rows, key: i64, value: Option<i64>) -> Result<(),
     }
 }
 
-fn write_pair(rows: &mut Rows, pair: (&i64, &Option<i64>)) -> Result<(), OutOfMemory>
-    ensures ok { OnOk result (rows.new ≡ written pair.entry.0.now pair.entry.1.now rows.old) }
+/// A value into rows; what it overwrites is noted.
+fn overwrite(
+    rows: &mut Rows,
+    noted: &mut VecDeque<Overwrite>,
+    key: i64,
+    value: i64,
+) -> Result<(), OutOfMemory>
+    ensures ok { OnOk result (rows.new ≡ finite.insert rows.old key value) }
+    ensures undo { unwritten noted.new.items rows.new ≡ unwritten noted.old.items rows.old }
+{
+    let before = rows.get(key);
+    if noted.push_front(Overwrite { key, before }).is_err() {
+        return Err(OutOfMemory);
+    }
+    match rows.insert(key, value) {
+        Ok(()) => Ok(()),
+        Err(error) => {
+            let _ = noted.pop_front();
+            Err(error)
+        }
+    }
+}
+
+fn insert_pair(
+    rows: &mut Rows,
+    noted: &mut VecDeque<Overwrite>,
+    pair: (&i64, &Option<i64>),
+) -> Result<(), OutOfMemory>
+    ensures ok { OnOk result (rows.new ≡ values_inserted ((pair.entry.0.now, pair.entry.1.now) ∷ []) rows.old) }
+    ensures undo { unwritten noted.new.items rows.new ≡ unwritten noted.old.items rows.old }
 {
     let (key, value) = pair;
-    write(rows, *key, *value)
+    match *value {
+        Some(value) => overwrite(rows, noted, *key, value),
+        None => Ok(()),
+    }
+}
+
+fn delete_pair(rows: &mut Rows, pair: (&i64, &Option<i64>))
+    ensures { rows.new ≡ deletions_done ((pair.entry.0.now, pair.entry.1.now) ∷ []) rows.old }
+{
+    let (key, value) = pair;
+    if value.is_none() {
+        rows.remove(*key);
+    }
+}
+
+/// Undoes what was noted, the newest first.
+fn unwrite(rows: &mut Rows, noted: &mut VecDeque<Overwrite>)
+    ensures { rows.new ≡ unwritten noted.old.items rows.old }
+{
+    while let Some(overwrite) = noted.pop_front() {
+        rows.put_back(overwrite.key, overwrite.before);
+    }
 }

@@ -8,3 +8,4 @@ pub mod Laws
 pub mod Backoff
 pub mod EventTable
 pub mod PollTable
+pub mod Answers

@@ -22,6 +22,7 @@ pub mod AskCode
 pub mod KeepingCode
 pub mod Moving
 pub mod KeepingAtMarks
+pub mod AnswersAtMarks
 mod EventRows
 pub mod WholePoll
 pub mod PollOutcome

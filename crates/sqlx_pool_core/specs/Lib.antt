@@ -18,3 +18,5 @@ pub mod KeepingSteps
 pub mod Moves
 pub mod KeepWith
 pub mod ToldTries
+pub mod Answers
+pub mod Logs

@@ -1,7 +1,12 @@
 //! The state of a pool, and the questions that change nothing. The steps stand in the modules below.
+//! Where a public step is one call of an inner one, the inner one says what it does by the core's own lists, and the
+//! public one concludes from that what it says by marks.
 
 ghost use Rattle.std.specs.Prelude.{◌≡◌, ℕ, ◌+◌, ◌<◌, ◌≤◌, max, List, [], Option, Some, None, IfOk, length, if◌then◌else◌, not};
 ghost use Rattle.sqlx_log.specs.declared.mark.Mark.{Mark};
+ghost use Rattle.sqlx_log.specs.Marks.{idle_of};
+ghost use Rattle.sqlx_log.specs.EventTable.{size_at};
+ghost use Rattle.sqlx_pool_core.specs.Logs.{moment_of};
 ghost use Rattle.sqlx_pool_core.specs.Core.{waiting, gone, free, size};
 ghost use Rattle.sqlx_pool_core.specs.Moves.{due, IsBounded};
 ghost use Rattle.sqlx_pool_core.specs.Sound.{IsSound};
@@ -99,7 +104,8 @@ impl<C> PoolCore<C> {
     /// How many connections there are or may be: idle, owned and leaked ones, and one for each ticket that has
     /// left the line and for each place that is held for the minimum.
     pub fn size(&self) -> u32
-        ensures { result ≡ size self.now }
+        ensures marks { (marks : List Mark) → StandsFor self.now marks → result ≡ size_at self.now.places marks }
+        ensures own { result ≡ size self.now }
     {
         let size = self.idle.len() + self.held.len() + lists::gone_of(&self.tickets);
         size as u32 + self.leaked + self.places
@@ -107,14 +113,15 @@ impl<C> PoolCore<C> {
 
     /// How many connections are idle.
     pub fn num_idle(&self) -> usize
-        ensures { result ≡ length self.now.idle }
+        ensures marks { (marks : List Mark) → StandsFor self.now marks → result ≡ length (idle_of marks) }
+        ensures own { result ≡ length self.now.idle }
     {
         self.idle.len()
     }
 
     /// The moment that a step goes by: one below the last moment counts as the last one.
     pub fn moment(&self, now: Moment) -> Moment
-        ensures moment { result.0 ≡ max self.now.last now.0 }
+        ensures moment { result.0 ≡ moment_of self.now now }
         ensures sound { IsSound self.now }
     {
         Moment(self.last.0.max(now.0))

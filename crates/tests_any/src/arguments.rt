@@ -69,27 +69,26 @@ where
 #[test]
 fn numbers_are_arguments(rt: HostRuntime) -> Result<(), Fail> {
     let alloc = rt.alloc();
-    for (answer, want) in [
-        (
-            argument::<bool>(alloc, true),
-            "bool BOOLEAN false 1 false Bool true|Bool true|Null BOOLEAN|false true",
-        ),
-        (
-            argument::<i16>(alloc, -5),
-            "i16 SMALLINT true 2 false SmallInt -5|SmallInt -5|Null SMALLINT|false true",
-        ),
-        (
-            argument::<i32>(alloc, 5),
-            "i32 INTEGER true 4 false Integer 5|Integer 5|Null INTEGER|false true",
-        ),
-        (
-            argument::<i64>(alloc, 70_000),
-            "i64 BIGINT true 8 false BigInt 70000|BigInt 70000|Null BIGINT|false true",
-        ),
-    ] {
-        says(&rt, answer, want)?;
-    }
-    Ok(())
+    says(
+        &rt,
+        argument::<bool>(alloc, true),
+        "bool BOOLEAN false 1 false Bool true|Bool true|Null BOOLEAN|false true",
+    )?;
+    says(
+        &rt,
+        argument::<i16>(alloc, -5),
+        "i16 SMALLINT true 2 false SmallInt -5|SmallInt -5|Null SMALLINT|false true",
+    )?;
+    says(
+        &rt,
+        argument::<i32>(alloc, 5),
+        "i32 INTEGER true 4 false Integer 5|Integer 5|Null INTEGER|false true",
+    )?;
+    says(
+        &rt,
+        argument::<i64>(alloc, 70_000),
+        "i64 BIGINT true 8 false BigInt 70000|BigInt 70000|Null BIGINT|false true",
+    )
 }
 
 #[test]
@@ -97,27 +96,26 @@ fn texts_and_bytes_are_arguments(rt: HostRuntime) -> Result<(), Fail> {
     let alloc = rt.alloc();
     let owned = cells::owned(alloc)?;
     let bytes = cells::bytes(alloc)?;
-    for (answer, want) in [
-        (
-            argument::<&str>(alloc, "milk"),
-            "&str TEXT false 4 false Text milk|Text milk|Null TEXT|false true",
-        ),
-        (
-            argument::<String>(alloc, owned),
-            "String TEXT false 1 false Text x|Text x|Null TEXT|false true",
-        ),
-        (
-            argument::<&[u8]>(alloc, &[1, 2]),
-            "&[u8] BLOB false 2 false Blob [1, 2]|Blob [1, 2]|Null BLOB|false true",
-        ),
-        (
-            argument::<Vec<u8>>(alloc, bytes),
-            "Vec<u8> BLOB false 2 false Blob [1, 2]|Blob [1, 2]|Null BLOB|false true",
-        ),
-    ] {
-        says(&rt, answer, want)?;
-    }
-    Ok(())
+    says(
+        &rt,
+        argument::<&str>(alloc, "milk"),
+        "&str TEXT false 4 false Text milk|Text milk|Null TEXT|false true",
+    )?;
+    says(
+        &rt,
+        argument::<String>(alloc, owned),
+        "String TEXT false 1 false Text x|Text x|Null TEXT|false true",
+    )?;
+    says(
+        &rt,
+        argument::<&[u8]>(alloc, &[1, 2]),
+        "&[u8] BLOB false 2 false Blob [1, 2]|Blob [1, 2]|Null BLOB|false true",
+    )?;
+    says(
+        &rt,
+        argument::<Vec<u8>>(alloc, bytes),
+        "Vec<u8> BLOB false 2 false Blob [1, 2]|Blob [1, 2]|Null BLOB|false true",
+    )
 }
 
 #[test]

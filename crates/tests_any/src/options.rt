@@ -74,15 +74,10 @@ fn of_none(alloc: Global) -> Result<String, Error> {
 #[test]
 fn options_set_the_log(rt: HostRuntime) -> Result<(), Fail> {
     let alloc = rt.alloc();
-    for (answer, want) in [
-        (at_first(alloc), "Debug Warn 1000000000"),
-        (of_statements(alloc), "Info Warn 1000000000"),
-        (of_slow_statements(alloc), "Debug Error 5"),
-        (of_none(alloc), "Off Off 0"),
-    ] {
-        says(&rt, answer, want)?;
-    }
-    Ok(())
+    says(&rt, at_first(alloc), "Debug Warn 1000000000")?;
+    says(&rt, of_statements(alloc), "Info Warn 1000000000")?;
+    says(&rt, of_slow_statements(alloc), "Debug Error 5")?;
+    says(&rt, of_none(alloc), "Off Off 0")
 }
 
 // The depth of a connection that a URL opens, and that it can be closed.
@@ -100,15 +95,11 @@ where
 #[test]
 fn options_open_connections(rt: HostRuntime) -> Result<(), Fail> {
     let alloc = rt.alloc();
-    for (answer, want) in [
-        (opened::<Toy>(alloc, "toy:t1"), "0"),
-        (opened::<Any<StubBackend>>(alloc, "stub:i1"), "0"),
-        (
-            opened::<Any<StubBackend>>(alloc, "stub:"),
-            "error communicating with database: connection refused",
-        ),
-    ] {
-        says(&rt, answer, want)?;
-    }
-    Ok(())
+    says(&rt, opened::<Toy>(alloc, "toy:t1"), "0")?;
+    says(&rt, opened::<Any<StubBackend>>(alloc, "stub:i1"), "0")?;
+    says(
+        &rt,
+        opened::<Any<StubBackend>>(alloc, "stub:"),
+        "error communicating with database: connection refused",
+    )
 }

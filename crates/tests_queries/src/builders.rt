@@ -68,17 +68,13 @@ fn listed(alloc: Global) -> Result<String, Error> {
 fn pushes_pieces(rt: HostRuntime) -> Result<(), Fail> {
     let alloc = rt.alloc();
     let want = "SELECT $1 WHERE a = $2 LIMIT 30 kept|9|x: ToyQueryResult(2)";
-    for (answer, want) in [
-        (pushed(alloc), want),
-        (tried(alloc), want),
-        (
-            listed(alloc),
-            "SELECT $1 IN (a,$2,$3$4) kept|9|5|6|7: ToyQueryResult(2)",
-        ),
-    ] {
-        says(&rt, answer, want)?;
-    }
-    Ok(())
+    says(&rt, pushed(alloc), want)?;
+    says(&rt, tried(alloc), want)?;
+    says(
+        &rt,
+        listed(alloc),
+        "SELECT $1 IN (a,$2,$3$4) kept|9|5|6|7: ToyQueryResult(2)",
+    )
 }
 
 // Binds both numbers of each pair.
@@ -154,71 +150,65 @@ fn tuples(alloc: Global, count: usize) -> Result<String, Error> {
 #[test]
 fn pushes_tuples(rt: HostRuntime) -> Result<(), Fail> {
     let alloc = rt.alloc();
-    for (answer, want) in [
-        (
-            values(alloc, 2),
-            "INSERT $1 VALUES ($2, $3), ($4, $5) kept|9|1|2|3|4: ToyQueryResult(2)",
-        ),
-        (
-            values(alloc, 0),
-            "INSERT $1 VALUES  kept|9: ToyQueryResult(2)",
-        ),
-        (
-            tuples(alloc, 2),
-            "SELECT $1 IN (($2, $3), ($4, $5))  kept|9|1|2|3|4: ToyQueryResult(2)",
-        ),
-        (
-            tuples(alloc, 0),
-            "SELECT $1 IN ()  kept|9: ToyQueryResult(2)",
-        ),
-    ] {
-        says(&rt, answer, want)?;
-    }
-    Ok(())
+    says(
+        &rt,
+        values(alloc, 2),
+        "INSERT $1 VALUES ($2, $3), ($4, $5) kept|9|1|2|3|4: ToyQueryResult(2)",
+    )?;
+    says(
+        &rt,
+        values(alloc, 0),
+        "INSERT $1 VALUES  kept|9: ToyQueryResult(2)",
+    )?;
+    says(
+        &rt,
+        tuples(alloc, 2),
+        "SELECT $1 IN (($2, $3), ($4, $5))  kept|9|1|2|3|4: ToyQueryResult(2)",
+    )?;
+    says(
+        &rt,
+        tuples(alloc, 0),
+        "SELECT $1 IN ()  kept|9: ToyQueryResult(2)",
+    )
 }
 
-fn refused_value(alloc: Global) -> Result<[String; 2], Error> {
+fn refused_value(alloc: Global) -> Result<String, Error> {
     let mut builder = started(alloc, "SELECT $1")?;
     let answer = taken(alloc, builder.try_push_bind(alloc, true))?;
-    Ok([answer, run(alloc, &mut builder)?])
+    let asked = run(alloc, &mut builder)?;
+    Ok(format!(in alloc; "{answer}; {asked}")?)
 }
 
-fn refused_values(alloc: Global) -> Result<[String; 2], Error> {
+fn refused_values(alloc: Global) -> Result<String, Error> {
     let pairs = pairs(alloc, 2)?;
     let mut builder = started(alloc, "SELECT $1")?;
     let answer = taken(
         alloc,
         builder.try_push_values(alloc, pairs.into_iter(), HalfPairs),
     )?;
-    Ok([answer, run(alloc, &mut builder)?])
+    let asked = run(alloc, &mut builder)?;
+    Ok(format!(in alloc; "{answer}; {asked}")?)
 }
 
-fn refused_tuples(alloc: Global) -> Result<[String; 2], Error> {
+fn refused_tuples(alloc: Global) -> Result<String, Error> {
     let pairs = pairs(alloc, 2)?;
     let mut builder = started(alloc, "SELECT $1")?;
     let answer = taken(
         alloc,
         builder.try_push_tuples(alloc, pairs.into_iter(), HalfPairs),
     )?;
-    Ok([answer, run(alloc, &mut builder)?])
+    let asked = run(alloc, &mut builder)?;
+    Ok(format!(in alloc; "{answer}; {asked}")?)
 }
 
 #[test]
 fn a_refusal_leaves_the_builder(rt: HostRuntime) -> Result<(), Fail> {
     let alloc = rt.alloc();
-    let answers = [
-        refused_value(alloc)?,
-        refused_values(alloc)?,
-        refused_tuples(alloc)?,
-    ];
-    for [answer, ran] in answers {
-        assert_eq!(rt;
-            answer.as_str(),
-            "out of range integral type conversion attempted"
-        );
-        assert_eq!(rt; ran.as_str(), "SELECT $1 kept|9: ToyQueryResult(2)");
-    }
-    Ok(())
+    let want =
+        "out of range integral type conversion attempted; SELECT $1 kept|9: ToyQueryResult(2)";
+    says(&rt, refused_value(alloc), want)?;
+    says(&rt, refused_values(alloc), want)?;
+    says(&rt, refused_tuples(alloc), want)
 }
 
 fn built_as(alloc: Global) -> Result<String, Error> {
@@ -254,19 +244,16 @@ fn texts(alloc: Global) -> Result<String, Error> {
 fn builds_queries(rt: HostRuntime) -> Result<(), Fail> {
     let alloc = rt.alloc();
     placeholders_are_arguments::<Toy>();
-    for (answer, want) in [
-        (built_as(alloc), "SELECT $1 kept|9: (7,)"),
-        (built_scalar(alloc), "SELECT $1 kept|9: 7"),
-        (
-            built_anew(alloc),
-            "true SELECT kept: ToyQueryResult(2) SELECT",
-        ),
-        (
-            texts(alloc),
-            "SqlStr { text: \"SELECT $1\" } SqlStr { text: \"SELECT $1\" }",
-        ),
-    ] {
-        says(&rt, answer, want)?;
-    }
-    Ok(())
+    says(&rt, built_as(alloc), "SELECT $1 kept|9: (7,)")?;
+    says(&rt, built_scalar(alloc), "SELECT $1 kept|9: 7")?;
+    says(
+        &rt,
+        built_anew(alloc),
+        "true SELECT kept: ToyQueryResult(2) SELECT",
+    )?;
+    says(
+        &rt,
+        texts(alloc),
+        "SqlStr { text: \"SELECT $1\" } SqlStr { text: \"SELECT $1\" }",
+    )
 }

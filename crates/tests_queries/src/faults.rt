@@ -71,20 +71,17 @@ fn of_scalar(alloc: Global) -> Result<String, Error> {
 #[test]
 fn a_refused_try_is_forgotten(rt: HostRuntime) -> Result<(), Fail> {
     let alloc = rt.alloc();
-    for (answer, want) in [
-        (
-            tried(alloc),
-            "out of range integral type conversion attempted, SELECT kept|9: ToyQueryResult(2)",
-        ),
-        (
-            tried_behind_a_fault(alloc),
-            "A previous call to Query::bind produced an error",
-        ),
-        (of_scalar(alloc), FIRST),
-    ] {
-        says(&rt, answer, want)?;
-    }
-    Ok(())
+    says(
+        &rt,
+        tried(alloc),
+        "out of range integral type conversion attempted, SELECT kept|9: ToyQueryResult(2)",
+    )?;
+    says(
+        &rt,
+        tried_behind_a_fault(alloc),
+        "A previous call to Query::bind produced an error",
+    )?;
+    says(&rt, of_scalar(alloc), FIRST)
 }
 
 fn given() -> Result<ToyArguments, Fault> {
@@ -109,8 +106,7 @@ fn scalar_with(alloc: Global) -> Result<String, Error> {
 #[test]
 fn tells_a_given_fault(rt: HostRuntime) -> Result<(), Fail> {
     let alloc = rt.alloc();
-    for answer in [with(alloc), as_with(alloc), scalar_with(alloc)] {
-        says(&rt, answer, OUT_OF_RANGE)?;
-    }
-    Ok(())
+    says(&rt, with(alloc), OUT_OF_RANGE)?;
+    says(&rt, as_with(alloc), OUT_OF_RANGE)?;
+    says(&rt, scalar_with(alloc), OUT_OF_RANGE)
 }

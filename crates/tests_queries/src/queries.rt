@@ -73,12 +73,7 @@ fn unkept(alloc: Global) -> Result<String, Error> {
 #[test]
 fn queries_have_their_arguments(rt: HostRuntime) -> Result<(), Fail> {
     let alloc = rt.alloc();
-    for (answer, want) in [
-        (with(alloc), "UPDATE kept|6|7: ToyQueryResult(1)"),
-        (with_result(alloc), "UPDATE kept|8: ToyQueryResult(1)"),
-        (unkept(alloc), "UPDATE|9: ToyQueryResult(1)"),
-    ] {
-        says(&rt, answer, want)?;
-    }
-    Ok(())
+    says(&rt, with(alloc), "UPDATE kept|6|7: ToyQueryResult(1)")?;
+    says(&rt, with_result(alloc), "UPDATE kept|8: ToyQueryResult(1)")?;
+    says(&rt, unkept(alloc), "UPDATE|9: ToyQueryResult(1)")
 }

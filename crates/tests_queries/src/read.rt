@@ -86,15 +86,10 @@ fn scalar_with_result(alloc: Global) -> Result<String, Error> {
 #[test]
 fn reads_with_arguments(rt: HostRuntime) -> Result<(), Fail> {
     let alloc = rt.alloc();
-    for (answer, want) in [
-        (as_with(alloc), "SELECT kept|6: (7,)"),
-        (as_with_result(alloc), "SELECT kept|7: (7,)"),
-        (scalar_with(alloc), "SELECT kept|8: 7"),
-        (scalar_with_result(alloc), "SELECT kept|9: 7"),
-    ] {
-        says(&rt, answer, want)?;
-    }
-    Ok(())
+    says(&rt, as_with(alloc), "SELECT kept|6: (7,)")?;
+    says(&rt, as_with_result(alloc), "SELECT kept|7: (7,)")?;
+    says(&rt, scalar_with(alloc), "SELECT kept|8: 7")?;
+    says(&rt, scalar_with_result(alloc), "SELECT kept|9: 7")
 }
 
 fn note(alloc: Global, letters: &str) -> Result<String, Error> {
@@ -107,17 +102,14 @@ fn note(alloc: Global, letters: &str) -> Result<String, Error> {
 #[test]
 fn reads_a_struct(rt: HostRuntime) -> Result<(), Fail> {
     let alloc = rt.alloc();
-    for (answer, want) in [
-        (
-            note(alloc, "lt"),
-            "SELECT kept: Note { number: 7, title: \"x\" }",
-        ),
-        (
-            note(alloc, "l"),
-            "SELECT kept: column index out of bounds: the len is 1, but the index is 1",
-        ),
-    ] {
-        says(&rt, answer, want)?;
-    }
-    Ok(())
+    says(
+        &rt,
+        note(alloc, "lt"),
+        "SELECT kept: Note { number: 7, title: \"x\" }",
+    )?;
+    says(
+        &rt,
+        note(alloc, "l"),
+        "SELECT kept: column index out of bounds: the len is 1, but the index is 1",
+    )
 }

@@ -65,14 +65,12 @@ fn a_statement_is_asked(rt: HostRuntime) -> Result<(), Fail> {
         (Ask::Call, "SELECT kept prepared"),
         (Ask::CallWith, "SELECT kept prepared|3"),
     ] {
-        for (answer, given) in [
-            (rows(alloc, ask, &statement), "ToyQueryResult(2)"),
-            (values(alloc, ask, &statement), "(7,)"),
-            (scalars(alloc, ask, &statement), "7"),
-        ] {
-            let want = format!(in alloc; "{asked}: {given}")?;
-            says(&rt, answer, want.as_str())?;
-        }
+        let result = format!(in alloc; "{asked}: ToyQueryResult(2)")?;
+        says(&rt, rows(alloc, ask, &statement), result.as_str())?;
+        let tuple = format!(in alloc; "{asked}: (7,)")?;
+        says(&rt, values(alloc, ask, &statement), tuple.as_str())?;
+        let number = format!(in alloc; "{asked}: 7")?;
+        says(&rt, scalars(alloc, ask, &statement), number.as_str())?;
     }
     Ok(())
 }

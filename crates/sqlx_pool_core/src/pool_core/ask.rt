@@ -1,7 +1,12 @@
 //! The steps before and beside a poll: asking, cancelling, and lending past the line.
 
-ghost use Rattle.std.specs.Prelude.{◌≡◌, ℕ, ◌+◌, ◌<◌, ◌≤◌, ◌^◌, ◌↔◌, max, List, [], ◌∷◌, Option, Some, None, IfOk, OnOk, OnErr, IfErr, length, true, false, ◌⊎◌};
+ghost use Rattle.std.specs.Prelude.{◌≡◌, ℕ, ◌+◌, ◌<◌, ◌≤◌, ◌^◌, ◌↔◌, max, List, [], ◌∷◌, Option, Some, None, IfOk, OnOk, OnErr, IfErr, length, true, false, not, ◌&&◌, is_some, option_map, ◌⊎◌};
 ghost use Rattle.sqlx_text.specs.declared.Error.{Error};
+ghost use Rattle.sqlx_log.specs.Marks.{is_open, tickets_of, next_ticket};
+ghost use Rattle.sqlx_log.specs.Counts.{asked_in};
+ghost use Rattle.sqlx_log.specs.Answers.{lent_past_at};
+ghost use Rattle.sqlx_pool_core.specs.Logs.{Logs, moment_of};
+ghost use Rattle.sqlx_pool_core.specs.Answers.{is_busy, lent_conn};
 ghost use Rattle.sqlx_pool_core.specs.Core.{waiting, free};
 ghost use Rattle.sqlx_log.specs.declared.mark.Mark.{Mark};
 ghost use Rattle.sqlx_pool_core.specs.Makes.{Makes};
@@ -23,13 +28,15 @@ impl<C> PoolCore<C> {
     /// Asks for a connection: the client gets a ticket, which stands in the line until it is served, ends or is
     /// cancelled. Its deadline is this moment and the acquire timeout.
     pub fn ask(&mut self, _alloc: Global, now: Moment, client: u32) -> Result<u64, Error>
+        // By the marks: the pool is open, and the ticket has the number that comes next.
+        ensures marks { (marks : List Mark) → StandsFor self.old marks → IfOk result (λ ticket. (is_open marks ≡ true) × (ticket ≡ next_ticket marks)) }
         ensures numbered { IfOk result (λ ticket. ticket ≡ self.old.next_ticket) }
         ensures closed { (result ≡ Err Error.PoolClosed) ↔ (self.old.shut ≡ true) }
         ensures exhausted { (result ≡ Err Error.Exhausted) ↔ ((self.old.shut ≡ false) × (2 ^ 63 < self.old.next_ticket)) }
         ensures causes { IfErr result (λ e. (e ≡ Error.PoolClosed) ⊎ ((e ≡ Error.Exhausted) ⊎ (e ≡ Error.OutOfMemory))) }
-        ensures makes { (marks : List Mark) → StandsFor self.old marks → IfOk result (λ ticket. Makes self.old.options.max_connections marks (Mark.Asked ticket client (max self.old.last now.0 + self.old.options.acquire_timeout) ∷ []) self.new) }
-        ensures moves { IfOk result (λ ticket. Moves self.old self.new (Mark.Asked ticket client (max self.old.last now.0 + self.old.options.acquire_timeout) ∷ []) 0 ask_room) }
-        ensures becomes { OnOk result (self.new ≡ at_moment (max self.old.last now.0) (asked client (max self.old.last now.0 + self.old.options.acquire_timeout) self.old)) }
+        ensures makes { (marks : List Mark) → StandsFor self.old marks → IfOk result (λ ticket. Makes self.old.options.max_connections marks (Mark.Asked ticket client (moment_of self.old now + self.old.options.acquire_timeout) ∷ []) self.new) }
+        ensures moves { IfOk result (λ ticket. Moves self.old self.new (Mark.Asked ticket client (moment_of self.old now + self.old.options.acquire_timeout) ∷ []) 0 ask_room) }
+        ensures becomes { OnOk result (self.new ≡ at_moment (moment_of self.old now) (asked client (moment_of self.old now + self.old.options.acquire_timeout) self.old)) }
         ensures err { OnErr result (self.new ≡ self.old) }
     {
         if self.shut {
@@ -73,8 +80,10 @@ impl<C> PoolCore<C> {
 
     /// Ends a ticket that waits or is in backoff, and frees what it held. Otherwise nothing changes.
     pub fn cancel(&mut self, client: u32, ticket: u64) -> bool
+        // By the marks: the client has such a ticket, and no step of it is under way.
+        ensures marks { (marks : List Mark) → StandsFor self.old marks → result ≡ (is_some (asked_in client ticket (tickets_of marks)) && not (is_busy (phase_for client ticket self.old.tickets))) }
         ensures answer { result ≡ may_cancel (phase_for client ticket self.old.tickets) }
-        ensures makes { (marks : List Mark) → StandsFor self.old marks → Makes self.old.options.max_connections marks (cancel_marks ticket result) self.new }
+        ensures makes { Logs self.old (cancel_marks ticket result) self.new }
         ensures moves { Moves self.old self.new (cancel_marks ticket result) 0 0 }
         ensures becomes { self.new ≡ cancelled ticket result self.old }
     {
@@ -107,10 +116,11 @@ impl<C> PoolCore<C> {
     /// Lends the first idle connection past the line, without a test: where the pool is open, a connection is
     /// idle, and fewer tickets wait than permits are free. Otherwise nothing changes.
     pub fn try_acquire(&mut self, now: Moment, client: u32) -> Option<Lent<C>>
+        ensures marks { (marks : List Mark) → StandsFor self.old marks → option_map lent_conn result ≡ lent_past_at self.old.options.max_connections self.old.places marks }
         ensures answer { result ≡ try_lent (may_pass self.old.shut (waiting self.old.tickets) (free self.old)) self.old.idle }
-        ensures makes { (marks : List Mark) → StandsFor self.old marks → Makes self.old.options.max_connections marks (try_marks client result) self.new }
+        ensures makes { Logs self.old (try_marks client result) self.new }
         ensures moves { Moves self.old self.new (try_marks client result) 0 (try_room result) }
-        ensures becomes { self.new ≡ after_try client (max self.old.last now.0) result self.old }
+        ensures becomes { self.new ≡ after_try client (moment_of self.old now) result self.old }
     {
         let moment = self.moment(now);
         self.lend_first(client, moment)

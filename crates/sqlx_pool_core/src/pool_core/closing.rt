@@ -5,6 +5,7 @@ ghost use Rattle.std.specs.VecDeque.{deque_capacity};
 ghost use Rattle.sqlx_log.specs.declared.mark.Mark.{Mark};
 ghost use Rattle.sqlx_log.specs.Marks.{is_open};
 ghost use Rattle.sqlx_log.specs.EventTable.{closed_at};
+ghost use Rattle.sqlx_pool_core.specs.Logs.{Logs};
 ghost use Rattle.sqlx_pool_core.specs.KeepingSteps.{idle_conn};
 ghost use Rattle.sqlx_pool_core.specs.KeepingSteps.{close_marks, close_answer, closed_from, close_state, close_state_of};
 ghost use Rattle.sqlx_pool_core.specs.Makes.{Makes};
@@ -22,7 +23,7 @@ impl<C> PoolCore<C> {
     /// their order, and the caller closes them. A second close gives none, and changes nothing.
     pub fn close(&mut self) -> VecDeque<Idle<C>>
         ensures marks { (marks : List Mark) → StandsFor self.old marks → map idle_conn result.items ≡ closed_at marks }
-        ensures makes { (marks : List Mark) → StandsFor self.old marks → Makes self.old.options.max_connections marks (close_marks self.old.shut result.items) self.new }
+        ensures makes { Logs self.old (close_marks self.old.shut result.items) self.new }
         ensures answer { result.items ≡ close_answer self.old.shut self.old.idle }
         ensures becomes { self.new ≡ closed_from self.old.shut self.old }
         ensures closed { self.new.shut ≡ true }

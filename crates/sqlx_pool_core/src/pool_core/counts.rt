@@ -1,7 +1,12 @@
 //! Who owns a connection, how many connections and tickets there are, and what a step would find.
 
-ghost use Rattle.std.specs.Prelude.{◌≡◌, length, is_some};
+ghost use Rattle.std.specs.Prelude.{◌≡◌, List, length, is_some};
+ghost use Rattle.sqlx_log.specs.declared.mark.Mark.{Mark};
+ghost use Rattle.sqlx_log.specs.Marks.{owner_of, tickets_of, loans_of, leaked_of, next_ticket, next_conn};
+ghost use Rattle.sqlx_log.specs.Counts.{asked_in};
 ghost use Rattle.sqlx_log.specs.EventTable.{may_pass};
+ghost use Rattle.sqlx_log.specs.Answers.{owns, lent_past_at, waits_if};
+ghost use Rattle.sqlx_pool_core.specs.StandsFor.{StandsFor};
 ghost use Rattle.sqlx_pool_core.specs.Core.{loan_of, waiting, free};
 ghost use Rattle.sqlx_pool_core.specs.PollSteps.{phase_for, is_in_line, try_lent};
 ghost use Rattle.sqlx_pool_core.specs.Sound.{IsSound};
@@ -14,6 +19,7 @@ use crate::ticket::Phase;
 impl<C> PoolCore<C> {
     /// Whether the client owns the connection of this number.
     pub fn owns(&self, client: u32, id: u64) -> bool
+        ensures marks { (marks : List Mark) → StandsFor self.now marks → result ≡ owns client (owner_of id marks) }
         ensures owns { result ≡ is_some (loan_of client id self.now.held) }
         ensures sound { IsSound self.now }
     {
@@ -22,27 +28,38 @@ impl<C> PoolCore<C> {
 
     /// How many connections have an owner.
     pub fn num_held(&self) -> usize
-        ensures { result ≡ length self.now.held }
+        ensures marks { (marks : List Mark) → StandsFor self.now marks → result ≡ length (loans_of marks) }
+        ensures own { result ≡ length self.now.held }
     {
         self.held.len()
     }
 
     /// How many connections were leaked.
     pub fn num_leaked(&self) -> u32
-        ensures { result ≡ self.now.leaked }
+        ensures marks { (marks : List Mark) → StandsFor self.now marks → result ≡ leaked_of marks }
+        ensures own { result ≡ self.now.leaked }
     {
         self.leaked
     }
 
     /// How many tickets haven't ended, those in backoff among them.
     pub fn num_tickets(&self) -> usize
-        ensures { result ≡ length self.now.tickets }
+        ensures marks { (marks : List Mark) → StandsFor self.now marks → result ≡ length (tickets_of marks) }
+        ensures own { result ≡ length self.now.tickets }
     {
         self.tickets.len()
     }
 
     /// Whether the client has a ticket of this number that stands in the line.
     pub fn waits(&self, client: u32, ticket: u64) -> bool
+        ensures marks { (marks : List Mark) → StandsFor self.now marks → result ≡ waits_if (asked_in client ticket (tickets_of marks)) }
+        ensures own { result ≡ is_in_line (phase_for client ticket self.now.tickets) }
+    {
+        self.finds_in_line(client, ticket)
+    }
+
+    // The client has such a ticket, and it stands in the line.
+    fn finds_in_line(&self, client: u32, ticket: u64) -> bool
         ensures { result ≡ is_in_line (phase_for client ticket self.now.tickets) }
     {
         match self.find(client, ticket) {
@@ -53,7 +70,8 @@ impl<C> PoolCore<C> {
 
     /// The numbers that the next ticket and the next connection get.
     pub fn numbers(&self) -> Numbers
-        ensures { result ≡ record { next_ticket = self.now.next_ticket; next_conn = self.now.next_conn } }
+        ensures marks { (marks : List Mark) → StandsFor self.now marks → result ≡ record { next_ticket = next_ticket marks; next_conn = next_conn marks } }
+        ensures own { result ≡ record { next_ticket = self.now.next_ticket; next_conn = self.now.next_conn } }
     {
         Numbers {
             next_ticket: self.next_ticket,
@@ -70,6 +88,14 @@ impl<C> PoolCore<C> {
 
     /// Whether `try_acquire` would lend a connection.
     pub fn may_lend(&self) -> bool
+        ensures marks { (marks : List Mark) → StandsFor self.now marks → result ≡ is_some (lent_past_at self.now.options.max_connections self.now.places marks) }
+        ensures own { result ≡ is_some (try_lent (may_pass self.now.shut (waiting self.now.tickets) (free self.now)) self.now.idle) }
+    {
+        self.lends_past()
+    }
+
+    // The line lets a connection pass, and one is idle.
+    fn lends_past(&self) -> bool
         ensures { result ≡ is_some (try_lent (may_pass self.now.shut (waiting self.now.tickets) (free self.now)) self.now.idle) }
     {
         self.may_pass() && !self.idle.is_empty()

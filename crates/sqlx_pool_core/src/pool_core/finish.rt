@@ -1,6 +1,9 @@
 //! The steps that end a poll: what a test and what a connect came to.
 
 ghost use Rattle.std.specs.Prelude.{◌≡◌, ℕ, ◌+◌, ◌-◌, ◌*◌, ◌/◌, ◌^◌, ◌<◌, ◌≤◌, max, min, List, [], ◌∷◌, Option, Some, None, IfSome, length, true, if◌then◌else◌, not};
+ghost use Rattle.std.specs.List.{list_any};
+ghost use Rattle.sqlx_log.specs.Marks.{is_shut, next_conn};
+ghost use Rattle.sqlx_pool_core.specs.Logs.{Logs, moment_of};
 ghost use Rattle.sqlx_pool_core.specs.Core.{ticket_of, is_out};
 ghost use Rattle.sqlx_pool_core.specs.declared.ticket.Phase.{Phase};
 ghost use Rattle.sqlx_log.specs.declared.mark.Mark.{Mark};
@@ -94,8 +97,9 @@ impl<C> PoolCore<C> {
     /// Tells what the test of an idle connection came to. The moment of opening is the one that the pool keeps,
     /// whatever `lent.created` says.
     pub fn finish_test(&mut self, client: u32, ticket: u64, verdict: Verdict<C>) -> AfterTest<C>
+        ensures marks { (marks : List Mark) → StandsFor self.old marks → result ≡ test_answer (tested_at (judged verdict) (phase_for client ticket self.old.tickets)) (list_any is_shut marks) verdict }
         ensures answer { result ≡ test_answer (tested_at (judged verdict) (phase_for client ticket self.old.tickets)) self.old.shut verdict }
-        ensures makes { (marks : List Mark) → StandsFor self.old marks → Makes self.old.options.max_connections marks (test_marks client ticket (judged verdict) result) self.new }
+        ensures makes { Logs self.old (test_marks client ticket (judged verdict) result) self.new }
         ensures moves { Moves self.old self.new (test_marks client ticket (judged verdict) result) 0 0 }
         ensures becomes { self.new ≡ after_test client ticket result self.old }
     {
@@ -180,10 +184,11 @@ impl<C> PoolCore<C> {
         now: Moment,
         tried: Tried<C>,
     ) -> AfterConnect<C>
-        ensures answer { result ≡ connect_answer (ticket_of client ticket self.old.tickets) self.old.shut self.old.next_conn (max self.old.last now.0) tried }
-        ensures makes { (marks : List Mark) → StandsFor self.old marks → Makes self.old.options.max_connections marks (connect_marks client ticket (max self.old.last now.0) result) self.new }
-        ensures moves { Moves self.old self.new (connect_marks client ticket (max self.old.last now.0) result) 0 0 }
-        ensures becomes { self.new ≡ after_connect client ticket (max self.old.last now.0) result self.old }
+        ensures marks { (marks : List Mark) → StandsFor self.old marks → result ≡ connect_answer (ticket_of client ticket self.old.tickets) (list_any is_shut marks) (next_conn marks) (moment_of self.old now) tried }
+        ensures answer { result ≡ connect_answer (ticket_of client ticket self.old.tickets) self.old.shut self.old.next_conn (moment_of self.old now) tried }
+        ensures makes { Logs self.old (connect_marks client ticket (moment_of self.old now) result) self.new }
+        ensures moves { Moves self.old self.new (connect_marks client ticket (moment_of self.old now) result) 0 0 }
+        ensures becomes { self.new ≡ after_connect client ticket (moment_of self.old now) result self.old }
     {
         let moment = self.moment(now);
         self.connect_done(client, ticket, moment, tried)

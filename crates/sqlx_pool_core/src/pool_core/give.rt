@@ -1,6 +1,11 @@
 //! The steps that end a loan: giving a connection back, ending, detaching and leaking it.
 
 ghost use Rattle.std.specs.Prelude.{◌≡◌, ℕ, ◌+◌, ◌-◌, ◌<◌, ◌≤◌, max, List, Option, Some, None, IfSome, is_some, ◌||◌, true, false};
+ghost use Rattle.std.specs.List.{list_any};
+ghost use Rattle.sqlx_log.specs.Marks.{owner_of, is_shut};
+ghost use Rattle.sqlx_log.specs.Answers.{owns, is_kept_at};
+ghost use Rattle.sqlx_pool_core.specs.Logs.{Logs, moment_of};
+ghost use Rattle.sqlx_pool_core.specs.Answers.{is_kept, is_held};
 ghost use Rattle.sqlx_pool_core.specs.Limits.{limits_of};
 ghost use Rattle.sqlx_pool_core.specs.Core.{loan_of};
 ghost use Rattle.sqlx_log.specs.declared.mark.Mark.{Mark};
@@ -42,7 +47,8 @@ impl<C> PoolCore<C> {
     /// Whether a connection of this opening would be closed rather than kept: the pool is closed, or the
     /// connection's age is above the lifetime.
     pub fn must_close(&self, created: Moment, now: Moment) -> bool
-        ensures { result ≡ closes (limits_of self.now.options) self.now.shut created.0 (max self.now.last now.0) }
+        ensures marks { (marks : List Mark) → StandsFor self.now marks → result ≡ closes (limits_of self.now.options) (list_any is_shut marks) created.0 (moment_of self.now now) }
+        ensures own { result ≡ closes (limits_of self.now.options) self.now.shut created.0 (moment_of self.now now) }
     {
         let moment = self.moment(now);
         self.closes(created, moment)
@@ -100,10 +106,11 @@ impl<C> PoolCore<C> {
     /// open and its age isn't above the lifetime; else the caller closes what comes back. The moment of opening is
     /// the one that the pool keeps, whatever `lent.created` says. In sqlx: `PoolConnection::return_to_pool`.
     pub fn give(&mut self, client: u32, lent: Lent<C>, now: Moment, accepted: bool) -> Given<C>
-        ensures answer { result ≡ give_answer self.old.options self.old.shut (max self.old.last now.0) accepted (loan_of client lent.id self.old.held) lent }
-        ensures makes { (marks : List Mark) → StandsFor self.old marks → Makes self.old.options.max_connections marks (give_marks lent.id (max self.old.last now.0) result) self.new }
-        ensures moves { Moves self.old self.new (give_marks lent.id (max self.old.last now.0) result) (given_back result) 0 }
-        ensures becomes { self.new ≡ gave (loan_of client lent.id self.old.held) lent (max self.old.last now.0) result self.old }
+        ensures marks { (marks : List Mark) → StandsFor self.old marks → (is_kept result ≡ is_kept_at (limits_of self.old.options) marks client lent.id (moment_of self.old now) accepted) × (is_held result ≡ owns client (owner_of lent.id marks)) }
+        ensures answer { result ≡ give_answer self.old.options self.old.shut (moment_of self.old now) accepted (loan_of client lent.id self.old.held) lent }
+        ensures makes { Logs self.old (give_marks lent.id (moment_of self.old now) result) self.new }
+        ensures moves { Moves self.old self.new (give_marks lent.id (moment_of self.old now) result) (given_back result) 0 }
+        ensures becomes { self.new ≡ gave (loan_of client lent.id self.old.held) lent (moment_of self.old now) result self.old }
     {
         let moment = self.moment(now);
         self.take_back(client, lent, moment, accepted)
@@ -142,8 +149,9 @@ impl<C> PoolCore<C> {
     /// Ends the loan of a connection, which the caller closes. False, and nothing changes, where the client
     /// doesn't own it.
     pub fn end(&mut self, client: u32, id: u64) -> bool
+        ensures marks { (marks : List Mark) → StandsFor self.old marks → result ≡ owns client (owner_of id marks) }
         ensures answer { result ≡ is_some (loan_of client id self.old.held) }
-        ensures makes { (marks : List Mark) → StandsFor self.old marks → Makes self.old.options.max_connections marks (end_marks id result) self.new }
+        ensures makes { Logs self.old (end_marks id result) self.new }
         ensures moves { Moves self.old self.new (end_marks id result) (one_if result) 0 }
         ensures becomes { self.new ≡ released id result self.old }
     {
@@ -153,8 +161,9 @@ impl<C> PoolCore<C> {
     /// Takes a connection out of the pool: its place and its permit are free again. False, and nothing changes,
     /// where the client doesn't own it.
     pub fn detach(&mut self, client: u32, id: u64) -> bool
+        ensures marks { (marks : List Mark) → StandsFor self.old marks → result ≡ owns client (owner_of id marks) }
         ensures answer { result ≡ is_some (loan_of client id self.old.held) }
-        ensures makes { (marks : List Mark) → StandsFor self.old marks → Makes self.old.options.max_connections marks (detach_marks id result) self.new }
+        ensures makes { Logs self.old (detach_marks id result) self.new }
         ensures moves { Moves self.old self.new (detach_marks id result) (one_if result) 0 }
         ensures becomes { self.new ≡ released id result self.old }
     {
@@ -186,8 +195,9 @@ impl<C> PoolCore<C> {
     /// Takes a connection out of the pool, which keeps its place and its permit for good. False, and nothing
     /// changes, where the client doesn't own it.
     pub fn leak(&mut self, client: u32, id: u64) -> bool
+        ensures marks { (marks : List Mark) → StandsFor self.old marks → result ≡ owns client (owner_of id marks) }
         ensures answer { result ≡ is_some (loan_of client id self.old.held) }
-        ensures makes { (marks : List Mark) → StandsFor self.old marks → Makes self.old.options.max_connections marks (leak_marks id result) self.new }
+        ensures makes { Logs self.old (leak_marks id result) self.new }
         ensures moves { Moves self.old self.new (leak_marks id result) (one_if result) 0 }
         ensures becomes { self.new ≡ leaked id result self.old }
     {

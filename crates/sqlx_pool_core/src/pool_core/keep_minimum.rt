@@ -2,6 +2,7 @@
 
 ghost use Rattle.std.specs.Prelude.{◌≡◌, ℕ, ◌+◌, ◌<◌, ◌≤◌, ◌⊎◌, max, nat_lt, Bool, true, false, not, List, [], Option, Some, None, IfNone};
 ghost use Rattle.sqlx_text.specs.declared.error.Error.{Error};
+ghost use Rattle.sqlx_pool_core.specs.Logs.{Logs, moment_of};
 ghost use Rattle.sqlx_pool_core.specs.Limits.{limits_of};
 ghost use Rattle.sqlx_log.specs.declared.mark.Mark.{Mark};
 ghost use Rattle.sqlx_pool_core.specs.Makes.{Makes};
@@ -35,8 +36,8 @@ impl<C> PoolCore<C> {
     fn keep_opened(&mut self, now: Moment, raw: C)
         requires place { 1 ≤ self.old.places }
         requires open { self.old.shut ≡ false }
-        ensures makes { (marks : List Mark) → StandsFor self.old marks → Makes self.old.options.max_connections marks (filled_made Filled.Opened self.old.next_conn (max self.old.last now.0)) self.new }
-        ensures becomes { self.new ≡ done (max self.old.last now.0) (Some raw) self.old }
+        ensures makes { Logs self.old (filled_made Filled.Opened self.old.next_conn (moment_of self.old now)) self.new }
+        ensures becomes { self.new ≡ done (moment_of self.old now) (Some raw) self.old }
     {
         match self.minimum_done(now, Some(raw)) {
             None => {}
@@ -48,8 +49,8 @@ impl<C> PoolCore<C> {
     fn let_go(&mut self, now: Moment)
         requires place { 1 ≤ self.old.places }
         requires open { self.old.shut ≡ false }
-        ensures makes { (marks : List Mark) → StandsFor self.old marks → Makes self.old.options.max_connections marks [] self.new }
-        ensures becomes { self.new ≡ done (max self.old.last now.0) None self.old }
+        ensures makes { Logs self.old [] self.new }
+        ensures becomes { self.new ≡ done (moment_of self.old now) None self.old }
     {
         match self.minimum_done(now, None) {
             None => {}
@@ -68,8 +69,8 @@ impl<C> PoolCore<C> {
         requires place { 1 ≤ self.old.places }
         requires open { self.old.shut ≡ false }
         ensures filled { is_full result ≡ false }
-        ensures makes { (marks : List Mark) → StandsFor self.old marks → Makes self.old.options.max_connections marks (filled_made result self.old.next_conn (max self.old.last now.0)) self.new }
-        ensures becomes { IsFilled X.depth result (max self.old.last now.0) self.old self.new }
+        ensures makes { Logs self.old (filled_made result self.old.next_conn (moment_of self.old now)) self.new }
+        ensures becomes { IsFilled X.depth result (moment_of self.old now) self.old self.new }
         ensures tells { IsNext (tries_told self.old.options.after_connect (X.told out.old)) (tries_told self.old.options.after_connect (X.told out.new)) (λ try. result ≡ filled_by try) ⊎ (result ≡ Filled.Short) }
         ensures want { result ≡ Filled.Short → X.IsShort out.new }
         ensures cause { result ≡ Filled.Refused → HasRisen (X.faults out.old) (X.faults out.new) ⊎ HasRisen (X.refusals out.old) (X.refusals out.new) }
@@ -104,8 +105,8 @@ impl<C> PoolCore<C> {
         out: &mut X,
     ) -> Filled
         ensures place { is_full result ≡ not (has_place self.old.options.min_connections self.old) }
-        ensures makes { (marks : List Mark) → StandsFor self.old marks → Makes self.old.options.max_connections marks (filled_made result self.old.next_conn (max self.old.last now.0)) self.new }
-        ensures becomes { IsFilled X.depth result (max self.old.last now.0) (placed (not (is_full result)) self.old) self.new }
+        ensures makes { Logs self.old (filled_made result self.old.next_conn (moment_of self.old now)) self.new }
+        ensures becomes { IsFilled X.depth result (moment_of self.old now) (placed (not (is_full result)) self.old) self.new }
         ensures tells { is_full result ≡ false → IsNext (tries_told self.old.options.after_connect (X.told out.old)) (tries_told self.old.options.after_connect (X.told out.new)) (λ try. result ≡ filled_by try) ⊎ (result ≡ Filled.Short) }
         ensures want { result ≡ Filled.Short → X.IsShort out.new }
         ensures cause { result ≡ Filled.Refused → HasRisen (X.faults out.old) (X.faults out.new) ⊎ HasRisen (X.refusals out.old) (X.refusals out.new) }
@@ -129,7 +130,7 @@ impl<C> PoolCore<C> {
         options: &O,
         out: &mut X,
     ) -> Openings
-        ensures makes { (marks : List Mark) → StandsFor self.old marks → Makes self.old.options.max_connections marks (openings_made result.opened self.old.next_conn (max self.old.last now.0)) self.new }
+        ensures makes { Logs self.old (openings_made result.opened self.old.next_conn (moment_of self.old now)) self.new }
         ensures opens { Opens X.depth self.old self.new result.opened now.0 }
         // Where enough is told, as many are opened as are told to open and lack.
         ensures told { let tries = tries_told self.old.options.after_connect (X.told out.old) in IsToldEnough (lacks self.old) tries → OpensAsTold (lacks self.old) tries result.opened result.short }

@@ -2,6 +2,9 @@
 
 ghost use Rattle.std.specs.Prelude.{◌≡◌, ℕ, ◌+◌, ◌-◌, ◌<◌, ◌≤◌, ◌^◌, max, min, List, [], ◌∷◌, Option, Some, None, false, find, option_map};
 ghost use Rattle.std.specs.VecDeque.{deque_capacity};
+ghost use Rattle.std.specs.List.{list_any};
+ghost use Rattle.sqlx_log.specs.Marks.{is_shut};
+ghost use Rattle.sqlx_pool_core.specs.Logs.{Logs, moment_of};
 ghost use Rattle.sqlx_pool_core.specs.Limits.{limits_of};
 ghost use Rattle.sqlx_log.specs.declared.mark.Mark.{Mark};
 ghost use Rattle.sqlx_pool_core.specs.Core.{waiting, free};
@@ -51,10 +54,10 @@ impl<C> PoolCore<C> {
     /// which the caller closes: where the pool is open and fewer tickets wait than permits are free. Otherwise
     /// nothing changes.
     pub fn reap(&mut self, now: Moment) -> Option<Idle<C>>
-        ensures marks { (marks : List Mark) → StandsFor self.old marks → option_map idle_conn result ≡ reaped_at (limits_of self.old.options) self.old.places marks (max self.old.last now.0) }
-        ensures makes { (marks : List Mark) → StandsFor self.old marks → Makes self.old.options.max_connections marks (reap_marks result) self.new }
-        ensures answer { result ≡ reap_answer (may_pass self.old.shut (waiting self.old.tickets) (free self.old)) self.old.options (max self.old.last now.0) self.old.idle }
-        ensures becomes { self.new ≡ reaped (max self.old.last now.0) result self.old }
+        ensures marks { (marks : List Mark) → StandsFor self.old marks → option_map idle_conn result ≡ reaped_at (limits_of self.old.options) self.old.places marks (moment_of self.old now) }
+        ensures makes { Logs self.old (reap_marks result) self.new }
+        ensures answer { result ≡ reap_answer (may_pass self.old.shut (waiting self.old.tickets) (free self.old)) self.old.options (moment_of self.old now) self.old.idle }
+        ensures becomes { self.new ≡ reaped (moment_of self.old now) result self.old }
         ensures moves { Moves self.old self.new (reap_marks result) 0 0 }
     {
         let moment = self.moment(now);
@@ -92,7 +95,7 @@ impl<C> PoolCore<C> {
     /// minimum of 0 as at 1.
     pub fn first_place(&mut self) -> bool
         ensures marks { (marks : List Mark) → StandsFor self.old marks → result ≡ has_place_at (limits_of self.old.options) self.old.places marks (max self.old.options.min_connections 1) }
-        ensures makes { (marks : List Mark) → StandsFor self.old marks → Makes self.old.options.max_connections marks [] self.new }
+        ensures makes { Logs self.old [] self.new }
         ensures answer { result ≡ has_place (max self.old.options.min_connections 1) self.old }
         ensures becomes { self.new ≡ placed result self.old }
         ensures moves { Moves self.old self.new [] 0 (place_room result) }
@@ -106,7 +109,7 @@ impl<C> PoolCore<C> {
     /// minimum and the maximum, and the numbers of connections aren't used up. Otherwise nothing changes.
     pub fn minimum_place(&mut self) -> bool
         ensures marks { (marks : List Mark) → StandsFor self.old marks → result ≡ has_place_at (limits_of self.old.options) self.old.places marks self.old.options.min_connections }
-        ensures makes { (marks : List Mark) → StandsFor self.old marks → Makes self.old.options.max_connections marks [] self.new }
+        ensures makes { Logs self.old [] self.new }
         ensures answer { result ≡ has_place self.old.options.min_connections self.old }
         ensures becomes { self.new ≡ placed result self.old }
         ensures moves { Moves self.old self.new [] 0 (place_room result) }
@@ -146,10 +149,11 @@ impl<C> PoolCore<C> {
     /// closes it.
     pub fn minimum_done(&mut self, now: Moment, raw: Option<C>) -> Option<C>
         requires { 1 ≤ self.old.places }
-        ensures makes { (marks : List Mark) → StandsFor self.old marks → Makes self.old.options.max_connections marks (done_marks self.old.shut self.old.next_conn (max self.old.last now.0) raw) self.new }
+        ensures makes { Logs self.old (done_marks self.old.shut self.old.next_conn (moment_of self.old now) raw) self.new }
+        ensures marks { (marks : List Mark) → StandsFor self.old marks → result ≡ handed_back (list_any is_shut marks) raw }
         ensures answer { result ≡ handed_back self.old.shut raw }
-        ensures becomes { self.new ≡ done (max self.old.last now.0) raw self.old }
-        ensures moves { Moves self.old self.new (done_marks self.old.shut self.old.next_conn (max self.old.last now.0) raw) 0 0 }
+        ensures becomes { self.new ≡ done (moment_of self.old now) raw self.old }
+        ensures moves { Moves self.old self.new (done_marks self.old.shut self.old.next_conn (moment_of self.old now) raw) 0 0 }
     {
         let moment = self.moment(now);
         self.done_at(moment, raw)

@@ -1,6 +1,7 @@
 //! A poll in its three steps. Tests and connects run between them, outside the core.
 
 ghost use Rattle.std.specs.Prelude.{◌≡◌, ℕ, ◌+◌, ◌<◌, ◌≤◌, max, List, [], ◌∷◌, Option, Some, None, IfSome, length, if◌then◌else◌, not, nat_lt, true};
+ghost use Rattle.sqlx_pool_core.specs.Logs.{Logs, moment_of};
 ghost use Rattle.sqlx_pool_core.specs.Core.{ticket_of, free};
 ghost use Rattle.sqlx_pool_core.specs.OwnTurn.{is_first_in_line, turn_of, own_turn};
 ghost use Rattle.sqlx_pool_core.specs.PollSteps.{start_answer, start_marks, started, phase_for};
@@ -96,11 +97,11 @@ impl<C> PoolCore<C> {
     /// Begins a poll. `now` below the last moment counts as the last one.
     pub fn start(&mut self, client: u32, ticket: u64, now: Moment) -> Start<C>
         // The answer is the poll table's, by the tickets, permits and idle connections of the marks and the ticket's own phase.
-        ensures answer { (marks : List Mark) → StandsFor self.old marks → result ≡ start_answer (phase_turn self.old.options.max_connections self.old.places marks client ticket (max self.old.last now.0) (phase_for client ticket self.old.tickets)) self.old.idle }
-        ensures makes { (marks : List Mark) → StandsFor self.old marks → Makes self.old.options.max_connections marks (start_marks ticket (phase_for client ticket self.old.tickets) result) self.new }
+        ensures answer { (marks : List Mark) → StandsFor self.old marks → result ≡ start_answer (phase_turn self.old.options.max_connections self.old.places marks client ticket (moment_of self.old now) (phase_for client ticket self.old.tickets)) self.old.idle }
+        ensures makes { Logs self.old (start_marks ticket (phase_for client ticket self.old.tickets) result) self.new }
         ensures moves { Moves self.old self.new (start_marks ticket (phase_for client ticket self.old.tickets) result) 0 0 }
-        ensures own { result ≡ start_answer (own_turn self.old client ticket (max self.old.last now.0)) self.old.idle }
-        ensures becomes { self.new ≡ started ticket (max self.old.last now.0) result self.old }
+        ensures own { result ≡ start_answer (own_turn self.old client ticket (moment_of self.old now)) self.old.idle }
+        ensures becomes { self.new ≡ started ticket (moment_of self.old now) result self.old }
     {
         let moment = self.moment(now);
         let entitled = self.is_first(ticket);

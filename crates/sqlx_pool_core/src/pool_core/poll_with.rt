@@ -1,6 +1,7 @@
 //! A whole poll: its steps, with the outside asked between them.
 
 ghost use Rattle.std.specs.Prelude.{◌≡◌, ℕ, ◌+◌, ◌<◌, ◌≤◌, ◌⊎◌, max, Bool, true, false, List, ◌∷◌, Option, Some, IfSome, is_some};
+ghost use Rattle.sqlx_pool_core.specs.Logs.{Logs, moment_of};
 ghost use Rattle.sqlx_pool_core.specs.declared.ticket.Phase.{Phase};
 ghost use Rattle.sqlx_log.specs.declared.mark.Mark.{Mark};
 ghost use Rattle.sqlx_pool_core.specs.Core.{ticket_of};
@@ -54,7 +55,7 @@ impl<C> PoolCore<C> {
         requires tested { IsTested (judged verdict) (phase_for client ticket self.old.tickets) }
         requires open { self.old.shut ≡ false }
         ensures answer { result ≡ judged_answer (phase_for client ticket self.old.tickets) verdict }
-        ensures makes { (marks : List Mark) → StandsFor self.old marks → Makes self.old.options.max_connections marks (test_marks client ticket (judged verdict) result) self.new }
+        ensures makes { Logs self.old (test_marks client ticket (judged verdict) result) self.new }
         ensures becomes { self.new ≡ after_test client ticket result self.old }
     {
         self.finish_test(client, ticket, verdict)
@@ -72,7 +73,7 @@ impl<C> PoolCore<C> {
         requires open { self.old.shut ≡ false }
         requires late { now.0 ≤ self.old.last }
         ensures answer { result ≡ tried_answer self.old.next_conn self.old.last (due self.old.last (ticket_of client ticket self.old.tickets)) tried }
-        ensures makes { (marks : List Mark) → StandsFor self.old marks → Makes self.old.options.max_connections marks (connect_marks client ticket self.old.last result) self.new }
+        ensures makes { Logs self.old (connect_marks client ticket self.old.last result) self.new }
         ensures becomes { self.new ≡ after_connect client ticket self.old.last result self.old }
     {
         self.finish_connect(client, ticket, now, tried)
@@ -90,7 +91,7 @@ impl<C> PoolCore<C> {
         requires open { self.old.shut ≡ false }
         requires late { now.0 ≤ self.old.last }
         ensures answer { result ≡ polled_of self.old.next_conn self.old.last (due self.old.last (ticket_of client ticket self.old.tickets)) opening }
-        ensures makes { (marks : List Mark) → StandsFor self.old marks → Makes self.old.options.max_connections marks (try_made client ticket self.old.next_conn self.old.last (try_of opening)) self.new }
+        ensures makes { Logs self.old (try_made client ticket self.old.next_conn self.old.last (try_of opening)) self.new }
         ensures becomes { self.new ≡ after_try client ticket self.old.last (try_of opening) self.old }
     {
         let moment = self.moment(now);
@@ -139,7 +140,7 @@ impl<C> PoolCore<C> {
         requires open { self.old.shut ≡ false }
         requires late { now.0 ≤ self.old.last }
         ensures answer { says result ≡ try_says self.old.next_conn self.old.last (due self.old.last (ticket_of client ticket self.old.tickets)) (try_shown result) }
-        ensures makes { (marks : List Mark) → StandsFor self.old marks → Makes self.old.options.max_connections marks (try_made client ticket self.old.next_conn self.old.last (try_shown result)) self.new }
+        ensures makes { Logs self.old (try_made client ticket self.old.next_conn self.old.last (try_shown result)) self.new }
         ensures becomes { self.new ≡ after_try client ticket self.old.last (try_shown result) self.old }
         ensures depth { IfReady result (λ lent. X.depth out.new lent.raw ≡ 0) }
         ensures again { try_shown result ≡ Again → HasRisen (X.faults out.old) (X.faults out.new) ⊎ HasRisen (X.refusals out.old) (X.refusals out.new) }
@@ -166,7 +167,7 @@ impl<C> PoolCore<C> {
         requires tested { phase_for client ticket self.old.tickets ≡ Some (Phase.Testing idle.lent.id idle.lent.created) }
         requires open { self.old.shut ≡ false }
         ensures answer { IfSome result (λ lent. (lent.id ≡ idle.lent.id) × (lent.created ≡ idle.lent.created)) }
-        ensures makes { (marks : List Mark) → StandsFor self.old marks → Makes self.old.options.max_connections marks (check_made client ticket idle.lent.id (is_some result)) self.new }
+        ensures makes { Logs self.old (check_made client ticket idle.lent.id (is_some result)) self.new }
         ensures becomes { self.new ≡ after_check client ticket idle (is_some result) self.old }
         ensures depth { X.depth out.old idle.lent.raw ≡ 0 → IfSome result (λ lent. X.depth out.new lent.raw ≡ 0) }
         ensures cause { X.depth out.old idle.lent.raw ≡ 0 → is_some result ≡ false → HasRisen (X.faults out.old) (X.faults out.new) ⊎ HasRisen (X.refusals out.old) (X.refusals out.new) }
@@ -209,10 +210,10 @@ impl<C> PoolCore<C> {
     ) -> Polled<C>
         // The answer, the marks and the core are those of the poll's turn and of what the outside answered.
         ensures polls { (outcome : Outcome)
-            × IsOutcome self.old.options (own_turn self.old client ticket (max self.old.last now.0)) (first_depth (X.depth out.old) self.old.idle) (X.told out.old) (X.faults out.old) (X.faults out.new) (X.refusals out.old) (X.refusals out.new) result outcome
-            × Polls self.old self.new client ticket (max self.old.last now.0) (own_turn self.old client ticket (max self.old.last now.0)) result outcome }
+            × IsOutcome self.old.options (own_turn self.old client ticket (moment_of self.old now)) (first_depth (X.depth out.old) self.old.idle) (X.told out.old) (X.faults out.old) (X.faults out.new) (X.refusals out.old) (X.refusals out.new) result outcome
+            × Polls self.old self.new client ticket (moment_of self.old now) (own_turn self.old client ticket (moment_of self.old now)) result outcome }
         // The turn is the poll table's, by the marks that the core stands for.
-        ensures turn { (marks : List Mark) → StandsFor self.old marks → own_turn self.old client ticket (max self.old.last now.0) ≡ phase_turn self.old.options.max_connections self.old.places marks client ticket (max self.old.last now.0) (phase_for client ticket self.old.tickets) }
+        ensures turn { (marks : List Mark) → StandsFor self.old marks → own_turn self.old client ticket (moment_of self.old now) ≡ phase_turn self.old.options.max_connections self.old.places marks client ticket (moment_of self.old now) (phase_for client ticket self.old.tickets) }
         ensures depth { first_depth (X.depth out.old) self.old.idle ≡ 0 → IfReady result (λ lent. X.depth out.new lent.raw ≡ 0) }
         ensures cause { IfRefused result (λ e. IsForGood (X.faults out.old) (X.faults out.new) e) }
         ensures faults { X.faults out.old ≤ X.faults out.new }

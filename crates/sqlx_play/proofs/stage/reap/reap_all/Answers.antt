@@ -16,4 +16,4 @@ loop-moment-preserved c =
 
 pub returns-clause-reaps : goal.returns-clause-reaps
 returns-clause-reaps c = reaps-whole c.args.stage.now _ c.reap_one.new.stage c.args.moment.0 _ _ c.loop-moment.invariant.reaps
-    (subst (ReapsOne _ c.reap_one.new.stage c.args.moment.0) c.loop-moment-test.false c.reap_one.ensures.reaps) c.num_idle-before.ensures c.num_idle.ensures
+    (subst (ReapsOne _ c.reap_one.new.stage c.args.moment.0) c.loop-moment-test.false c.reap_one.ensures.reaps) c.num_idle-before.ensures.own c.num_idle.ensures.own

@@ -1,0 +1,27 @@
+-- What is asked of a call's answer, and of a ticket, where marks tell the rest.
+use Rattle.std.specs.Prelude.{ℕ, Bool, true, false, Option, Some}
+use Rattle.sqlx_pool_core.specs.declared.ticket.Phase.{Phase}
+use Rattle.sqlx_pool_core.specs.declared.ticket.Phase.TheVariants as phase
+use Rattle.sqlx_pool_core.specs.declared.steps.Lent.{Lent}
+use Rattle.sqlx_pool_core.specs.declared.steps.Given.{Given}
+use Rattle.sqlx_pool_core.specs.declared.steps.Given.TheVariants as given
+
+-- a step of its own is under way for the ticket
+abbrev pub is_busy : Option Phase → Bool
+is_busy (Some (phase.Testing c created)) = true
+is_busy (Some phase.Connecting) = true
+is_busy other = false
+
+-- the number of a connection on its way
+abbrev pub lent_conn : {C : Type 0} → Lent C → ℕ
+lent_conn lent = lent.id
+
+-- it rests in the pool
+abbrev pub is_kept : {C : Type 0} → Given C → Bool
+is_kept given.Kept = true
+is_kept other = false
+
+-- the client owned it
+abbrev pub is_held : {C : Type 0} → Given C → Bool
+is_held (given.NotHeld raw) = false
+is_held other = true
