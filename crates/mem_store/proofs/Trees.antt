@@ -1,5 +1,5 @@
 -- A sorted tree's list of entries, read as a finite map.
-use Rattle.std.proofs.Common.{◌≡◌, ℤ, true, false, cond, List, [], ◌∷◌, ◌++◌, Option, Some, None, Less, Equal, Greater, Ordering, is_eq, refl, sym, ap, ◌∙◌, map, Bor}
+use Rattle.std.proofs.Common.{◌≡◌, ℤ, true, false, cond, List, [], ◌∷◌, ◌++◌, Option, Some, None, Less, Equal, Greater, Ordering, is_eq, is_lt, ◌&&◌, T, refl, sym, ap, subst, ◌∙◌, map, Bor}
 use Rattle.std.specs.Map.Iter.{deref_pair}
 use Rattle.std.proofs.lemmas.List.{map-append}
 use Rattle.std.specs.Ordering.{int_cmp, eq_by_cmp}
@@ -10,7 +10,8 @@ use Rattle.std.specs.List.{AllByRecursion}
 use Rattle.std.specs.List.Sorted.{IsStrictlySortedBy}
 use Rattle.sqlx_savepoints.specs.Rows.{Rows, written, laid, seen}
 use Rattle.sqlx_savepoints.proofs.Laid.{get-written, get-laid}
-use Rattle.std.specs.FinMap.{get, insert, remove, from_entries, find, get-insert, get-remove, get-from_entries, same_map, int_cmp-IsAntisymmetric}
+use Rattle.std.specs.FinMap.Entries.{below_all, is_sorted}
+use Rattle.std.specs.FinMap.{get, insert, remove, entries, from_entries, from_sorted, entries-from_sorted, get-from_sorted, find, get-insert, get-remove, get-from_entries, same_map, int_cmp-IsAntisymmetric}
 
 -- what a tree finds at a key
 abbrev pub found : {X : Type 0} → List (ℤ × X) → ℤ → Option X
@@ -85,3 +86,21 @@ pub written_in_turn-more : (pairs : List (Bor ℤ × Bor (Option ℤ))) (pair : 
 written_in_turn-more pairs pair rows made new so_far step =
     step ∙ ap (written pair.0.now pair.1.now) so_far
     ∙ sym (ap (λ writes. written_in_turn writes rows) (map-append deref_pair pairs (pair ∷ [])) ∙ written_in_turn-append (map deref_pair pairs) (deref_pair pair ∷ []) rows)
+
+-- ---- the entries of a sorted tree
+
+below_all-true : {X : Type 0} (key : ℤ) (entries : List (ℤ × X)) → AllByRecursion (λ other. int_cmp key other ≡ Less) (keys_of entries) → below_all int_cmp key entries ≡ true
+below_all-true key [] below = refl
+below_all-true key (entry ∷ entries) below = ap (λ o. is_lt o && below_all int_cmp key entries) below.0 ∙ below_all-true key entries below.1
+
+is_sorted-true : {X : Type 0} (entries : List (ℤ × X)) → IsStrictlySortedBy int_cmp (keys_of entries) → is_sorted int_cmp entries ≡ true
+unfolding IsStrictlySortedBy
+is_sorted-true [] sorted = refl
+is_sorted-true (entry ∷ entries) sorted = ap (λ b. b && is_sorted int_cmp entries) (below_all-true entry.0 entries sorted.0) ∙ is_sorted-true entries sorted.1
+
+-- the map of a sorted list has that list
+pub entries-from_entries : {X : Type 0} (es : List (ℤ × X)) → IsStrictlySortedBy int_cmp (keys_of es) → entries (from_entries {R = int_cmp} es) ≡ es
+entries-from_entries es sorted =
+    let rises : T (is_sorted int_cmp es) = subst T (sym (is_sorted-true es sorted)) tt in
+    ap entries (same_map int_cmp_total int_cmp-IsAntisymmetric (from_entries es) (from_sorted es) (λ q. get-from_entries int_cmp_total es q ∙ sym (get-from_sorted int_cmp es q rises)))
+    ∙ entries-from_sorted int_cmp es rises

@@ -1,5 +1,5 @@
 //! A connection's own side: its levels, its own writes and its savepoints.
-ghost use Rattle.std.specs.Prelude.{◌≡◌, ◌≤◌, ◌<◌, ◌+◌, ◌∷◌, OnOk, OnErr, IsSome, is_some};
+ghost use Rattle.std.specs.Prelude.{◌≡◌, ◌≤◌, ◌<◌, ◌+◌, ◌∷◌, IfOk, OnOk, OnErr, IsSome, is_some};
 ghost use Rattle.sqlx_savepoints.specs.Rows.{Rows as CommittedRows, sees, laid};
 ghost use Rattle.sqlx_savepoints.specs.NamedSavepoints.{after, ran, wrote, lowered};
 
@@ -65,6 +65,13 @@ impl StoreLink {
             Some(written) => written,
             None => rows.get(key),
         }
+    }
+
+    /// The rows with the own writes laid over them.
+    pub(crate) fn laid_over(&self, rows: &Rows) -> Result<Rows, OutOfMemory>
+        ensures { IfOk result (λ made. made ≡ laid self.now.own rows.now) }
+    {
+        self.stack.laid_over(rows)
     }
 
     /// A write: into the rows outside a level, else into the own writes.
@@ -152,7 +159,7 @@ impl StoreLink {
         ensures link { OnOk result (self.new ≡ at_rest self.old) }
         ensures err { OnErr result ((rows.new ≡ rows.old) × (self.new ≡ self.old)) }
     {
-        *rows = self.stack.laid_over(rows)?;
+        *rows = self.laid_over(rows)?;
         self.end();
         Ok(())
     }

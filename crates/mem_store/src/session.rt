@@ -1,5 +1,6 @@
 //! One link of a store at work.
 ghost use Rattle.std.specs.Prelude.{◌≡◌, ◌≤◌, Option, Some, None, IfOk, OnOk, OnErr, IsOkUnless, MatchResult};
+ghost use Rattle.std.specs.FinMap.{entries};
 ghost use Rattle.mem_store.specs.Statements.{Reads};
 ghost use Rattle.mem_store.specs.Acts.{act_of, refusal_of, refusal_here, fault_of, level_refusal, after_act, plain_of, refused, rows_seen, seen_by, after_start_rollback};
 ghost use Rattle.mem_store.specs.Store.{state_of};
@@ -175,6 +176,14 @@ impl StoreSession {
         ensures { result ≡ seen_by key self.now }
     {
         self.store.seen_by(&self.link, key)
+    }
+
+    /// The keys that the connection sees and their values, in the order of the keys.
+    pub fn rows(&self, alloc: Global) -> Result<Vec<(i64, i64)>, OutOfMemory>
+        ensures { IfOk result (λ pairs. pairs.items ≡ entries (rows_seen self.now)) }
+    {
+        let rows = self.store.rows_under(&self.link)?;
+        rows.pairs(alloc)
     }
 
     /// What an act that isn't refused answers. Nothing is done yet.

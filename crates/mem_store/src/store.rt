@@ -1,7 +1,7 @@
 //! A database: its committed rows, and which of its links have an open level.
 ghost use Rattle.std.specs.Prelude.{◌≡◌, ◌≤◌, ◌+◌, IfOk, OnOk, OnErr, IsSome};
 ghost use Rattle.std.specs.FinMap as finite;
-ghost use Rattle.sqlx_savepoints.specs.Rows.{sees};
+ghost use Rattle.sqlx_savepoints.specs.Rows.{laid, sees};
 ghost use Rattle.sqlx_savepoints.specs.NamedSavepoints.{after, ran, wrote};
 
 use crate::answer::Answer;
@@ -111,6 +111,13 @@ impl MemStore {
         ensures { result ≡ sees link.now.own self.now.rows key }
     {
         link.sees(&self.rows, key)
+    }
+
+    /// The rows as the link sees them.
+    pub(crate) fn rows_under(&self, link: &StoreLink) -> Result<Rows, OutOfMemory>
+        ensures { IfOk result (λ rows. rows ≡ laid link.now.own self.now.rows) }
+    {
+        link.laid_over(&self.rows)
     }
 
     /// Whether another link than this one has an open level.

@@ -1,13 +1,15 @@
 -- The form in Any of a row that a database has of its own.
-use Rattle.std.specs.Prelude.{◌≡◌, ◌⊎◌, ⊤, ℕ, ℤ, Bool, true, false, List, [], ◌∷◌, Option, Some, None, Result, Ok, Err, String, string_bytes, Vec}
+use Rattle.std.specs.Prelude.{◌≡◌, ◌⊎◌, ⊤, ℕ, ℤ, Bool, true, false, List, [], ◌∷◌, Option, Some, None, Result, Ok, Err, String, string_bytes, Vec, decimal}
 use Rattle.sqlx_text.specs.declared.error.Error.{Error}
 use Rattle.sqlx_text.specs.declared.error.Error.TheVariants as error
 use Rattle.sqlx_text.specs.declared.fault.Fault.{Fault}
 use Rattle.sqlx_text.specs.declared.fault.Fault.TheVariants as fault
 use Rattle.sqlx_text.specs.declared.kind.AnyTypeInfoKind.{AnyTypeInfoKind}
 use Rattle.sqlx_text.specs.declared.kind.AnyTypeInfoKind.TheVariants as kind
+use Rattle.sqlx_traits.specs.Places.{at_place}
 use Rattle.sqlx_traits.specs.Reads.{ValueRead, column_error}
 use Rattle.sqlx_any.specs.Names.{Names}
+use Rattle.sqlx_any.specs.Native.{native_column}
 use Rattle.sqlx_any.specs.Rows.{RowParts}
 use Rattle.sqlx_any.specs.declared.column.AnyColumn.{AnyColumn}
 use Rattle.sqlx_any.specs.declared.value.AnyValue.{AnyValue}
@@ -56,6 +58,17 @@ abbrev pub CellGives : {V : Type 0} → Result AnyColumn Error → Result V Erro
 CellGives (Err e) place gives r = r ≡ Err e
 CellGives (Ok column) (Err e) gives r = r ≡ Err e
 CellGives (Ok column) (Ok v) gives r = (given : Result AnyValueKind Error) × gives v given × (r ≡ beside column given)
+
+-- of a database: what its types and columns tell, what its values tell and are read as by a kind
+module _ {V I : Type 0} (kind : I → Option AnyTypeInfoKind) (named : I → List ℕ) (type_of : V → I) (null : V → Bool) (reads : AnyTypeInfoKind → V → Result AnyValueKind Fault → Type 0) where
+  -- what the value of the column of this label gives
+  abbrev pub NativeValue : List ℕ → V → Result AnyValueKind Error → Type 0
+  NativeValue label v r = ValueGives (kind (type_of v)) (named (type_of v)) label (null v) (λ k. reads k v) r
+
+  -- what a column gives with the value at its place among these
+  abbrev pub NativeCell : {C : Type 0} → (C → ℕ) → (C → List ℕ) → (C → I) → List V → C → Result (AnyColumn × AnyValue) Error → Type 0
+  NativeCell at called typed values column r =
+      CellGives (native_column kind named at called typed column) (at_place values (Ok (at column))) (NativeValue (decimal (at column))) r
 
 -- what items give, each in turn
 module _ {C A B : Type 0} (Gives : C → Result (A × B) Error → Type 0) where

@@ -6,6 +6,7 @@ use Rattle.sqlx_text.specs.declared.error.Error.TheVariants as error
 use Rattle.sqlx_text.specs.declared.fault.Fault.TheVariants as fault
 use Rattle.sqlx_text.specs.declared.kind.AnyTypeInfoKind.{AnyTypeInfoKind}
 use Rattle.sqlx_traits.specs.Parameters.{Parameters}
+use Rattle.sqlx_traits.specs.Reads.{Answers}
 use Rattle.sqlx_traits.specs.StepList.{all_of}
 use Rattle.sqlx_any.specs.Names.{Names}
 use Rattle.sqlx_any.specs.Rows.{StatementParts}
@@ -53,8 +54,17 @@ module _ {I : Type 0} (kind : I → Option AnyTypeInfoKind) (named : I → List 
     abbrev pub native_columns : List C → Result (List AnyColumn) Error
     native_columns columns = all_of (map native_column columns)
 
+-- the answer is the form that is due, or there is no memory
+abbrev pub Forms : {T A : Type 0} → (T → A) → Result A Error → Result T Error → Type 0
+Forms seen due r = Answers seen error.OutOfMemory due r
+
 -- a statement of parameters and columns; the parameters are the first to refuse
 abbrev pub any_statement : List ℕ → Names → Result (Parameters AnyTypeInfo) Error → Result (List AnyColumn) Error → Result StatementParts Error
 any_statement sql names (Err e) columns = Err e
 any_statement sql names (Ok parameters) (Err e) = Err e
 any_statement sql names (Ok parameters) (Ok columns) = Ok (record { sql = sql; parameters = parameters; names = names; columns = columns })
+
+-- the form of a statement; of statements `text` tells the text, `takes` the parameters, and `described` the columns
+abbrev pub native_statement : {S I C : Type 0} → (I → Option AnyTypeInfoKind) → (I → List ℕ) → (C → ℕ) → (C → List ℕ) → (C → I) → (S → List ℕ) → (S → Parameters I) → (S → List C) → S → Names → Result StatementParts Error
+native_statement kind named at called typed text takes described statement names =
+    any_statement (text statement) names (native_parameters kind named (takes statement)) (native_columns kind named at called typed (described statement))

@@ -54,6 +54,10 @@ abbrev pub read_bytes : AnyValueKind → Result (List ℕ) Fault
 read_bytes (value.Blob bytes) = Ok bytes
 read_bytes v = unexpected kind.Blob v
 
+-- a read goes on to a value of the kind: where it isn't checked, where the value is null, and where the type takes the kind
+abbrev pub may_read : Bool → Bool → AnyTypeInfoKind → Bool
+may_read is_checked takes kind = not is_checked || (is_null_kind kind || takes)
+
 -- a Rust type as one that is read: how it is called, its own kind, the kinds that it reads, and what it makes of a value
 pub record Reader (A : Type 0) : Type 0 where
   pub called : List ℕ
@@ -62,17 +66,13 @@ pub record Reader (A : Type 0) : Type 0 where
   pub read : AnyValueKind → Result A Fault
 
 module _ {A : Type 0} where
-  -- a value that isn't null and whose kind the type doesn't read doesn't fit it
-  abbrev pub fits_kind : Reader A → AnyValueKind → Bool
-  fits_kind t v = is_null_kind (kind_of v) || t.takes (kind_of v)
-
   -- the refusal of a value that doesn't fit; a row doesn't tell the type's own kind
   abbrev pub mismatched : Reader A → Bool → AnyValueKind → Result A Fault
   mismatched t of_row v = Err (fault.Mismatched t.called (told (not of_row) (kind_name t.own)) (kind_name (kind_of v)))
 
   -- a typed read, checked or not, of a value that stands alone or in a row
   abbrev pub typed_read : Reader A → Bool → Bool → AnyValueKind → Result A Fault
-  typed_read t is_checked of_row v = if not is_checked || fits_kind t v then t.read v else mismatched t of_row v
+  typed_read t is_checked of_row v = if may_read is_checked (t.takes (kind_of v)) (kind_of v) then t.read v else mismatched t of_row v
 
   -- a read is the typed read, or there is no memory
   abbrev pub TypedRead : {T : Type 0} → (T → A) → Reader A → Bool → Bool → AnyValue → Result T Fault → Type 0

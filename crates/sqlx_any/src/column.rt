@@ -32,6 +32,27 @@ impl AnyColumn {
         })
     }
 
+    /// Its position, from 0.
+    pub fn ordinal(&self) -> usize
+        ensures { result ≡ self.now.ordinal }
+    {
+        self.ordinal
+    }
+
+    /// Its name.
+    pub fn name(&self) -> &str
+        ensures { result.now ≡ self.now.name }
+    {
+        self.name.as_str()
+    }
+
+    /// The type of its values.
+    pub fn type_info(&self) -> &AnyTypeInfo
+        ensures { result.now ≡ self.now.type_info }
+    {
+        &self.type_info
+    }
+
     /// The same column. In sqlx: `clone`.
     pub fn try_clone(&self, alloc: Global) -> Result<AnyColumn, OutOfMemory>
         ensures { IfOk result (λ copy. copy ≡ self.now) }

@@ -60,7 +60,7 @@ impl ColumnNames {
     }
 
     /// Whether each position is below the number of columns.
-    pub(crate) fn are_below(&self, columns: usize) -> bool
+    pub fn are_below(&self, columns: usize) -> bool
         ensures { IsTrue result ↔ AreBelow self.now columns }
     {
         each_is_below(&self.positions, columns)

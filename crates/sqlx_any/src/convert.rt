@@ -1,39 +1,116 @@
 //! Arguments that are handed on to the database behind a backend.
 ghost use Rattle.std.specs.Prelude.{◌≡◌, ◌⊎◌, ◌∷◌, [], IfErr, IfOk, MatchOption, OnErr, OnOk, None, length, string_bytes};
+ghost use Rattle.sqlx_text.specs.declared.fault.Fault.{Fault};
 ghost use Rattle.sqlx_traits.specs.Arguments.{AddsOne, IsWantOfMemory};
-ghost use Rattle.sqlx_any.specs.Converted.{Adds, AddsInOrder, AddsValue, Refuses, RefusesOne, RefusesValue};
+ghost use Rattle.sqlx_any.specs.Converted.{Adds, AddsInOrder, Refuses, RefusesOne, Step};
+ghost use Rattle.sqlx_any.specs.declared.value.AnyValueKind.{AnyValueKind};
 
-use crate::{AnyArguments, AnyValueKind};
+use crate::{AnyArguments, AnyBlob, AnyValueKind};
 use sqlx_text::{AnyTypeInfoKind, Fault, UStr};
-use sqlx_traits::{Arguments, Database, Encode, SqlType, add};
+use sqlx_traits::{Arguments, Database, Encode, SqlType};
 use std::alloc::Global;
 use std::collections::VecDeque;
+
+/// A database that takes each value of `Any` as an argument: one for which the six Rust types, and options of them, are arguments. Nothing else has to be written for it.
+pub trait TakesAnyValues<'a>: Database {
+    /// What a value makes of the arguments behind which it is added: its Rust type decides, a null is `None`
+    /// of its kind, and one of the kind `Null` an `Option<i32>`.
+    ghost adds: { AnyValueKind → Step Self.ArgumentBuffer };
+
+    /// What a value may be refused with.
+    ghost refuses: { AnyValueKind → Fault → Type 0 };
+
+    /// Adds a value as its Rust type, and a null as `None` of its kind. A refusal leaves the arguments as they were.
+    fn add_value(
+        alloc: Global,
+        args: &mut Self::Arguments,
+        value: AnyValueKind,
+    ) -> Result<(), Fault>
+        ensures ok { OnOk result (adds value (Self.Arguments.buffered args.old) (Self.Arguments.buffered args.new)) }
+        ensures one { OnOk result (AddsOne Self.ArgumentBuffer.count Self.ArgumentBuffer.first (Self.Arguments.buffered args.old) (Self.Arguments.buffered args.new)) }
+        ensures err { OnErr result (args.new ≡ args.old) }
+        ensures refused { IfErr result (refuses value) };
+}
+
+impl<'a, DB: Database> TakesAnyValues<'a> for DB
+where
+    bool: Encode<'a, DB> + SqlType<DB>,
+    i16: Encode<'a, DB> + SqlType<DB>,
+    i32: Encode<'a, DB> + SqlType<DB>,
+    i64: Encode<'a, DB> + SqlType<DB>,
+    String: Encode<'a, DB> + SqlType<DB>,
+    Vec<u8>: Encode<'a, DB> + SqlType<DB>,
+    Option<bool>: Encode<'a, DB>,
+    Option<i16>: Encode<'a, DB>,
+    Option<i32>: Encode<'a, DB>,
+    Option<i64>: Encode<'a, DB>,
+    Option<String>: Encode<'a, DB>,
+    Option<Vec<u8>>: Encode<'a, DB>,
+{
+    ghost use Rattle.std.specs.Prelude.{None, string_bytes};
+    ghost use Rattle.sqlx_any.specs.Converted.{Adds, AddsValue, Refuses, RefusesValue, by_kind};
+
+    ghost adds = { AddsValue (record {
+      a_bool = ⟦<bool as Encode<'a, DB>>⟧.encoded;
+      an_i16 = ⟦<i16 as Encode<'a, DB>>⟧.encoded;
+      an_i32 = ⟦<i32 as Encode<'a, DB>>⟧.encoded;
+      an_i64 = ⟦<i64 as Encode<'a, DB>>⟧.encoded;
+      a_text = Adds string_bytes ⟦<String as Encode<'a, DB>>⟧.encoded;
+      bytes = Adds (λ bytes. bytes.items) ⟦<Vec<u8> as Encode<'a, DB>>⟧.encoded;
+      none = by_kind (⟦<Option<bool> as Encode<'a, DB>>⟧.encoded None) (⟦<Option<i16> as Encode<'a, DB>>⟧.encoded None) (⟦<Option<i32> as Encode<'a, DB>>⟧.encoded None) (⟦<Option<i64> as Encode<'a, DB>>⟧.encoded None) (⟦<Option<String> as Encode<'a, DB>>⟧.encoded None) (⟦<Option<Vec<u8>> as Encode<'a, DB>>⟧.encoded None);
+    }) };
+
+    ghost refuses = { RefusesValue (record {
+      a_bool = ⟦<bool as Encode<'a, DB>>⟧.refuses;
+      an_i16 = ⟦<i16 as Encode<'a, DB>>⟧.refuses;
+      an_i32 = ⟦<i32 as Encode<'a, DB>>⟧.refuses;
+      an_i64 = ⟦<i64 as Encode<'a, DB>>⟧.refuses;
+      a_text = Refuses string_bytes ⟦<String as Encode<'a, DB>>⟧.refuses;
+      bytes = Refuses (λ bytes. bytes.items) ⟦<Vec<u8> as Encode<'a, DB>>⟧.refuses;
+      none = by_kind (⟦<Option<bool> as Encode<'a, DB>>⟧.refuses None) (⟦<Option<i16> as Encode<'a, DB>>⟧.refuses None) (⟦<Option<i32> as Encode<'a, DB>>⟧.refuses None) (⟦<Option<i64> as Encode<'a, DB>>⟧.refuses None) (⟦<Option<String> as Encode<'a, DB>>⟧.refuses None) (⟦<Option<Vec<u8>> as Encode<'a, DB>>⟧.refuses None);
+    }) };
+
+    fn add_value(
+        alloc: Global,
+        args: &mut DB::Arguments,
+        value: AnyValueKind,
+    ) -> Result<(), Fault> {
+        match value {
+            AnyValueKind::Null(kind) => match kind {
+                AnyTypeInfoKind::Null => add_none::<DB, i32>(alloc, args),
+                AnyTypeInfoKind::Bool => add_none::<DB, bool>(alloc, args),
+                AnyTypeInfoKind::SmallInt => add_none::<DB, i16>(alloc, args),
+                AnyTypeInfoKind::Integer => add_none::<DB, i32>(alloc, args),
+                AnyTypeInfoKind::BigInt => add_none::<DB, i64>(alloc, args),
+                AnyTypeInfoKind::Text => add_none::<DB, String>(alloc, args),
+                AnyTypeInfoKind::Blob => add_none::<DB, Vec<u8>>(alloc, args),
+            },
+            AnyValueKind::Bool(b) => args.add(alloc, b),
+            AnyValueKind::SmallInt(n) => args.add(alloc, n),
+            AnyValueKind::Integer(n) => args.add(alloc, n),
+            AnyValueKind::BigInt(n) => args.add(alloc, n),
+            AnyValueKind::Text(text) => add_text::<DB>(alloc, args, text),
+            AnyValueKind::TextSlice(text) => add_text::<DB>(alloc, args, text),
+            AnyValueKind::Blob(blob) => add_bytes::<DB>(alloc, args, blob),
+        }
+    }
+}
 
 impl AnyArguments {
     /// The same arguments for another database, in their order: each value as its Rust type, a null as
     /// `None` of its kind, and one of the kind `Null` as an `Option<i32>`. An error is that database's refusal.
-    pub fn convert_into<'a, DB: Database>(self, alloc: Global) -> Result<DB::Arguments, Fault>
-    where
-        bool: Encode<'a, DB> + SqlType<DB>,
-        i16: Encode<'a, DB> + SqlType<DB>,
-        i32: Encode<'a, DB> + SqlType<DB>,
-        i64: Encode<'a, DB> + SqlType<DB>,
-        String: Encode<'a, DB> + SqlType<DB>,
-        Vec<u8>: Encode<'a, DB> + SqlType<DB>,
-        Option<bool>: Encode<'a, DB>,
-        Option<i16>: Encode<'a, DB>,
-        Option<i32>: Encode<'a, DB>,
-        Option<i64>: Encode<'a, DB>,
-        Option<String>: Encode<'a, DB>,
-        Option<Vec<u8>>: Encode<'a, DB>,
-        ensures ok { IfOk result (λ args. (none : DB.ArgumentBuffer) × (DB.ArgumentBuffer.count none ≡ 0) × AddsInOrder (record { a_bool = Adds (λ b. b) ⟦<bool as Encode<'a, DB>>⟧.encoded; an_i16 = Adds (λ n. n) ⟦<i16 as Encode<'a, DB>>⟧.encoded; an_i32 = Adds (λ n. n) ⟦<i32 as Encode<'a, DB>>⟧.encoded; an_i64 = Adds (λ n. n) ⟦<i64 as Encode<'a, DB>>⟧.encoded; a_text = Adds string_bytes ⟦<String as Encode<'a, DB>>⟧.encoded; bytes = Adds (λ bytes. bytes.items) ⟦<Vec<u8> as Encode<'a, DB>>⟧.encoded; no_bool = ⟦<Option<bool> as Encode<'a, DB>>⟧.encoded None; no_i16 = ⟦<Option<i16> as Encode<'a, DB>>⟧.encoded None; no_i32 = ⟦<Option<i32> as Encode<'a, DB>>⟧.encoded None; no_i64 = ⟦<Option<i64> as Encode<'a, DB>>⟧.encoded None; no_text = ⟦<Option<String> as Encode<'a, DB>>⟧.encoded None; no_bytes = ⟦<Option<Vec<u8>> as Encode<'a, DB>>⟧.encoded None }) self.values none (DB.Arguments.buffered args)) }
+    pub fn convert_into<'a, DB: TakesAnyValues<'a>>(
+        self,
+        alloc: Global,
+    ) -> Result<DB::Arguments, Fault>
+        ensures ok { IfOk result (λ args. (none : DB.ArgumentBuffer) × (DB.ArgumentBuffer.count none ≡ 0) × AddsInOrder DB.adds self.values none (DB.Arguments.buffered args)) }
         ensures count { IfOk result (λ args. DB.ArgumentBuffer.count (DB.Arguments.buffered args) ≡ length self.values) }
-        ensures refused { IfErr result (λ fault. RefusesOne (record { a_bool = ⟦<bool as Encode<'a, DB>>⟧.refuses; an_i16 = ⟦<i16 as Encode<'a, DB>>⟧.refuses; an_i32 = ⟦<i32 as Encode<'a, DB>>⟧.refuses; an_i64 = ⟦<i64 as Encode<'a, DB>>⟧.refuses; a_text = Refuses string_bytes ⟦<String as Encode<'a, DB>>⟧.refuses; bytes = Refuses (λ bytes. bytes.items) ⟦<Vec<u8> as Encode<'a, DB>>⟧.refuses; no_bool = ⟦<Option<bool> as Encode<'a, DB>>⟧.refuses None; no_i16 = ⟦<Option<i16> as Encode<'a, DB>>⟧.refuses None; no_i32 = ⟦<Option<i32> as Encode<'a, DB>>⟧.refuses None; no_i64 = ⟦<Option<i64> as Encode<'a, DB>>⟧.refuses None; no_text = ⟦<Option<String> as Encode<'a, DB>>⟧.refuses None; no_bytes = ⟦<Option<Vec<u8>> as Encode<'a, DB>>⟧.refuses None }) self.values fault) }
+        ensures refused { IfErr result (RefusesOne DB.refuses self.values) }
     {
         let mut values = VecDeque::from_vec(self.values.into_values());
         let mut args = DB::Arguments::new(alloc);
         while let Some(value) = next_of(&mut values) {
-            if let Err(fault) = add_value::<DB>(alloc, &mut args, value) {
+            if let Err(fault) = DB::add_value(alloc, &mut args, value) {
                 drop(values);
                 drop(args);
                 return Err(fault);
@@ -50,48 +127,20 @@ fn next_of(values: &mut VecDeque<AnyValueKind>) -> Option<AnyValueKind>
     values.pop_front()
 }
 
-// Adds a value as its Rust type, and a null as `None` of its kind.
-fn add_value<'a, DB: Database>(
+// Adds `None`.
+fn add_none<'a, DB: Database, T: SqlType<DB>>(
     alloc: Global,
     args: &mut DB::Arguments,
-    value: AnyValueKind,
 ) -> Result<(), Fault>
 where
-    bool: Encode<'a, DB> + SqlType<DB>,
-    i16: Encode<'a, DB> + SqlType<DB>,
-    i32: Encode<'a, DB> + SqlType<DB>,
-    i64: Encode<'a, DB> + SqlType<DB>,
-    String: Encode<'a, DB> + SqlType<DB>,
-    Vec<u8>: Encode<'a, DB> + SqlType<DB>,
-    Option<bool>: Encode<'a, DB>,
-    Option<i16>: Encode<'a, DB>,
-    Option<i32>: Encode<'a, DB>,
-    Option<i64>: Encode<'a, DB>,
-    Option<String>: Encode<'a, DB>,
-    Option<Vec<u8>>: Encode<'a, DB>,
-    ensures ok { OnOk result (AddsValue (record { a_bool = Adds (λ b. b) ⟦<bool as Encode<'a, DB>>⟧.encoded; an_i16 = Adds (λ n. n) ⟦<i16 as Encode<'a, DB>>⟧.encoded; an_i32 = Adds (λ n. n) ⟦<i32 as Encode<'a, DB>>⟧.encoded; an_i64 = Adds (λ n. n) ⟦<i64 as Encode<'a, DB>>⟧.encoded; a_text = Adds string_bytes ⟦<String as Encode<'a, DB>>⟧.encoded; bytes = Adds (λ bytes. bytes.items) ⟦<Vec<u8> as Encode<'a, DB>>⟧.encoded; no_bool = ⟦<Option<bool> as Encode<'a, DB>>⟧.encoded None; no_i16 = ⟦<Option<i16> as Encode<'a, DB>>⟧.encoded None; no_i32 = ⟦<Option<i32> as Encode<'a, DB>>⟧.encoded None; no_i64 = ⟦<Option<i64> as Encode<'a, DB>>⟧.encoded None; no_text = ⟦<Option<String> as Encode<'a, DB>>⟧.encoded None; no_bytes = ⟦<Option<Vec<u8>> as Encode<'a, DB>>⟧.encoded None }) value (DB.Arguments.buffered args.old) (DB.Arguments.buffered args.new)) }
+    Option<T>: Encode<'a, DB>,
+    ensures ok { OnOk result (DB.Arguments.buffered args.new ≡ ⟦<Option<T> as Encode<'a, DB>>⟧.encoded None (DB.Arguments.buffered args.old)) }
     ensures one { OnOk result (AddsOne DB.ArgumentBuffer.count DB.ArgumentBuffer.first (DB.Arguments.buffered args.old) (DB.Arguments.buffered args.new)) }
     ensures err { OnErr result (args.new ≡ args.old) }
-    ensures refused { IfErr result (λ fault. RefusesValue (record { a_bool = ⟦<bool as Encode<'a, DB>>⟧.refuses; an_i16 = ⟦<i16 as Encode<'a, DB>>⟧.refuses; an_i32 = ⟦<i32 as Encode<'a, DB>>⟧.refuses; an_i64 = ⟦<i64 as Encode<'a, DB>>⟧.refuses; a_text = Refuses string_bytes ⟦<String as Encode<'a, DB>>⟧.refuses; bytes = Refuses (λ bytes. bytes.items) ⟦<Vec<u8> as Encode<'a, DB>>⟧.refuses; no_bool = ⟦<Option<bool> as Encode<'a, DB>>⟧.refuses None; no_i16 = ⟦<Option<i16> as Encode<'a, DB>>⟧.refuses None; no_i32 = ⟦<Option<i32> as Encode<'a, DB>>⟧.refuses None; no_i64 = ⟦<Option<i64> as Encode<'a, DB>>⟧.refuses None; no_text = ⟦<Option<String> as Encode<'a, DB>>⟧.refuses None; no_bytes = ⟦<Option<Vec<u8>> as Encode<'a, DB>>⟧.refuses None }) value fault) }
+    ensures refused { IfErr result (⟦<Option<T> as Encode<'a, DB>>⟧.refuses None) }
 {
-    match value {
-        AnyValueKind::Null(kind) => match kind {
-            AnyTypeInfoKind::Null => add::<DB, Option<i32>>(alloc, args, None),
-            AnyTypeInfoKind::Bool => add::<DB, Option<bool>>(alloc, args, None),
-            AnyTypeInfoKind::SmallInt => add::<DB, Option<i16>>(alloc, args, None),
-            AnyTypeInfoKind::Integer => add::<DB, Option<i32>>(alloc, args, None),
-            AnyTypeInfoKind::BigInt => add::<DB, Option<i64>>(alloc, args, None),
-            AnyTypeInfoKind::Text => add::<DB, Option<String>>(alloc, args, None),
-            AnyTypeInfoKind::Blob => add::<DB, Option<Vec<u8>>>(alloc, args, None),
-        },
-        AnyValueKind::Bool(b) => add::<DB, bool>(alloc, args, b),
-        AnyValueKind::SmallInt(n) => add::<DB, i16>(alloc, args, n),
-        AnyValueKind::Integer(n) => add::<DB, i32>(alloc, args, n),
-        AnyValueKind::BigInt(n) => add::<DB, i64>(alloc, args, n),
-        AnyValueKind::Text(text) => add_text::<DB>(alloc, args, text),
-        AnyValueKind::TextSlice(text) => add_text::<DB>(alloc, args, text),
-        AnyValueKind::Blob(blob) => add::<DB, Vec<u8>>(alloc, args, blob.into_vec()),
-    }
+    let none: Option<T> = None;
+    args.add(alloc, none)
 }
 
 // Adds a text.
@@ -108,7 +157,23 @@ where
     ensures refused { IfErr result (λ fault. Refuses string_bytes ⟦<String as Encode<'a, DB>>⟧.refuses text fault ⊎ IsWantOfMemory fault) }
 {
     match text.as_str().to_string(alloc) {
-        Ok(text) => add::<DB, String>(alloc, args, text),
+        Ok(text) => args.add(alloc, text),
         Err(_) => Err(Fault::OutOfMemory),
     }
+}
+
+// Adds bytes.
+fn add_bytes<'a, DB: Database>(
+    alloc: Global,
+    args: &mut DB::Arguments,
+    blob: AnyBlob,
+) -> Result<(), Fault>
+where
+    Vec<u8>: Encode<'a, DB> + SqlType<DB>,
+    ensures ok { OnOk result (Adds (λ bytes. bytes.items) ⟦<Vec<u8> as Encode<'a, DB>>⟧.encoded blob (DB.Arguments.buffered args.old) (DB.Arguments.buffered args.new)) }
+    ensures one { OnOk result (AddsOne DB.ArgumentBuffer.count DB.ArgumentBuffer.first (DB.Arguments.buffered args.old) (DB.Arguments.buffered args.new)) }
+    ensures err { OnErr result (args.new ≡ args.old) }
+    ensures refused { IfErr result (Refuses (λ bytes. bytes.items) ⟦<Vec<u8> as Encode<'a, DB>>⟧.refuses blob) }
+{
+    args.add(alloc, blob.into_vec())
 }

@@ -2,9 +2,8 @@
 ghost use Rattle.std.specs.Prelude.{◌≡◌, ◌<◌, Some, length, slice_get};
 ghost use Rattle.std.specs.Option.{option_flatten};
 ghost use Rattle.sqlx_traits.specs.Parameters.{parameters_seen};
-ghost use Rattle.sqlx_traits.specs.Reads.{Answers};
-ghost use Rattle.sqlx_any.specs.Described.{any_describe, describe_held};
-ghost use Rattle.sqlx_any.specs.Native.{native_columns, native_parameters};
+ghost use Rattle.sqlx_any.specs.Described.{native_describe, held};
+ghost use Rattle.sqlx_any.specs.Native.{Forms};
 ghost use Rattle.sqlx_any.specs.Rows.{parameters_held};
 
 use crate::native::{columns_from, parameters_from};
@@ -66,17 +65,40 @@ impl<DB: Database> Describe<DB> {
         self,
         alloc: Global,
     ) -> Result<Describe<Any<B>>, Error>
-        ensures { Answers (λ made. describe_held made.columns made.parameters made.nullable) Error.OutOfMemory (any_describe
-            (native_columns DB.TypeInfo.kind DB.TypeInfo.named DB.Column.at DB.Column.named DB.Column.typed self.columns.items)
-            (native_parameters DB.TypeInfo.kind DB.TypeInfo.named (parameters_held self.parameters))
-            self.nullable.items) result }
+        ensures { Forms (λ made. held made.columns made.parameters made.nullable)
+            (native_describe DB.TypeInfo.kind DB.TypeInfo.named DB.Column.at DB.Column.named DB.Column.typed (held self.columns self.parameters self.nullable)) result }
     {
-        let columns = columns_from::<DB>(alloc, self.columns())?;
-        let parameters = parameters_from::<DB::TypeInfo>(alloc, self.parameters())?;
-        Ok(Describe {
+        let columns = match columns_from::<DB>(alloc, self.columns()) {
+            Ok(columns) => columns,
+            Err(error) => {
+                drop(self);
+                return Err(error);
+            }
+        };
+        match parameters_from::<DB::TypeInfo>(alloc, self.parameters()) {
+            Ok(parameters) => Ok(Describe {
+                columns,
+                parameters,
+                nullable: self.into_nullable(),
+            }),
+            Err(error) => {
+                drop(self);
+                drop(columns);
+                Err(error)
+            }
+        }
+    }
+
+    fn into_nullable(self) -> Vec<Option<bool>>
+        ensures { result ≡ self.nullable }
+    {
+        let Describe {
             columns,
             parameters,
-            nullable: self.nullable,
-        })
+            nullable,
+        } = self;
+        drop(columns);
+        drop(parameters);
+        nullable
     }
 }

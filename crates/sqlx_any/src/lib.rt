@@ -2,6 +2,7 @@
 //! backend shares. It exports the traits of a driver too.
 #![tactic(auto)]
 
+mod any_read;
 mod arguments;
 mod backend;
 mod blob;
@@ -23,20 +24,22 @@ mod row;
 mod statement;
 mod transaction;
 mod type_info;
-pub mod typed_reads;
 mod types;
 mod value;
 
+pub use any_read::AnyRead;
 pub use arguments::{AnyArgumentBuffer, AnyArguments};
 pub use backend::{AnyConnectionBackend, AnyOpen};
 pub use blob::AnyBlob;
 pub use column::AnyColumn;
 pub use column_names::ColumnNames;
 pub use connection::AnyConnection;
+pub use convert::TakesAnyValues;
 pub use database::Any;
 pub use describe::Describe;
 pub use driver::AnyDriver;
 pub use drivers::find_driver;
+pub use mapped::ReadsAnyKinds;
 pub use options::AnyConnectOptions;
 pub use query_result::AnyQueryResult;
 pub use row::AnyRow;
@@ -46,7 +49,7 @@ pub use sqlx_traits::{
     Connection, Database, Decode, DecodeOwned, Either, Encode, Execute, ExecuteMany, Executor,
     Faults, Fetch, FetchMany, HasStatementCache, ImmutableArguments, IntoArguments, IsNull,
     QueryResult, ResultList, Row, RowList, SqlType, Statement, StepList, TableColumn,
-    TransactionManager, Type, TypeInfo, Value, add, index_of_name, index_of_position,
+    TransactionManager, Type, TypeInfo, Value, index_of_name, index_of_position, item_at,
     label_of_name, label_of_position, mismatched_types, question_mark, reads,
 };
 pub use statement::AnyStatement;

@@ -1,11 +1,14 @@
 //! A row of values.
-ghost use Rattle.std.specs.Prelude.{◌≡◌, ◌↔◌, IfErr, IfOk, IsOk, codes, length};
+ghost use Rattle.std.specs.Prelude.{◌≡◌, ◌==◌, ◌↔◌, IfErr, IfOk, IsOk, Ok, codes, false, length, true};
+ghost use Rattle.sqlx_traits.specs.Places.{IsGiven, at_place};
+ghost use Rattle.sqlx_traits.specs.Reads.{Answers, GivesValue, NeverRefuses, RowRead};
 ghost use Rattle.sqlx_any.specs.Rows.{Fits};
 
-use crate::{Any, AnyColumn, AnyConnectionBackend, AnyValue, ColumnNames};
+use crate::{Any, AnyColumn, AnyConnectionBackend, AnyRead, AnyValue, ColumnNames};
 use sqlx_text::{Error, OutOfMemory, UStr};
+use sqlx_traits::reads::{given, labelled};
 use sqlx_traits::{
-    ColumnIndex, Row, index_of_name, index_of_position, label_of_name, label_of_position,
+    ColumnIndex, Row, index_of_name, index_of_position, item_at, label_of_name, label_of_position,
 };
 use std::alloc::Global;
 use std::marker::Model;
@@ -100,6 +103,141 @@ fn copy_of_values(alloc: Global, values: &[AnyValue]) -> Result<Vec<AnyValue>, O
         copy.push(value.try_clone(alloc)?)?;
     }
     Ok(copy)
+}
+
+impl AnyRow {
+    /// How many columns there are.
+    pub fn len(&self) -> usize
+        ensures columns { result ≡ length self.now.columns }
+        ensures values { result ≡ length self.now.values }
+    {
+        self.columns.len()
+    }
+
+    /// Whether there is no column.
+    pub fn is_empty(&self) -> bool
+        ensures { result ≡ (length self.now.columns == 0) }
+    {
+        self.columns.len() == 0
+    }
+
+    /// The columns.
+    pub fn columns(&self) -> &[AnyColumn]
+        ensures { result.now ≡ self.now.columns }
+    {
+        self.columns.as_slice()
+    }
+
+    /// The column at an index.
+    pub fn try_column<I: ColumnIndex<AnyRow> + Drop>(
+        &self,
+        alloc: Global,
+        index: I,
+    ) -> Result<&AnyColumn, Error>
+        ensures { Answers (λ column. column.now) Error.OutOfMemory (at_place self.now.columns (I.place index self.now)) result }
+    {
+        match index.index(alloc, self) {
+            Ok(at) => item_at(self.columns.as_slice(), at),
+            Err(error) => Err(error),
+        }
+    }
+
+    /// The column at an index, of which it is known that it names one.
+    pub fn column<I: ColumnIndex<AnyRow> + Drop>(
+        &self,
+        alloc: Global,
+        index: I,
+    ) -> Result<&AnyColumn, OutOfMemory>
+        requires { IsGiven (at_place self.now.columns (I.place index self.now)) }
+        ensures { IfOk result (λ column. at_place self.now.columns (I.place index self.now) ≡ Ok column.now) }
+    {
+        match self.try_column(alloc, index) {
+            Ok(column) => Ok(column),
+            Err(error) => {
+                drop(error);
+                Err(OutOfMemory)
+            }
+        }
+    }
+
+    /// The value at an index.
+    pub fn try_get_raw<I: ColumnIndex<AnyRow> + Drop>(
+        &self,
+        alloc: Global,
+        index: I,
+    ) -> Result<&AnyValue, Error>
+        ensures { Answers (λ value. value.now) Error.OutOfMemory (at_place self.now.values (I.place index self.now)) result }
+    {
+        match index.index(alloc, self) {
+            Ok(at) => item_at(self.values.as_slice(), at),
+            Err(error) => Err(error),
+        }
+    }
+
+    /// Reads the value at an index, whose kind has to fit.
+    ///
+    /// An error is the index's refusal, `ColumnDecode` with the index's label, or want of memory.
+    pub fn try_get<'r, T: AnyRead<'r>, I: ColumnIndex<AnyRow> + Drop>(
+        &'r self,
+        alloc: Global,
+        index: I,
+    ) -> Result<T, Error>
+        ensures { RowRead (λ row. row.values) I.place I.shown self.entry.now index (T.reads true true) result }
+    {
+        self.read(alloc, index, true)
+    }
+
+    /// Reads the value at an index, whatever its kind.
+    pub fn try_get_unchecked<'r, T: AnyRead<'r>, I: ColumnIndex<AnyRow> + Drop>(
+        &'r self,
+        alloc: Global,
+        index: I,
+    ) -> Result<T, Error>
+        ensures { RowRead (λ row. row.values) I.place I.shown self.entry.now index (T.reads false true) result }
+    {
+        self.read(alloc, index, false)
+    }
+
+    /// Reads the value at an index, of which it is known that it can be read.
+    pub fn get<'r, T: AnyRead<'r>, I: ColumnIndex<AnyRow> + Drop>(
+        &'r self,
+        alloc: Global,
+        index: I,
+    ) -> Result<T, OutOfMemory>
+        requires { NeverRefuses (RowRead (λ row. row.values) I.place I.shown self.now index (T.reads true true)) }
+        ensures { GivesValue (RowRead (λ row. row.values) I.place I.shown self.entry.now index (T.reads true true)) result }
+    {
+        given(self.read::<T, I>(alloc, index, true))
+    }
+
+    /// Reads the value at an index, whatever its kind, of which it is known that it can be read.
+    pub fn get_unchecked<'r, T: AnyRead<'r>, I: ColumnIndex<AnyRow> + Drop>(
+        &'r self,
+        alloc: Global,
+        index: I,
+    ) -> Result<T, OutOfMemory>
+        requires { NeverRefuses (RowRead (λ row. row.values) I.place I.shown self.now index (T.reads false true)) }
+        ensures { GivesValue (RowRead (λ row. row.values) I.place I.shown self.entry.now index (T.reads false true)) result }
+    {
+        given(self.read::<T, I>(alloc, index, false))
+    }
+
+    // Reads the value at an index, whose kind has to fit where `checked`.
+    fn read<'r, T: AnyRead<'r>, I: ColumnIndex<AnyRow> + Drop>(
+        &'r self,
+        alloc: Global,
+        index: I,
+        checked: bool,
+    ) -> Result<T, Error>
+        ensures { RowRead (λ row. row.values) I.place I.shown self.entry.now index (T.reads checked true) result }
+    {
+        match self.try_get_raw(alloc, &index) {
+            Ok(value) => {
+                labelled::<AnyRow, I, T>(alloc, &index, T::read(alloc, value, checked, true))
+            }
+            Err(error) => Err(error),
+        }
+    }
 }
 
 impl<B: AnyConnectionBackend> Row<Any<B>> for AnyRow {

@@ -1,8 +1,10 @@
 //! A statement that a backend prepared.
-ghost use Rattle.std.specs.Prelude.{◌≡◌, ◌↔◌, IfErr, IfOk, IsOk, codes, length};
+ghost use Rattle.std.specs.Prelude.{◌≡◌, ◌↔◌, IfErr, IfOk, IsOk, Ok, codes, length};
+ghost use Rattle.sqlx_traits.specs.Parameters.{parameters_seen};
+ghost use Rattle.sqlx_traits.specs.Places.{IsGiven, at_place};
 ghost use Rattle.sqlx_traits.specs.Reads.{Answers};
 ghost use Rattle.sqlx_any.specs.Names.{AreBelow};
-ghost use Rattle.sqlx_any.specs.Native.{any_statement, native_columns, native_parameters};
+ghost use Rattle.sqlx_any.specs.Native.{Forms, native_statement};
 ghost use Rattle.sqlx_any.specs.Rows.{parameters_held};
 
 use crate::native::{columns_from, parameters_from};
@@ -10,8 +12,8 @@ use crate::row::copy_of_columns;
 use crate::{Any, AnyColumn, AnyConnectionBackend, AnyTypeInfo, ColumnNames};
 use sqlx_text::{Error, OutOfMemory, SqlStr, UStr};
 use sqlx_traits::{
-    ColumnIndex, Database, Either, Statement, index_of_name, index_of_position, label_of_name,
-    label_of_position,
+    ColumnIndex, Database, Either, Statement, index_of_name, index_of_position, item_at,
+    label_of_name, label_of_position,
 };
 use std::alloc::Global;
 use std::marker::Model;
@@ -73,18 +75,30 @@ impl AnyStatement {
         names: ColumnNames,
     ) -> Result<AnyStatement, Error>
         requires { AreBelow names (length (DB.Statement.described statement)) }
-        ensures { Answers (λ made. made) Error.OutOfMemory (any_statement (DB.Statement.text statement) names
-            (native_parameters DB.TypeInfo.kind DB.TypeInfo.named (DB.Statement.takes statement))
-            (native_columns DB.TypeInfo.kind DB.TypeInfo.named DB.Column.at DB.Column.named DB.Column.typed (DB.Statement.described statement))) result }
+        ensures { Forms (λ made. made) (native_statement DB.TypeInfo.kind DB.TypeInfo.named DB.Column.at DB.Column.named DB.Column.typed DB.Statement.text DB.Statement.takes DB.Statement.described statement names) result }
     {
-        let parameters = parameters_from::<DB::TypeInfo>(alloc, statement.parameters())?;
-        let columns = columns_from::<DB>(alloc, statement.columns())?;
-        Ok(AnyStatement {
-            sql: statement.into_sql(),
-            parameters,
-            names,
-            columns,
-        })
+        let parameters = match parameters_from::<DB::TypeInfo>(alloc, statement.parameters()) {
+            Ok(parameters) => parameters,
+            Err(error) => {
+                drop(statement);
+                drop(names);
+                return Err(error);
+            }
+        };
+        match columns_from::<DB>(alloc, statement.columns()) {
+            Ok(columns) => Ok(AnyStatement {
+                sql: statement.into_sql(),
+                parameters,
+                names,
+                columns,
+            }),
+            Err(error) => {
+                drop(statement);
+                drop(parameters);
+                drop(names);
+                Err(error)
+            }
+        }
     }
 
     /// The same statement. In sqlx: `clone`.
@@ -101,6 +115,81 @@ impl AnyStatement {
             names,
             columns,
         })
+    }
+}
+
+impl AnyStatement {
+    /// Its text.
+    pub fn sql(&self) -> &SqlStr
+        ensures { result.now ≡ self.now.sql }
+    {
+        &self.sql
+    }
+
+    /// Its text, where the statement isn't needed any more.
+    pub fn into_sql(self) -> SqlStr
+        ensures { result ≡ self.sql }
+    {
+        let AnyStatement {
+            sql,
+            parameters,
+            names,
+            columns,
+        } = self;
+        drop(parameters);
+        drop(names);
+        drop(columns);
+        sql
+    }
+
+    /// The columns of its rows.
+    pub fn columns(&self) -> &[AnyColumn]
+        ensures { result.now ≡ self.now.columns }
+    {
+        self.columns.as_slice()
+    }
+
+    /// The types of its parameters, or how many there are, as far as the driver can tell.
+    pub fn parameters(&self) -> Option<Either<&[AnyTypeInfo], usize>>
+        ensures { parameters_seen result ≡ self.now.parameters }
+    {
+        match &self.parameters {
+            Some(Either::Left(types)) => Some(Either::Left(types.as_slice())),
+            Some(Either::Right(count)) => Some(Either::Right(*count)),
+            None => None,
+        }
+    }
+
+    /// The column at an index.
+    pub fn try_column<I: ColumnIndex<AnyStatement> + Drop>(
+        &self,
+        alloc: Global,
+        index: I,
+    ) -> Result<&AnyColumn, Error>
+        ensures { Answers (λ column. column.now) Error.OutOfMemory (at_place self.now.columns (I.place index self.now)) result }
+    {
+        match index.index(alloc, self) {
+            Ok(at) => item_at(self.columns.as_slice(), at),
+            Err(error) => Err(error),
+        }
+    }
+
+    /// The column at an index, of which it is known that it names one.
+    pub fn column<I: ColumnIndex<AnyStatement> + Drop>(
+        &self,
+        alloc: Global,
+        index: I,
+    ) -> Result<&AnyColumn, OutOfMemory>
+        requires { IsGiven (at_place self.now.columns (I.place index self.now)) }
+        ensures { IfOk result (λ column. at_place self.now.columns (I.place index self.now) ≡ Ok column.now) }
+    {
+        match self.try_column(alloc, index) {
+            Ok(column) => Ok(column),
+            Err(error) => {
+                drop(error);
+                Err(OutOfMemory)
+            }
+        }
     }
 }
 
@@ -128,16 +217,7 @@ impl<B: AnyConnectionBackend> Statement<Any<B>> for AnyStatement {
     ghost takes = { λ statement. statement.parameters };
 
     fn into_sql(self) -> SqlStr {
-        let AnyStatement {
-            sql,
-            parameters,
-            names,
-            columns,
-        } = self;
-        drop(parameters);
-        drop(names);
-        drop(columns);
-        sql
+        self.into_sql()
     }
 
     fn sql(&self) -> &SqlStr {
@@ -149,11 +229,7 @@ impl<B: AnyConnectionBackend> Statement<Any<B>> for AnyStatement {
     }
 
     fn parameters(&self) -> Option<Either<&[AnyTypeInfo], usize>> {
-        match &self.parameters {
-            Some(Either::Left(types)) => Some(Either::Left(types.as_slice())),
-            Some(Either::Right(count)) => Some(Either::Right(*count)),
-            None => None,
-        }
+        self.parameters()
     }
 }
 

@@ -1,10 +1,12 @@
 //! Values that every backend shares.
-ghost use Rattle.std.specs.Prelude.{◌≡◌, IfOk};
-ghost use Rattle.sqlx_any.specs.Kinds.{kind_of};
+ghost use Rattle.std.specs.Prelude.{◌≡◌, IfOk, false, true};
+ghost use Rattle.sqlx_traits.specs.Reads.{GivesValue, NeverRefuses, ValueRead};
+ghost use Rattle.sqlx_any.specs.Kinds.{is_null_kind, kind_of};
 
-use crate::{Any, AnyBlob, AnyConnectionBackend, AnyTypeInfo};
-use sqlx_text::{AnyTypeInfoKind, OutOfMemory, UStr};
+use crate::{Any, AnyBlob, AnyConnectionBackend, AnyRead, AnyTypeInfo};
+use sqlx_text::{AnyTypeInfoKind, Error, OutOfMemory, UStr};
 use sqlx_traits::Value;
+use sqlx_traits::reads::given;
 use std::alloc::Global;
 
 /// A value and its kind.
@@ -68,6 +70,64 @@ impl AnyValue {
     {
         let kind = self.kind.try_clone(alloc)?;
         Ok(AnyValue { kind })
+    }
+}
+
+impl AnyValue {
+    /// Its type.
+    pub fn type_info(&self) -> AnyTypeInfo
+        ensures { result ≡ record { kind = kind_of self.now.kind } }
+    {
+        AnyTypeInfo {
+            kind: self.kind.kind(),
+        }
+    }
+
+    /// Whether it is null.
+    pub fn is_null(&self) -> bool
+        ensures { result ≡ is_null_kind (kind_of self.now.kind) }
+    {
+        matches!(self.kind, AnyValueKind::Null(_))
+    }
+
+    /// Reads the value, whose kind has to fit; an error is `Decode` or want of memory.
+    pub fn try_decode<'r, T: AnyRead<'r>>(&'r self, alloc: Global) -> Result<T, Error>
+        ensures { ValueRead (T.reads true false self.entry.now) result }
+    {
+        self.read(alloc, true)
+    }
+
+    /// Reads the value, whatever its kind; an error is `Decode` or want of memory.
+    pub fn try_decode_unchecked<'r, T: AnyRead<'r>>(&'r self, alloc: Global) -> Result<T, Error>
+        ensures { ValueRead (T.reads false false self.entry.now) result }
+    {
+        self.read(alloc, false)
+    }
+
+    /// Reads the value, of which it is known that it can be read.
+    pub fn decode<'r, T: AnyRead<'r>>(&'r self, alloc: Global) -> Result<T, OutOfMemory>
+        requires { NeverRefuses (ValueRead (T.reads true false self.now)) }
+        ensures { GivesValue (ValueRead (T.reads true false self.entry.now)) result }
+    {
+        given(self.read::<T>(alloc, true))
+    }
+
+    /// Reads the value, whatever its kind, of which it is known that it can be read.
+    pub fn decode_unchecked<'r, T: AnyRead<'r>>(&'r self, alloc: Global) -> Result<T, OutOfMemory>
+        requires { NeverRefuses (ValueRead (T.reads false false self.now)) }
+        ensures { GivesValue (ValueRead (T.reads false false self.entry.now)) result }
+    {
+        given(self.read::<T>(alloc, false))
+    }
+
+    // Reads the value, whose kind has to fit where `checked`.
+    fn read<'r, T: AnyRead<'r>>(&'r self, alloc: Global, checked: bool) -> Result<T, Error>
+        ensures { ValueRead (T.reads checked false self.entry.now) result }
+    {
+        match T::read(alloc, self, checked, false) {
+            Ok(read) => Ok(read),
+            Err(fault) => Err(Error::decode(fault)),
+        }
     }
 }
 

@@ -6,8 +6,9 @@ use Rattle.sqlx_brackets.specs.Changes.{Change, opens, writes, commits, rolls_ba
 use Rattle.sqlx_brackets.specs.Brackets.{depth, depth_before, value}
 use Rattle.sqlx_brackets.specs.Standing.{is_zero}
 use Rattle.sqlx_brackets.specs.Stores.{AreAccepted}
-use Rattle.sqlx_brackets.specs.Events.{Act, begin, custom, put, del, get, commit, roll_back, give_up, Met, accepted, broken, refusing, level, ok, not_held, invalid_save_point, begin_failed, deep, busy, Event, asked, gone, others_open, reply_met, reply_of, change_by, answered}
+use Rattle.sqlx_brackets.specs.Events.{Act, begin, custom, put, del, get, commit, roll_back, give_up, Met, accepted, broken, refusing, Reply, level, ok, not_held, invalid_save_point, begin_failed, deep, busy, Event, asked, gone, others_open, reply_met, reply_of, change_by, answered}
 use Rattle.sqlx_brackets.specs.Laws.{AnswersAgree}
+use Rattle.sqlx_brackets.proofs.StoreOf.{nothing}
 use Rattle.sqlx_brackets.proofs.Readers.{levels_read_alike}
 use Rattle.sqlx_brackets.proofs.Linking.{savepoints_read_alike}
 
@@ -32,18 +33,10 @@ nothing_opened test o passes later (commits d ∷ past) none = nothing_opened te
 nothing_opened test o passes later (rolls_back d ∷ past) none = nothing_opened test o passes (rolls_back d ∷ later) past (right_false (test d) (list_any (λ change. test (connection_of change)) past) none)
 nothing_opened test o passes later (leaves d ∷ past) none = nothing_opened test o passes (leaves d ∷ later) past (right_false (test d) (list_any (λ change. test (connection_of change)) past) none)
 
-zero_is : (n : ℕ) → is_zero n ≡ true → n ≡ 0
-zero_is zero e = refl
-zero_is (suc n) e = absurd cc
-
-not_zero : (n : ℕ) → is_zero n ≡ false → 1 ≤ n
-not_zero zero e = absurd cc
-not_zero (suc n) e = omega arith
-
 pub no_other : (c : ℕ) (past : History) → others_open c past ≡ false → (other : ℕ) → (other == c) ≡ false → depth other past ≡ 0
 no_other c past none other apart =
     elim (is_zero (depth other past)) as (λ z. is_zero (depth other past) ≡ z → depth other past ≡ 0) [
-      | true ↦ λ z. zero_is (depth other past) z
+      | true ↦ λ z. nothing (depth other past) z
       | false ↦ λ z. nothing_opened (λ o. not (o == c) && not (is_zero (depth o past))) other (rw (apart, z) refl) [] past none
     ] refl
 
@@ -66,7 +59,7 @@ custom_fine c starts false met past all = all
 custom_fine c starts true met past all =
     elim (is_zero (depth c past)) as (λ z. is_zero (depth c past) ≡ z → AreAccepted (change_by (custom c starts) (cond (not z) invalid_save_point (reply_met met (custom c starts) past)) past)) [
       | false ↦ λ z. all
-      | true ↦ λ z. let low : depth c past < 100 = (let none = zero_is (depth c past) z in omega arith) in
+      | true ↦ λ z. let low : depth c past < 100 = (let none = nothing (depth c past) z in omega arith) in
           elim met as (λ m. AreAccepted (change_by (custom c starts) (reply_met m (custom c starts) past) past)) [
             | accepted ↦ elim starts as (λ b. AreAccepted (change_by (custom c starts) (cond b (level 1) begin_failed) past)) [ true ↦ (low, all) | false ↦ all ]
             | broken ↦ all
@@ -74,29 +67,28 @@ custom_fine c starts true met past all =
           ]
     ] refl
 
+-- an act that is refused where no bracket is open
+at_depth : (n : ℕ) (after : Reply → History) (reply : Reply) → AreAccepted (after not_held) → (1 ≤ n → AreAccepted (after reply)) → AreAccepted (after (cond (is_zero n) not_held reply))
+at_depth zero after reply none some = none
+at_depth (suc n) after reply none some = some (omega arith)
+
 commit_fine : (c : ℕ) (held : Bool) (met : Met) (past : History) → AreAccepted past → Fine (commit c) held met past
 commit_fine c false met past all = all
 commit_fine c true met past all =
-    elim (is_zero (depth c past)) as (λ z. is_zero (depth c past) ≡ z → AreAccepted (change_by (commit c) (cond z not_held (reply_met met (commit c) past)) past)) [
-      | true ↦ λ z. all
-      | false ↦ λ z. let one = not_zero (depth c past) z in elim met as (λ m. AreAccepted (change_by (commit c) (reply_met m (commit c) past) past)) [ accepted ↦ (one, all) | broken ↦ (one, all) | refusing ↦ (one, all) ]
-    ] refl
+    at_depth (depth c past) (λ reply. change_by (commit c) reply past) (reply_met met (commit c) past) all
+    (λ one. elim met as (λ m. AreAccepted (change_by (commit c) (reply_met m (commit c) past) past)) [ accepted ↦ (one, all) | broken ↦ (one, all) | refusing ↦ (one, all) ])
 
 roll_back_fine : (c : ℕ) (held : Bool) (met : Met) (past : History) → AreAccepted past → Fine (roll_back c) held met past
 roll_back_fine c false met past all = all
 roll_back_fine c true met past all =
-    elim (is_zero (depth c past)) as (λ z. is_zero (depth c past) ≡ z → AreAccepted (change_by (roll_back c) (cond z not_held (reply_met met (roll_back c) past)) past)) [
-      | true ↦ λ z. all
-      | false ↦ λ z. let one = not_zero (depth c past) z in elim met as (λ m. AreAccepted (change_by (roll_back c) (reply_met m (roll_back c) past) past)) [ accepted ↦ (one, all) | broken ↦ (one, all) | refusing ↦ (one, all) ]
-    ] refl
+    at_depth (depth c past) (λ reply. change_by (roll_back c) reply past) (reply_met met (roll_back c) past) all
+    (λ one. elim met as (λ m. AreAccepted (change_by (roll_back c) (reply_met m (roll_back c) past) past)) [ accepted ↦ (one, all) | broken ↦ (one, all) | refusing ↦ (one, all) ])
 
 give_up_fine : (c : ℕ) (held : Bool) (met : Met) (past : History) → AreAccepted past → Fine (give_up c) held met past
 give_up_fine c false met past all = all
 give_up_fine c true met past all =
-    elim (is_zero (depth c past)) as (λ z. is_zero (depth c past) ≡ z → AreAccepted (change_by (give_up c) (cond z not_held (reply_met met (give_up c) past)) past)) [
-      | true ↦ λ z. all
-      | false ↦ λ z. let one = not_zero (depth c past) z in elim met as (λ m. AreAccepted (change_by (give_up c) (reply_met m (give_up c) past) past)) [ accepted ↦ (one, all) | broken ↦ all | refusing ↦ all ]
-    ] refl
+    at_depth (depth c past) (λ reply. change_by (give_up c) reply past) (reply_met met (give_up c) past) all
+    (λ one. elim met as (λ m. AreAccepted (change_by (give_up c) (reply_met m (give_up c) past) past)) [ accepted ↦ (one, all) | broken ↦ all | refusing ↦ all ])
 
 put_fine : (c : ℕ) (key value : ℤ) (held : Bool) (met : Met) (past : History) → AreAccepted past → Fine (put c key value) held met past
 put_fine c key value false met past all = all

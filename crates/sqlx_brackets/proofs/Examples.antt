@@ -1,8 +1,8 @@
 -- Worked examples, by computing.
-use Rattle.std.proofs.Common.{◌≡◌, ℕ, ℤ, pos, true, false, Option, Some, None, List, [], ◌∷◌, refl}
+use Rattle.std.proofs.Common.{◌≡◌, pos, true, false, Some, None, List, [], ◌∷◌, refl}
 use Rattle.sqlx_brackets.specs.Changes.{History, opens, writes, commits, rolls_back, leaves}
 use Rattle.sqlx_brackets.specs.Brackets.{value, depth}
-use Rattle.sqlx_brackets.specs.Events.{begin, custom, put, del, get, commit, roll_back, give_up, accepted, broken, refusing, Reply, level, ok, found, row_not_found, not_held, invalid_save_point, begin_failed, io, refused, deep, busy, Event, asked, gone, reply_of, answered}
+use Rattle.sqlx_brackets.specs.Events.{begin, custom, put, get, commit, give_up, accepted, broken, refusing, Reply, level, ok, row_not_found, not_held, invalid_save_point, begin_failed, io, refused, busy, Event, asked, gone, reply_of, answered}
 
 -- connection 1 writes 9 at key 4 in a bracket inside another one, and commits the inner one
 abbrev inner_committed : History

@@ -1,5 +1,5 @@
 -- What readers see in the store of what stands, and the law that brackets are nested levels.
-use Rattle.std.proofs.Common.{◌≡◌, ℕ, zero, suc, ◌==◌, ◌≤◌, ℤ, int_eq, int_cmp, true, false, cond, ◌&&◌, ◌||◌, Option, List, [], ◌∷◌, length, refl, sym, ap, ◌∙◌, subst, inl, inr, arith}
+use Rattle.std.proofs.Common.{◌≡◌, ℕ, ◌==◌, ◌≤◌, ℤ, int_eq, int_cmp, true, false, cond, ◌&&◌, ◌||◌, Option, List, [], ◌∷◌, length, refl, sym, ap, ◌∙◌, subst, inl, inr, arith}
 use Rattle.std.proofs.lemmas.Bool.Decides.{eqb_tells}
 use Rattle.std.specs.FinMap.{empty, get, get-empty}
 use Rattle.sqlx_savepoints.specs.Rows.{Rows, Writes, written, sees, seen}
@@ -13,7 +13,7 @@ use Rattle.sqlx_brackets.specs.Standing.{Standing, opened, wrote, is_zero, depth
 use Rattle.sqlx_brackets.specs.Stores.{Store, nested_at, changed, store_after, IsAccepted, AreAccepted}
 use Rattle.sqlx_brackets.specs.Laws.{BracketsAreLevels}
 use Rattle.sqlx_brackets.proofs.Tells.{tells}
-use Rattle.sqlx_brackets.proofs.StoreOf.{store_of, IsQuiet, depth_store_of, after_quiet, MayCome, change_over}
+use Rattle.sqlx_brackets.proofs.StoreOf.{store_of, IsQuiet, depth_store_of, after_quiet, positive, nothing, MayCome, change_over}
 
 abbrev seen_in : List Writes → Rows → ℤ → Option ℤ
 seen_in all rows key = sees (current all) rows key
@@ -39,14 +39,6 @@ put_inside rows (own ∷ outer) k v one = refl
 no_own : (all : List Writes) → length all ≡ 0 → current all ≡ empty
 no_own [] none = refl
 no_own (own ∷ outer) none = absurd (omega arith)
-
-some_level : (n : ℕ) → is_zero n ≡ false → 1 ≤ n
-some_level zero e = absurd cc
-some_level (suc n) e = omega arith
-
-no_level : (n : ℕ) → is_zero n ≡ true → n ≡ 0
-no_level zero e = refl
-no_level (suc n) e = absurd cc
 
 reads : (things : List Standing) → IsQuiet things → (reader : ℕ) (key : ℤ) → seen_in ((store_of things).levels reader) (store_of things).rows key ≡ value_of reader key things
 reads [] quiet reader key = sees_rows empty key ∙ get-empty int_cmp key
@@ -74,10 +66,10 @@ reads (wrote d k v ∷ before) quiet reader key =
           ∙ elim (is_zero (depth_of d before)) as (λ z. is_zero (depth_of d before) ≡ z → seen_in (s.levels reader) put.rows key ≡ cond (z && int_eq key k) v (value_of reader key before)) [
             | true ↦ λ z.
                 ap (λ own. sees own put.rows key) mine
-                ∙ put_outside s.rows (s.levels d) k v key (depth_store_of before d ∙ no_level (depth_of d before) z)
+                ∙ put_outside s.rows (s.levels d) k v key (depth_store_of before d ∙ nothing (depth_of d before) z)
                 ∙ ap (cond (int_eq key k) v) (ap (λ own. sees own s.rows key) (sym mine) ∙ reads before quiet.1 reader key)
             | false ↦ λ z.
-                ap (λ r. seen_in (s.levels reader) r key) (put_inside s.rows (s.levels d) k v (subst (λ n. 1 ≤ n) (sym (depth_store_of before d)) (some_level (depth_of d before) z)))
+                ap (λ r. seen_in (s.levels reader) r key) (put_inside s.rows (s.levels d) k v (subst (λ n. 1 ≤ n) (sym (depth_store_of before d)) (positive (depth_of d before) z)))
                 ∙ reads before quiet.1 reader key
           ] refl
           ∙ sym (ap (λ b. cond ((b || is_zero (depth_of d before)) && int_eq key k) v (value_of reader key before)) is.0)

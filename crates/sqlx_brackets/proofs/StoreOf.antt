@@ -1,12 +1,12 @@
 -- What stands, run as changes of a store, is the store after the whole history.
-use Rattle.std.proofs.Common.{◌≡◌, ℕ, zero, suc, ◌==◌, ◌≤◌, ℤ, Bool, true, false, not, cond, ◌&&◌, ◌||◌, Option, List, [], ◌∷◌, length, refl, sym, ap, ◌∙◌, subst, inl, inr, eq-eqb, ne_eqb, arith}
+use Rattle.std.proofs.Common.{◌≡◌, ◌⊎◌, ℕ, zero, suc, ◌==◌, ◌≤◌, ℤ, Bool, true, false, not, cond, ◌&&◌, ◌||◌, Option, List, [], ◌∷◌, length, refl, sym, ap, ◌∙◌, subst, inl, inr, eq-eqb, ne_eqb, arith}
 use Rattle.std.proofs.lemmas.Bool.Decides.{eqb_tells}
 use Rattle.sqlx_savepoints.specs.Rows.{Writes}
 use Rattle.sqlx_savepoints.specs.NestedLevels.{Nested, current}
 use Rattle.sqlx_savepoints.specs.Levels.{begins, nested_step}
 use Rattle.sqlx_savepoints.specs.Levels as levels
 use Rattle.sqlx_brackets.specs.Changes.{Change, opens, writes, commits, rolls_back, leaves}
-use Rattle.sqlx_brackets.specs.Standing.{Standing, opened, wrote, is_zero, depth_of, struck, cut, cleared, after}
+use Rattle.sqlx_brackets.specs.Standing.{Standing, opened, wrote, opens_for, is_of, is_zero, depth_of, struck, cut, cleared, after}
 use Rattle.sqlx_brackets.specs.Stores.{Store, new_store, with_levels, nested_at, on, all_dropped, changed}
 use Rattle.sqlx_brackets.proofs.Swaps.{on-on, on-same, on-alike, on-swap, committed_begun, committed_written, undone_written, dropped_written, dropped_outside}
 
@@ -48,59 +48,66 @@ depth_store_of (wrote d key value ∷ before) c = elim (eqb_tells c d) [
 ]
 
 -- ---- quiet things stay quiet
-struck_none : (c o : ℕ) (things : List Standing) → depth_of o things ≡ 0 → depth_of o (struck c things) ≡ 0
-struck_none c o [] none = refl
-struck_none c o (opened d ∷ before) none =
-    let P : Bool → Bool → Type 0 = λ oc dc. cond oc (suc (depth_of o before)) (depth_of o before) ≡ 0 → depth_of o (cond dc before (opened d ∷ struck c before)) ≡ 0 in
-    elim (eqb_tells d o) [
-      | inl is ↦ absurd (let bad : suc (depth_of o before) ≡ 0 = sym (ap (λ b. cond b (suc (depth_of o before)) (depth_of o before)) is.0) ∙ none in omega arith)
-      | inr is ↦
-          let less : depth_of o before ≡ 0 = sym (ap (λ b. cond b (suc (depth_of o before)) (depth_of o before)) is.0) ∙ none in
-          elim (d == c) as (λ b. depth_of o (cond b before (opened d ∷ struck c before)) ≡ 0) [ true ↦ less | false ↦ rw is.0 (struck_none c o before less) ]
+-- these things with some struck out
+abbrev Thinned : List Standing → List Standing → Type 0
+Thinned less [] = less ≡ []
+Thinned less (thing ∷ before) = Thinned less before ⊎ ((rest : List Standing) × (less ≡ thing ∷ rest) × Thinned rest before)
+
+thinned-same : (things : List Standing) → Thinned things things
+thinned-same [] = refl
+thinned-same (thing ∷ before) = inr (before, refl, thinned-same before)
+
+struck_thinned : (c : ℕ) (things : List Standing) → Thinned (struck c things) things
+struck_thinned c [] = refl
+struck_thinned c (thing ∷ before) = elim (opens_for c thing) as (λ b. Thinned (cond b before (thing ∷ struck c before)) (thing ∷ before)) [
+  | true ↦ inl (thinned-same before)
+  | false ↦ inr (struck c before, refl, struck_thinned c before)
+]
+
+cut_thinned : (c : ℕ) (things : List Standing) → Thinned (cut c things) things
+cut_thinned c [] = refl
+cut_thinned c (thing ∷ before) = elim (opens_for c thing) as (λ b. Thinned (cond b before (cond (is_of c thing) (cut c before) (thing ∷ cut c before))) (thing ∷ before)) [
+  | true ↦ inl (thinned-same before)
+  | false ↦ elim (is_of c thing) as (λ b. Thinned (cond b (cut c before) (thing ∷ cut c before)) (thing ∷ before)) [ true ↦ inl (cut_thinned c before) | false ↦ inr (cut c before, refl, cut_thinned c before) ]
+]
+
+cleared_thinned : (c : ℕ) (things : List Standing) → Thinned (cleared c things) things
+cleared_thinned c [] = refl
+cleared_thinned c (thing ∷ before) = elim (opens_for c thing || (is_of c thing && not (is_zero (depth_of c before)))) as (λ b. Thinned (cond b (cleared c before) (thing ∷ cleared c before)) (thing ∷ before)) [
+  | true ↦ inl (cleared_thinned c before)
+  | false ↦ inr (cleared c before, refl, cleared_thinned c before)
+]
+
+none_here : (b : Bool) (n : ℕ) → cond b (suc n) n ≡ 0 → (b ≡ false) × (n ≡ 0)
+none_here true n e = absurd (omega arith)
+none_here false n e = (refl, e)
+
+thinned_none : (o : ℕ) (less things : List Standing) → Thinned less things → depth_of o things ≡ 0 → depth_of o less ≡ 0
+thinned_none o less [] t none = ap (depth_of o) t
+thinned_none o less (thing ∷ before) t none =
+    let here = none_here (opens_for o thing) (depth_of o before) none in
+    elim t [
+      | inl t ↦ thinned_none o less before t here.1
+      | inr t ↦ ap (depth_of o) t.1 ∙ ap (λ b. cond b (suc (depth_of o t.0)) (depth_of o t.0)) here.0 ∙ thinned_none o t.0 before t.2 here.1
     ]
-struck_none c o (wrote d key value ∷ before) none = struck_none c o before none
 
-struck_quiet : (c : ℕ) (things : List Standing) → IsQuiet things → IsQuiet (struck c things)
-struck_quiet c [] quiet = tt
-struck_quiet c (opened d ∷ before) quiet = elim (d == c) as (λ b. IsQuiet (cond b before (opened d ∷ struck c before))) [ true ↦ quiet | false ↦ struck_quiet c before quiet ]
-struck_quiet c (wrote d key value ∷ before) quiet = (λ other apart. struck_none c other before (quiet.0 other apart), struck_quiet c before quiet.1)
-
-cut_none : (c o : ℕ) (things : List Standing) → depth_of o things ≡ 0 → depth_of o (cut c things) ≡ 0
-cut_none c o [] none = refl
-cut_none c o (opened d ∷ before) none = elim (eqb_tells d o) [
-  | inl is ↦ absurd (let bad : suc (depth_of o before) ≡ 0 = sym (ap (λ b. cond b (suc (depth_of o before)) (depth_of o before)) is.0) ∙ none in omega arith)
-  | inr is ↦
-      let less : depth_of o before ≡ 0 = sym (ap (λ b. cond b (suc (depth_of o before)) (depth_of o before)) is.0) ∙ none in
-      elim (d == c) as (λ b. depth_of o (cond b before (cond b (cut c before) (opened d ∷ cut c before))) ≡ 0) [ true ↦ less | false ↦ rw is.0 (cut_none c o before less) ]
+thinned_quiet : (less things : List Standing) → Thinned less things → IsQuiet things → IsQuiet less
+thinned_quiet less [] t quiet = subst IsQuiet (sym t) tt
+thinned_quiet less (opened d ∷ before) t quiet = elim t [
+  | inl t ↦ thinned_quiet less before t quiet
+  | inr t ↦ subst IsQuiet (sym t.1) (thinned_quiet t.0 before t.2 quiet)
 ]
-cut_none c o (wrote d key value ∷ before) none = elim (d == c) as (λ b. depth_of o (cond b (cut c before) (wrote d key value ∷ cut c before)) ≡ 0) [ true ↦ cut_none c o before none | false ↦ cut_none c o before none ]
-
-cut_quiet : (c : ℕ) (things : List Standing) → IsQuiet things → IsQuiet (cut c things)
-cut_quiet c [] quiet = tt
-cut_quiet c (opened d ∷ before) quiet = elim (d == c) as (λ b. IsQuiet (cond b before (cond b (cut c before) (opened d ∷ cut c before)))) [ true ↦ quiet | false ↦ cut_quiet c before quiet ]
-cut_quiet c (wrote d key value ∷ before) quiet = elim (d == c) as (λ b. IsQuiet (cond b (cut c before) (wrote d key value ∷ cut c before))) [ true ↦ cut_quiet c before quiet.1 | false ↦ (λ other apart. cut_none c other before (quiet.0 other apart), cut_quiet c before quiet.1) ]
-
-cleared_none : (c o : ℕ) (things : List Standing) → depth_of o things ≡ 0 → depth_of o (cleared c things) ≡ 0
-cleared_none c o [] none = refl
-cleared_none c o (opened d ∷ before) none = elim (eqb_tells d o) [
-  | inl is ↦ absurd (let bad : suc (depth_of o before) ≡ 0 = sym (ap (λ b. cond b (suc (depth_of o before)) (depth_of o before)) is.0) ∙ none in omega arith)
-  | inr is ↦
-      let less : depth_of o before ≡ 0 = sym (ap (λ b. cond b (suc (depth_of o before)) (depth_of o before)) is.0) ∙ none in
-      elim ((d == c) || ((d == c) && not (is_zero (depth_of c before)))) as (λ b. depth_of o (cond b (cleared c before) (opened d ∷ cleared c before)) ≡ 0) [ true ↦ cleared_none c o before less | false ↦ rw is.0 (cleared_none c o before less) ]
+thinned_quiet less (wrote d key value ∷ before) t quiet = elim t [
+  | inl t ↦ thinned_quiet less before t quiet.1
+  | inr t ↦ subst IsQuiet (sym t.1) (λ other apart. thinned_none other t.0 before t.2 (quiet.0 other apart), thinned_quiet t.0 before t.2 quiet.1)
 ]
-cleared_none c o (wrote d key value ∷ before) none = elim ((d == c) && not (is_zero (depth_of c before))) as (λ b. depth_of o (cond b (cleared c before) (wrote d key value ∷ cleared c before)) ≡ 0) [ true ↦ cleared_none c o before none | false ↦ cleared_none c o before none ]
-
-cleared_quiet : (c : ℕ) (things : List Standing) → IsQuiet things → IsQuiet (cleared c things)
-cleared_quiet c [] quiet = tt
-cleared_quiet c (opened d ∷ before) quiet = elim ((d == c) || ((d == c) && not (is_zero (depth_of c before)))) as (λ b. IsQuiet (cond b (cleared c before) (opened d ∷ cleared c before))) [ true ↦ cleared_quiet c before quiet | false ↦ cleared_quiet c before quiet ]
-cleared_quiet c (wrote d key value ∷ before) quiet = elim ((d == c) && not (is_zero (depth_of c before))) as (λ b. IsQuiet (cond b (cleared c before) (wrote d key value ∷ cleared c before))) [ true ↦ cleared_quiet c before quiet.1 | false ↦ (λ other apart. cleared_none c other before (quiet.0 other apart), cleared_quiet c before quiet.1) ]
 
 pub after_quiet : (things : List Standing) (change : Change) → IsQuiet things → ((c : ℕ) (key : ℤ) (value : Option ℤ) → change ≡ writes c key value → (other : ℕ) → (other == c) ≡ false → depth_of other things ≡ 0) → IsQuiet (after things change)
 after_quiet things (opens c) quiet alone = quiet
 after_quiet things (writes c key value) quiet alone = (alone c key value refl, quiet)
-after_quiet things (commits c) quiet alone = struck_quiet c things quiet
-after_quiet things (rolls_back c) quiet alone = elim (is_zero (depth_of c things)) as (λ b. IsQuiet (cond b things (cut c things))) [ true ↦ quiet | false ↦ cut_quiet c things quiet ]
-after_quiet things (leaves c) quiet alone = cleared_quiet c things quiet
+after_quiet things (commits c) quiet alone = thinned_quiet (struck c things) things (struck_thinned c things) quiet
+after_quiet things (rolls_back c) quiet alone = elim (is_zero (depth_of c things)) as (λ b. IsQuiet (cond b things (cut c things))) [ true ↦ quiet | false ↦ thinned_quiet (cut c things) things (cut_thinned c things) quiet ]
+after_quiet things (leaves c) quiet alone = thinned_quiet (cleared c things) things (cleared_thinned c things) quiet
 
 -- ---- a step that ends brackets, over what stands
 swap_begun : (c d : ℕ) (step : Nested → Nested) (s : Store) → (d == c) ≡ false → (d ≡ c → ⊥) → on c step (changed s (opens d)) ≡ changed (on c step s) (opens d)
@@ -158,11 +165,11 @@ rolls_over c (wrote d key value ∷ before) quiet one = elim (eqb_tells c d) [
   | inr is ↦ absurd (let none = quiet.0 c is.0 in omega arith)
 ]
 
-positive : (n : ℕ) → is_zero n ≡ false → 1 ≤ n
+pub positive : (n : ℕ) → is_zero n ≡ false → 1 ≤ n
 positive zero e = absurd cc
 positive (suc n) e = omega arith
 
-nothing : (n : ℕ) → is_zero n ≡ true → n ≡ 0
+pub nothing : (n : ℕ) → is_zero n ≡ true → n ≡ 0
 nothing zero e = refl
 nothing (suc n) e = absurd cc
 

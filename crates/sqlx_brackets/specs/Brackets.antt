@@ -33,10 +33,12 @@ ending_after c ending (change ∷ changes) = ending_after c (ended_by c ending c
 abbrev pub ending : ℕ → List Change → Ending
 ending c changes = ending_after c (open_around 0) changes
 
+-- whether a bracket is open
 abbrev pub is_open : Ending → Bool
 is_open (open_around inner) = true
 is_open _ = false
 
+-- whether a bracket was rolled back
 abbrev pub is_rolled_back : Ending → Bool
 is_rolled_back rolled_back = true
 is_rolled_back _ = false
@@ -46,7 +48,8 @@ abbrev pub is_opening : ℕ → Change → Bool
 is_opening c (opens d) = d == c
 is_opening c _ = false
 
--- how the brackets around a write of this connection ended: those that were opened before it, the newest first, and were open when it came; `between` came after the opening and before the write, `since` is all that came after the opening
+-- how the brackets around a write of this connection ended: those that were opened before it, the newest first, and were open when it came
+-- `between` came after the opening and before the write, `since` is all that came after the opening
 abbrev pub endings_around : ℕ → List Change → List Change → History → List Ending
 endings_around c between since [] = []
 endings_around c between since (change ∷ past) =

@@ -22,6 +22,7 @@ pub data Met : Type 0 where
   broken : Met
   refusing : Met
 
+-- the reply to an act: the depth after it, how many rows were changed, the value that was read, or why it is refused
 pub data Reply : Type 0 where
   level : ℕ → Reply
   ok : ℕ → Reply
@@ -73,10 +74,12 @@ needs_level (roll_back c) = true
 needs_level (give_up c) = true
 needs_level _ = false
 
+-- whether the act is a custom begin
 abbrev pub is_custom : Act → Bool
 is_custom (custom c starts) = true
 is_custom _ = false
 
+-- the connection of which it is asked
 abbrev pub connection_asked : Act → ℕ
 connection_asked (begin c) = c
 connection_asked (custom c starts) = c

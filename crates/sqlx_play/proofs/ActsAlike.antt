@@ -27,7 +27,7 @@ use Rattle.sqlx_brackets.specs.Events as bracket
 use Rattle.sqlx_brackets.proofs.Linking.{savepoints_read_alike}
 use Rattle.sqlx_play.specs.declared.stage.acts.Act.{Act}
 use Rattle.sqlx_play.specs.declared.stage.acts.Act.TheVariants.{Begin, Custom, Put, Delete, Get, Commit, Rollback, GiveUp}
-use Rattle.sqlx_play.specs.ScriptLevels.{met_of, written_reply}
+use Rattle.sqlx_rules.specs.ScriptLevels.{met_of, written_reply}
 use Rattle.sqlx_play.specs.LinkActs.{answer_for, statement_at, act_on, IsMet, found_reply, reply_met, left_met, reply_within, left_within, reply_on, left_by}
 use Rattle.sqlx_play.proofs.Leaves.{Leaves, session_at, leaves-none, leaves-read, leaves-moved, leaves-written}
 

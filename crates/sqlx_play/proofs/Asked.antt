@@ -1,5 +1,5 @@
 -- What the letters of a line say of a connect.
-use Rattle.std.proofs.Common.{◌≡◌, ◌∙◌, ℕ, max, Bool, cond, nat_lt, Option, Some, None, Result, Ok, Err, IfOk, IfSome, refl, ap, subst, sym}
+use Rattle.std.proofs.Common.{◌≡◌, ◌∙◌, ℕ, max, cond, nat_lt, Option, None, Result, Ok, Err, IfOk, IfSome, ap, subst}
 use Rattle.sqlx_script.specs.declared.answers.ConnectAnswer.{ConnectAnswer}
 use Rattle.sqlx_script.specs.declared.answers.ConnectAnswer.TheVariants.{Connected, Transient, ConnectIo, ConnectDatabase}
 use Rattle.sqlx_script.specs.declared.reply.Reply.{Reply}
@@ -7,7 +7,7 @@ use Rattle.sqlx_play.specs.declared.error.PlayError.{PlayError}
 use Rattle.sqlx_play.specs.declared.error.PlayError.TheVariants.{OutOfMemory}
 use Rattle.sqlx_play.specs.declared.outside.ScriptOutside.{ScriptOutside}
 use Rattle.sqlx_play.specs.ScriptOutside.{next_connect, refusal_of, depth_of, is_left_open}
-use Rattle.sqlx_play.specs.Answer.{connect_reply}
+use Rattle.sqlx_rules.specs.Answer.{connect_reply}
 use Rattle.mem_store.specs.Store.{Link}
 use Rattle.sqlx_script.specs.declared.answers.PollAnswers.{PollAnswers}
 use Rattle.sqlx_script.specs.declared.pool_line.PoolLine.{PoolLine}

@@ -3,7 +3,7 @@ use Rattle.std.proofs.Common.{ℕ, ◌≤◌, inl, inr, arith}
 use Rattle.sqlx_play.specs.declared.error.PlayError.{PlayError}
 use Rattle.sqlx_play.specs.declared.error.PlayError.TheVariants.{Usage, ScriptTooLong, ScriptLine, ReadFault, WriteFault, OutOfMemory}
 use Rattle.sqlx_play.specs.Faults.{HasFaulted}
-use Rattle.sqlx_play.specs.Headline.{TextCause}
+use Rattle.sqlx_play.specs.Causes.{TextCause}
 
 -- a fault that was told after an earlier moment was told after it
 pub fault_since : (before' before now : ℕ) → before' ≤ before → HasFaulted before now → HasFaulted before' now

@@ -5,7 +5,7 @@ use Rattle.sqlx_script.specs.Grammar.{Script, script_of, bad_line}
 use Rattle.sqlx_play.specs.declared.error.PlayError.{PlayError}
 use Rattle.sqlx_play.specs.declared.error.PlayError.TheVariants.{Usage, ScriptTooLong, ScriptLine, ReadFault, WriteFault, OutOfMemory}
 use Rattle.sqlx_play.specs.Faults.{HasFaulted}
-use Rattle.sqlx_play.specs.Headline.{TookAll, PlayCause, IsSound, Shown}
+use Rattle.sqlx_play.specs.Causes.{TookAll, PlayCause, IsSound, Shown}
 
 -- there was no fault
 no_fault : (before now : ℕ) → now ≡ before → now < 2 ^ 64 - 1 → HasFaulted before now → ⊥

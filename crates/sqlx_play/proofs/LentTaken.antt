@@ -1,8 +1,8 @@
 -- A link that is taken out of a list, and put back.
-use Rattle.std.proofs.Common.{◌≡◌, ℕ, zero, suc, ◌+◌, ◌≤◌, ◌<◌, Bool, true, false, cond, not, ltb, List, [], ◌∷◌, length, filter, find, count_by, get_or, slice_index_or, Option, Some, None, refl, sym, ap, subst, ◌∙◌, arith}
+use Rattle.std.proofs.Common.{◌≡◌, ℕ, zero, suc, ◌+◌, ◌≤◌, ◌<◌, Bool, true, false, cond, not, ltb, List, [], ◌∷◌, ◌++◌, length, filter, find, count_by, get_or, slice_index_or, Option, Some, None, refl, sym, ap, subst, ◌∙◌, arith}
 use Rattle.std.specs.List.{position_or_len, remove, insert}
 use Rattle.sqlx_pool_core.specs.KeepingSteps.{without_first}
-use Rattle.sqlx_pool_core.proofs.ListFacts.{count_by-cons, filter_none}
+use Rattle.sqlx_log.proofs.ListFacts.{count_by-cons, filter_none}
 use Rattle.sqlx_pool_core.proofs.KeepingCode.{first-taken, none-taken}
 
 module _ {X : Type 0} (p : X → Bool) where
@@ -50,3 +50,18 @@ pub put-back : {X : Type 0} (xs : List X) (i : ℕ) (x : X) → i < length xs �
 put-back [] i x h e = absurd (omega (arith, h))
 put-back (w ∷ xs) zero x h e = ap (λ (y : _). y ∷ xs) e
 put-back (w ∷ xs) (suc i) x h e = ap (λ (l : List _). w ∷ l) (put-back xs i x (omega (arith, h)) e)
+
+-- What stands on both sides of the element at a place.
+pub record Sides {X : Type 0} (xs : List X) (i : ℕ) (x : X) : Type 0 where
+  pub before : List X
+  pub after : List X
+  pub whole : xs ≡ before ++ x ∷ after
+  pub rest : remove xs i ≡ before ++ after
+  pub place : i ≡ length before
+
+pub sides : {X : Type 0} (xs : List X) (i : ℕ) (x : X) → i < length xs → x ≡ get_or xs i x → Sides xs i x
+sides [] i x h e = absurd (omega (arith, h))
+sides (w ∷ xs) zero x h e = record { before = []; after = xs; whole = ap (λ (y : _). y ∷ xs) (sym e); rest = refl; place = refl }
+sides (w ∷ xs) (suc i) x h e =
+    let s = sides xs i x (omega (arith, h)) e in
+    record { before = w ∷ s.before; after = s.after; whole = ap (λ (l : List _). w ∷ l) s.whole; rest = ap (λ (l : List _). w ∷ l) s.rest; place = ap (λ (n : ℕ). suc n) s.place }

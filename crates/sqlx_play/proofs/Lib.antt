@@ -1,12 +1,12 @@
 pub mod Parts
-pub mod Events
 pub mod RunsAdded
 pub mod Lines
 pub mod Causes
 pub mod Scripts
 pub mod Complete
 pub mod Stages
-pub mod Pairs
+pub mod SetUpLimits
+pub mod TriesSame
 pub mod LinksSame
 pub mod OthersInLevel
 pub mod LinksMoves
@@ -14,7 +14,7 @@ pub mod PollTurns
 pub mod PollReplies
 pub mod PollTries
 pub mod PollMarks
-pub mod Passing
+pub mod CancelAndTry
 pub mod Dispatch
 pub mod Asked
 pub mod Polls
@@ -27,16 +27,15 @@ pub mod OneOut
 pub mod LinksGone
 pub mod LinksKept
 pub mod Owners
-pub mod Coming
-pub mod Opening
-pub mod Filling
+pub mod StageAdvanceLemmas
+pub mod OpensOneLemmas
+pub mod KeepsMinimumLemmas
 pub mod LentTaken
-pub mod Gone
 pub mod Minimum
-pub mod Reaping
-pub mod Closing
-pub mod GivesBack
-pub mod Returning
+pub mod ReapsLemmas
+pub mod ClosesLemmas
+pub mod GiveAnswers
+pub mod GivesBackLemmas
 pub mod LinkOutcomes
 pub mod Leaves
 pub mod ActsAlike
@@ -45,16 +44,7 @@ pub mod OwnLink
 pub mod OwnLinkLeft
 pub mod StatementStands
 pub mod RunsCounted
-pub mod FillBehind
+pub mod KeepsMinimumBehind
 pub mod PlaysGive
-pub mod Departing
+pub mod LoanEndsLemmas
 pub mod PlaysLeave
-pub mod InTurn
-pub mod FairEvents
-pub mod FairPolls
-pub mod FairScripts
-pub mod Depths
-pub mod AtRest
-pub mod Unowned
-mod WorkedScripts
-mod WorkedLaws

@@ -10,15 +10,15 @@ use Rattle.sqlx_script.specs.Texts.{reply_text, line_of}
 use Rattle.sqlx_script.specs.Words.{lines_of}
 use Rattle.sqlx_script.specs.Grammar.{Reading, reading_at, reading_from, event_of}
 use Rattle.sqlx_play.specs.declared.stage.Stage.{Stage}
-use Rattle.sqlx_play.specs.Answer.{answer}
+use Rattle.sqlx_rules.specs.Answer.{answer}
 use Rattle.sqlx_play.specs.StageStands.{StageStands}
-use Rattle.sqlx_play.specs.Output.{pairs_after, reply_line, replies_text}
-use Rattle.sqlx_play.specs.Headline.{WrotePart, PlaysLines, StopsAt, lines_text}
-use Rattle.sqlx_play.specs.Laws.{RestsUnowned}
+use Rattle.sqlx_rules.specs.Output.{pairs_after, reply_line, replies_text}
+use Rattle.sqlx_play.specs.Causes.{WrotePart}
+use Rattle.sqlx_play.specs.Plays.{PlaysLines, StopsAt, lines_text}
 use Rattle.sqlx_play.specs.ScriptRuns.{runs_of, runs_after}
 use Rattle.sqlx_play.proofs.RunsAdded.{runs_of-push}
-use Rattle.sqlx_play.proofs.Unowned.{rests-none, rests-after}
-use Rattle.sqlx_play.proofs.Events.{pairs_after-append, pairs_after-nil, pairs_after-push, pairs_after-front, replies_text-append, replies_text-push}
+use Rattle.sqlx_rules.proofs.Events.{pairs_after-append, pairs_after-nil, pairs_after-push, pairs_after-front, replies_text-append, replies_text-push}
+use Rattle.sqlx_rules.specs.Pairs.{Pairs}
 
 -- events, and what is read after them
 abbrev pub after : List Event → Reading → Reading
@@ -30,19 +30,17 @@ pub record PlayedSoFar (text rest : List ℕ) (number last : ℕ) (pool : PoolLi
   pub reads : reading_from 2 0 (lines_of text) ≡ after done (reading_from number last (lines_of rest))
   pub written : Appends before now (replies_text (pairs_after pool [] done))
   pub stands : StageStands stage (pairs_after pool [] done)
-  pub rests : RestsUnowned pool (pairs_after pool [] done)
   pub counted : length (pairs_after pool [] done) + 2 ≡ number
   pub runs : stage.out.store.runs ≡ runs_of (pairs_after pool [] done)
 
 -- nothing was played yet
 pub begun : (text : List ℕ) (pool : PoolLine) (now : Option (List ℕ)) (stage : Stage) → StageStands stage [] → stage.out.store.runs ≡ runs_of [] → PlayedSoFar text text 2 0 pool now now stage
 begun text pool now stage s none = record {
-  rests = subst (RestsUnowned pool) (sym (pairs_after-nil pool [])) (rests-none pool);
   done = [];
   reads = refl;
   written = subst (λ ps. Appends now now (replies_text ps)) (sym (pairs_after-nil pool [])) (Appends-nil now);
   stands = subst (StageStands stage) (sym (pairs_after-nil pool [])) s;
-  counted = ap (λ (ps : List (Event × Reply)). length ps + 2) (pairs_after-nil pool []);
+  counted = ap (λ (ps : Pairs). length ps + 2) (pairs_after-nil pool []);
   runs = none ∙ ap runs_of (sym (pairs_after-nil pool []));
 }
 
@@ -78,7 +76,7 @@ read_to : (text rest : List ℕ) (number last : ℕ) (pool : PoolLine) (before n
     → reading_from number last (lines_of rest) ≡ r → reading_from 2 0 (lines_of text) ≡ after w.done r
 read_to text rest number last pool before now stage w r e = w.reads ∙ ap (after w.done) e
 
-longer : (pairs : List (Event × Reply)) (pair : Event × Reply) (number : ℕ) → length pairs + 2 ≡ number → length (pairs ++ pair ∷ []) + 2 ≡ number + 1
+longer : (pairs : Pairs) (pair : Event × Reply) (number : ℕ) → length pairs + 2 ≡ number → length (pairs ++ pair ∷ []) + 2 ≡ number + 1
 longer pairs pair number e = let l : length (pairs ++ pair ∷ []) ≡ length pairs + 1 = length-append pairs (pair ∷ []) in omega (arith, e, l)
 
 -- the next event was played
@@ -86,10 +84,10 @@ pub more : (text rest line rest' : List ℕ) (number last : ℕ) (pool : PoolLin
     → PlayedSoFar text rest number last pool before now stage
     → lines_of rest ≡ line ∷ lines_of rest' → event_of line ≡ Some e → last ≤ e.moment.0
     → stage.pool ≡ pool → stage'.pool ≡ stage.pool
-    → ((pairs : List (Event × Reply)) → StageStands stage pairs
+    → ((pairs : Pairs) → StageStands stage pairs
     → Appends now now' (line_of (reply_text (answer stage.pool pairs e))) × StageStands stage' (pairs ++ (e, answer stage.pool pairs e) ∷ []))
     → number < 2 ^ 64
-    → ((pairs : List (Event × Reply)) → StageStands stage pairs → stage'.out.store.runs ≡ runs_after e.step (answer stage.pool pairs e) stage.out.store.runs)
+    → ((pairs : Pairs) → StageStands stage pairs → stage'.out.store.runs ≡ runs_after e.step (answer stage.pool pairs e) stage.out.store.runs)
     → PlayedSoFar text rest' (number + 1) e.moment.0 pool before now' stage'
 unfolding reply_line
 more text rest line rest' number last pool before now now' stage stage' e w lines is late same stays plays few runs =
@@ -104,8 +102,7 @@ more text rest line rest' number last pool before now now' stage stage' e w line
           ∙ ap (λ es. record { events = es; bad = (reading_from (number + 1) e.moment.0 (lines_of rest')).bad }) (sym (append_assoc w.done (e ∷ []) (reading_from (number + 1) e.moment.0 (lines_of rest')).events));
       written = subst (Appends before now') (sym (ap replies_text pushed ∙ replies_text-push pairs (e, answer pool pairs e))) (Appends-trans before now now' _ _ w.written played.0);
       stands = subst (StageStands stage') (sym pushed) played.1;
-      rests = subst (RestsUnowned pool) (sym pushed) (rests-after pool pairs (e, answer pool pairs e) stage' (stays ∙ same) played.1 w.rests);
-      counted = ap (λ (ps : List (Event × Reply)). length ps + 2) pushed ∙ longer pairs (e, answer pool pairs e) number w.counted;
+      counted = ap (λ (ps : Pairs). length ps + 2) pushed ∙ longer pairs (e, answer pool pairs e) number w.counted;
       runs =
           subst (λ (p : PoolLine). stage'.out.store.runs ≡ runs_after e.step (answer p pairs e) stage.out.store.runs) same (runs pairs w.stands)
           ∙ ap (runs_after e.step (answer pool pairs e)) w.runs
@@ -136,7 +133,7 @@ pub stopped : (text rest line rest' : List ℕ) (number last : ℕ) (pool : Pool
     → PlayedSoFar text rest number last pool before now stage
     → lines_of rest ≡ line ∷ lines_of rest' → event_of line ≡ Some e → last ≤ e.moment.0
     → stage.pool ≡ pool
-    → ((pairs : List (Event × Reply)) → StageStands stage pairs → WrotePart now now' (line_of (reply_text (answer stage.pool pairs e))))
+    → ((pairs : Pairs) → StageStands stage pairs → WrotePart now now' (line_of (reply_text (answer stage.pool pairs e))))
     → WrotePart before now' (lines_text pool text)
 stopped text rest line rest' number last pool before now now' stage e w lines is late same writes =
     let pairs = pairs_after pool [] w.done in
@@ -194,6 +191,5 @@ finished text rest number last pool before now stage w e =
       good = ap (λ (r : Reading). r.bad) reads;
       written = subst (λ es. Appends before now (replies_text (pairs_after pool [] es))) events w.written;
       stage_after = subst (λ es. StageStands stage (pairs_after pool [] es)) events w.stands;
-      rests = subst (λ es. RestsUnowned pool (pairs_after pool [] es)) events w.rests;
       runs_after = w.runs ∙ ap (λ es. runs_of (pairs_after pool [] es)) events;
     }

@@ -7,7 +7,7 @@ use Rattle.sqlx_pool_core.specs.declared.ticket.Held.{Held}
 use Rattle.sqlx_pool_core.specs.Core.{Core}
 use Rattle.sqlx_pool_core.specs.Sound.{holds, rests}
 use Rattle.sqlx_pool_core.specs.Edits.{without_loan, without_idle, unlent}
-use Rattle.sqlx_pool_core.proofs.ListFacts.{filter-map, count_by-map, All-filter_if, All-passing, number_comm, or-false, none_any}
+use Rattle.sqlx_log.proofs.ListFacts.{filter-map, count_by-map, All-filter_if, All-passing, number_comm, or-false, none_any}
 use Rattle.mem_store.specs.Store.{Store, Link, without}
 use Rattle.sqlx_brackets.specs.Changes.{leaves, History}
 use Rattle.sqlx_brackets.specs.Links.{Linked, linked_after, new_link}

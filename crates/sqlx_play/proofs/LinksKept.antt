@@ -9,7 +9,7 @@ use Rattle.sqlx_pool_core.specs.declared.steps.Idle.{Idle}
 use Rattle.sqlx_pool_core.specs.Core.{Core}
 use Rattle.sqlx_pool_core.specs.Sound.{holds}
 use Rattle.sqlx_pool_core.specs.Edits.{unlent, kept, opened}
-use Rattle.sqlx_pool_core.proofs.ListFacts.{found_All, or-false, count_by-push, list_any-push}
+use Rattle.sqlx_log.proofs.ListFacts.{found_All, or-false, count_by-push, list_any-push}
 use Rattle.mem_store.specs.Store.{Store, Link, new_link, connected}
 use Rattle.sqlx_brackets.specs.Changes.{History}
 use Rattle.sqlx_brackets.specs.Links.{Linked, linked_after}

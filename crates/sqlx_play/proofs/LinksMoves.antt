@@ -10,7 +10,7 @@ use Rattle.sqlx_pool_core.specs.declared.ticket.Held.{Held}
 use Rattle.sqlx_pool_core.specs.Core.{Core}
 use Rattle.sqlx_pool_core.specs.Edits.{lent_to, took, opened}
 use Rattle.sqlx_pool_core.specs.Sound.{IsSound, rests}
-use Rattle.sqlx_pool_core.proofs.ListFacts.{number_comm, same_number, list_any-push, count_by-push, count_by-cons, count_by-map, count_by-filter_parts, map-push, filter_none, All-passing, none_any}
+use Rattle.sqlx_log.proofs.ListFacts.{number_comm, same_number, list_any-push, count_by-push, count_by-cons, count_by-map, count_by-filter_parts, map-push, filter_none, All-passing, none_any}
 use Rattle.sqlx_pool_core.proofs.Known.{IsIdle, idle-first}
 use Rattle.mem_store.specs.declared.place.Place.{Place}
 use Rattle.mem_store.specs.Store.{Store, Link, connected, without}

@@ -2,7 +2,7 @@
 use Rattle.std.proofs.Common.{◌≡◌, ℕ, ◌+◌, ◌≤◌, ◌==◌, ◌&&◌, ◌||◌, Bool, true, false, cond, not, List, [], ◌∷◌, filter, find, count_by, Some, refl, sym, ap, ◌∙◌, arith}
 use Rattle.std.specs.List.{list_any}
 use Rattle.std.proofs.lemmas.Bool.{eqb-true}
-use Rattle.sqlx_pool_core.proofs.ListFacts.{count_by-cons, filter_none, same_number, or-true, found_counts, number_comm}
+use Rattle.sqlx_log.proofs.ListFacts.{count_by-cons, filter_none, same_number, or-true, found_counts, number_comm}
 use Rattle.mem_store.specs.declared.place.Place.{Place}
 use Rattle.mem_store.specs.Store.{without}
 use Rattle.sqlx_play.specs.LinksStand.{is_place_of, is_place_in_level}

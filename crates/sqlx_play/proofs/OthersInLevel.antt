@@ -3,7 +3,7 @@ use Rattle.std.proofs.Common.{◌≡◌, ℕ, ◌==◌, Bool, true, false, not, 
 use Rattle.std.proofs.lemmas.Bool.{eqb-true, and_parts}
 use Rattle.std.specs.List.{list_any}
 use Rattle.sqlx_pool_core.specs.declared.steps.Lent.{Lent}
-use Rattle.sqlx_pool_core.proofs.ListFacts.{same_number, or-true}
+use Rattle.sqlx_log.proofs.ListFacts.{same_number, or-true}
 use Rattle.mem_store.specs.declared.place.Place.{Place}
 use Rattle.mem_store.specs.Store.{Link, others_in_level}
 use Rattle.sqlx_play.specs.LinksStand.{is_in_level, is_another_in_level, has_number_in_level, is_place_in_level}

@@ -7,7 +7,7 @@ use Rattle.sqlx_pool_core.specs.declared.steps.Idle.{Idle}
 use Rattle.sqlx_pool_core.specs.declared.ticket.Held.{Held}
 use Rattle.sqlx_pool_core.specs.Core.{Core}
 use Rattle.sqlx_pool_core.specs.Sound.{IsSound, holds, rests}
-use Rattle.sqlx_pool_core.proofs.ListFacts.{count_by-map, number_comm}
+use Rattle.sqlx_log.proofs.ListFacts.{count_by-map, number_comm}
 use Rattle.mem_store.specs.declared.place.Place.{Place}
 use Rattle.mem_store.specs.Store.{Store, Link, others_in_level}
 use Rattle.sqlx_brackets.specs.Changes.{Change, History, connection_of}

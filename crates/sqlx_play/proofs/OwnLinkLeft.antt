@@ -8,7 +8,7 @@ use Rattle.sqlx_pool_core.specs.declared.steps.Lent.{Lent}
 use Rattle.sqlx_pool_core.specs.declared.steps.Idle.{Idle}
 use Rattle.sqlx_pool_core.specs.Core.{Core}
 use Rattle.sqlx_pool_core.specs.Sound.{IsSound}
-use Rattle.sqlx_pool_core.proofs.ListFacts.{number_comm, count_by-cons}
+use Rattle.sqlx_log.proofs.ListFacts.{number_comm, count_by-cons}
 use Rattle.mem_store.specs.declared.answer.Answer.{Answer}
 use Rattle.mem_store.specs.declared.place.Place.{Place}
 use Rattle.mem_store.specs.Store.{Store, Link, Session, marked, marked_place}

@@ -1,13 +1,13 @@
 -- Who owns a connection, by a core's loans and by the marks that it stands for.
 use Rattle.std.proofs.Common.{◌≡◌, ℕ, zero, suc, ◌+◌, ◌≤◌, ◌==◌, ◌&&◌, Bool, true, false, cond, List, [], ◌∷◌, map, find, count_by, is_some, option_map, Some, None, refl, sym, ap, ◌∙◌, arith}
-use Rattle.sqlx_pool_core.specs.declared.mark.Mark.{Mark}
+use Rattle.sqlx_log.specs.declared.mark.Mark.{Mark}
 use Rattle.sqlx_pool_core.specs.declared.ticket.Held.{Held}
-use Rattle.sqlx_pool_core.specs.Marks.{Loan, is_loan_of, owner_of}
+use Rattle.sqlx_log.specs.Marks.{Loan, is_loan_of, owner_of}
 use Rattle.sqlx_pool_core.specs.Core.{Core, loan, loan_of}
 use Rattle.sqlx_pool_core.specs.Sound.{IsSound, holds}
 use Rattle.sqlx_pool_core.specs.StandsFor.{StandsFor}
-use Rattle.sqlx_pool_core.proofs.ListFacts.{count_by-cons}
-use Rattle.sqlx_play.specs.ScriptLevels.{owns}
+use Rattle.sqlx_log.proofs.ListFacts.{count_by-cons}
+use Rattle.sqlx_rules.specs.ScriptLevels.{owns}
 
 -- the client's loan, where there is one
 pub none_held : (k c : ℕ) (held : List Held) → count_by (holds c) held ≡ 0 → loan_of k c held ≡ None

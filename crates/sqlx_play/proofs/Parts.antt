@@ -2,7 +2,7 @@
 use Rattle.std.proofs.Common.{◌≡◌, ℕ, List, [], ◌++◌, Option, take, drop, refl, subst, sym, ap, ◌∙◌, append_assoc, append-nil, take-append-drop}
 use Rattle.std.specs.Io.KnownBytes.{Appends, Keeps}
 use Rattle.std.proofs.KnownBytes.{Appends-nil, Appends-trans, Appends-kept}
-use Rattle.sqlx_play.specs.Headline.{WrotePart}
+use Rattle.sqlx_play.specs.Causes.{WrotePart}
 
 -- What stands before the rest of a text was written.
 pub record Wrote (before now : Option (List ℕ)) (text rest : List ℕ) : Type 0 where

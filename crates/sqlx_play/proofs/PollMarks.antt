@@ -1,12 +1,12 @@
 -- The marks of a poll, by the steps that made them.
 use Rattle.std.proofs.Common.{◌≡◌, ℕ, ◌==◌, Bool, true, false, not, cond, List, [], ◌∷◌, ◌++◌, map, Option, Some, None, option_map, refl, sym, ap, ◌∙◌, inl, inr, ◌⊎◌, if◌then◌else◌}
-use Rattle.sqlx_pool_core.specs.declared.mark.Mark.{Mark}
-use Rattle.sqlx_pool_core.specs.declared.mark.Mark.TheVariants as mark
+use Rattle.sqlx_log.specs.declared.mark.Mark.{Mark}
+use Rattle.sqlx_log.specs.declared.mark.Mark.TheVariants as mark
 use Rattle.sqlx_pool_core.specs.declared.ticket.Ticket.{Ticket}
 use Rattle.sqlx_pool_core.specs.declared.ticket.Phase.{Phase}
 use Rattle.sqlx_pool_core.specs.declared.ticket.Phase.TheVariants as phase
 use Rattle.sqlx_pool_core.specs.declared.steps.Idle.{Idle}
-use Rattle.sqlx_pool_core.specs.Marks.{idle_of}
+use Rattle.sqlx_log.specs.Marks.{idle_of}
 use Rattle.sqlx_pool_core.specs.Core.{Core, asking, resting, is_out, ticket_of}
 use Rattle.sqlx_pool_core.specs.PollSteps.{phase_for}
 use Rattle.sqlx_pool_core.specs.PollSteps as steps
@@ -18,10 +18,10 @@ use Rattle.sqlx_script.specs.declared.pool_line.PoolLine.{PoolLine}
 use Rattle.sqlx_script.specs.declared.reply.Reply.{Reply}
 use Rattle.sqlx_script.specs.declared.reply.Reply.TheVariants as reply
 use Rattle.sqlx_brackets.specs.Changes.{History, leaves}
-use Rattle.sqlx_play.specs.Answer.{is_set_up, connect_reply}
-use Rattle.sqlx_play.specs.ScriptMarks.{first_of, in_line, waits, taken_by, leaving, taking, opening, polled}
-use Rattle.sqlx_play.specs.ScriptLevels.{gone_by}
-use Rattle.sqlx_play.specs.Polling.{connect_marks}
+use Rattle.sqlx_rules.specs.Answer.{is_set_up, connect_reply}
+use Rattle.sqlx_rules.specs.ScriptMarks.{first_of, in_line, waits, taken_by, leaving, taking, opening, polled}
+use Rattle.sqlx_rules.specs.ScriptLevels.{gone_by}
+use Rattle.sqlx_play.specs.ConnectByReply.{connect_marks}
 use Rattle.sqlx_play.proofs.PollTurns.{AtTest, AtConnect, IsDue}
 use Rattle.sqlx_play.proofs.PollReplies.{asked-is}
 

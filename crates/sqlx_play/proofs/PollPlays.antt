@@ -4,16 +4,16 @@ use Rattle.std.proofs.Math.Nat.{max-eq_right}
 use Rattle.std.proofs.lemmas.Bool.{eqb-true}
 use Rattle.std.proofs.lemmas.List.Elements.{All-head, All-same}
 use Rattle.sqlx_text.specs.declared.Moment.{Moment}
-use Rattle.sqlx_pool_core.specs.declared.mark.Mark.{Mark}
-use Rattle.sqlx_pool_core.specs.declared.mark.Mark.TheVariants as mark
+use Rattle.sqlx_log.specs.declared.mark.Mark.{Mark}
+use Rattle.sqlx_log.specs.declared.mark.Mark.TheVariants as mark
 use Rattle.sqlx_pool_core.specs.declared.ticket.Ticket.{Ticket}
 use Rattle.sqlx_pool_core.specs.declared.ticket.Phase.TheVariants as phase
 use Rattle.sqlx_pool_core.specs.Sound.{IsSound}
 use Rattle.sqlx_pool_core.specs.declared.steps.Idle.{Idle}
 use Rattle.sqlx_pool_core.specs.declared.steps.Start.{Start}
 use Rattle.sqlx_pool_core.specs.declared.steps.Start.TheVariants as start
-use Rattle.sqlx_pool_core.specs.Marks.{tickets_of, idle_of}
-use Rattle.sqlx_pool_core.specs.Counts.{asked_in}
+use Rattle.sqlx_log.specs.Marks.{tickets_of, idle_of}
+use Rattle.sqlx_log.specs.Counts.{asked_in}
 use Rattle.sqlx_pool_core.specs.Core.{Core, ticket_of}
 use Rattle.sqlx_pool_core.specs.PollSteps.{start_answer, started, wait_of}
 use Rattle.sqlx_pool_core.specs.Edits.{ended, lent_to}
@@ -23,7 +23,6 @@ use Rattle.sqlx_pool_core.specs.StandsFor.{StandsFor}
 use Rattle.sqlx_pool_core.proofs.Known.{ticket-number}
 use Rattle.mem_store.specs.Store.{Link}
 use Rattle.sqlx_script.specs.declared.answers.PollAnswers.{PollAnswers}
-use Rattle.sqlx_script.specs.declared.step.Event.{Event}
 use Rattle.sqlx_script.specs.declared.step.Step.TheVariants.{Poll}
 use Rattle.sqlx_script.specs.declared.reply.Reply.{Reply}
 use Rattle.sqlx_script.specs.declared.reply.Reply.TheVariants as reply
@@ -31,20 +30,21 @@ use Rattle.sqlx_brackets.specs.Changes.{History}
 use Rattle.sqlx_brackets.specs.Links.{linked_after}
 use Rattle.sqlx_play.specs.declared.stage.Stage.{Stage}
 use Rattle.sqlx_play.specs.declared.error.PlayError.{PlayError}
-use Rattle.sqlx_play.specs.Answer.{answer, passes_test, connect_reply, poll_reply}
-use Rattle.sqlx_play.specs.ScriptMarks.{marks_of, first_of, leaving, taking, polled}
-use Rattle.sqlx_play.specs.ScriptLevels.{gone_by, history_of}
+use Rattle.sqlx_rules.specs.Answer.{answer, passes_test, connect_reply, poll_reply}
+use Rattle.sqlx_rules.specs.ScriptMarks.{marks_of, first_of, leaving, taking, polled}
+use Rattle.sqlx_rules.specs.ScriptLevels.{gone_by, history_of}
 use Rattle.sqlx_play.specs.LinksStand.{LinksStand, IsRestingLink}
-use Rattle.sqlx_play.specs.Tries.{tries_of, backed_off}
+use Rattle.sqlx_rules.specs.Tries.{tries_of, backed_off}
 use Rattle.sqlx_play.specs.StageStands.{IsTriedAt, StageStands, numbers_of}
 use Rattle.sqlx_play.specs.PlaysEvent.{PlaysEvent}
-use Rattle.sqlx_play.specs.Polling.{connect_marks, after_connect}
-use Rattle.sqlx_play.proofs.Pairs.{tries_of-push}
-use Rattle.sqlx_play.proofs.Passing.{stays-standing}
+use Rattle.sqlx_play.specs.ConnectByReply.{connect_marks, after_connect}
+use Rattle.sqlx_rules.proofs.Pairs.{tries_of-push}
+use Rattle.sqlx_play.proofs.CancelAndTry.{stays-standing}
 use Rattle.sqlx_play.proofs.PollTurns.{AtTest, AtBackoff}
 use Rattle.sqlx_play.proofs.PollReplies.{connecting, poll-reply, tried-of}
 use Rattle.sqlx_play.proofs.PollMarks.{waits-backoff}
 use Rattle.sqlx_play.proofs.Polls.{pair_of, Connecting, connect-stands, tested-stands}
+use Rattle.sqlx_rules.specs.Pairs.{Pairs}
 
 -- the next number of a connection is far from the last one
 pub few-conns : (stage : Stage) → numbers_of stage ≤ 2 ^ 62 → stage.core.next_conn ≤ 2 ^ 63
@@ -57,7 +57,7 @@ own-now core k t m r late own = own ∙ ap (λ (n : ℕ). start_answer (own_turn
 -- ---- before the next try is due
 
 -- the tries of every ticket are as before
-early_tries : (stage : Stage) (pairs : List (Event × Reply)) (moment : Moment) (k t until : ℕ) (answers : PollAnswers) → StageStands stage pairs → AtBackoff stage.core k t moment.0 until
+early_tries : (stage : Stage) (pairs : Pairs) (moment : Moment) (k t until : ℕ) (answers : PollAnswers) → StageStands stage pairs → AtBackoff stage.core k t moment.0 until
     → (u : ℕ) → tries_of u (pairs ++ pair_of moment k t answers (reply.Backoff until) ∷ []) ≡ tries_of u pairs
 early_tries stage pairs moment k t until answers s a u = tries_of-push u pairs (pair_of moment k t answers (reply.Backoff until)) ∙ by (u == t) refl
   where
@@ -73,7 +73,7 @@ early_tries stage pairs moment k t until answers s a u = tries_of-push u pairs (
         ∙ ap (λ (b : Bool). cond b (Some (record { first = a.x.first_try.0; wait = known.0; until = until })) (Some (record { first = a.x.first_try.0; wait = until - moment.0; until = until }))) a.early
         ∙ sym tries
 
-pub early-stands : (stage : Stage) (core : Core Link) (pairs : List (Event × Reply)) (moment : Moment) (k t until : ℕ) (answers : PollAnswers) → StageStands stage pairs → AtBackoff stage.core k t moment.0 until → core ≡ stage.core
+pub early-stands : (stage : Stage) (core : Core Link) (pairs : Pairs) (moment : Moment) (k t until : ℕ) (answers : PollAnswers) → StageStands stage pairs → AtBackoff stage.core k t moment.0 until → core ≡ stage.core
     → StageStands (record stage { core = core }) (pairs ++ pair_of moment k t answers (reply.Backoff until) ∷ [])
 early-stands stage core pairs moment k t until answers s a becomes =
     stays-standing stage pairs (pair_of moment k t answers (reply.Backoff until)) s (early_tries stage pairs moment k t until answers s a)
@@ -85,7 +85,7 @@ early-stands stage core pairs moment k t until answers s a becomes =
 
 -- ---- a connect
 
-module _ (stage mid new : Stage) (pairs : List (Event × Reply)) (s : StageStands stage pairs) (moment : Moment) (k t : ℕ) (answers : PollAnswers) (made : List Mark) (c : Connecting stage mid pairs k t moment.0 made) where
+module _ (stage mid new : Stage) (pairs : Pairs) (s : StageStands stage pairs) (moment : Moment) (k t : ℕ) (answers : PollAnswers) (made : List Mark) (c : Connecting stage mid pairs k t moment.0 made) where
   -- the reply to the connect is the one that the tries call for
   connect_is : (few : stage.core.next_conn ≤ 2 ^ 63)
       → connect_reply mid.pool answers mid.core.next_conn (moment.0 + wait_of c.y) answers.connect ≡ connecting stage pairs s k t moment.0 answers few (ticket_of k t stage.core.tickets)
@@ -106,14 +106,14 @@ module _ (stage mid new : Stage) (pairs : List (Event × Reply)) (s : StageStand
   )
 
 -- a connect is called for after these steps
-pub record Calls (stage mid : Stage) (pairs : List (Event × Reply)) (s : StageStands stage pairs) (k t m : ℕ) (answers : PollAnswers) (few : stage.core.next_conn ≤ 2 ^ 63) : Type 0 where
+pub record Calls (stage mid : Stage) (pairs : Pairs) (s : StageStands stage pairs) (k t m : ℕ) (answers : PollAnswers) (few : stage.core.next_conn ≤ 2 ^ 63) : Type 0 where
   pub made : List Mark
   pub connecting_is : Connecting stage mid pairs k t m made
   pub calls : connecting stage pairs s k t m answers few (ticket_of k t stage.core.tickets) ≡ poll_reply stage.pool answers (marks_of stage.pool pairs) m (tries_of t pairs) (asked_in k t (tickets_of (marks_of stage.pool pairs)))
 
 -- the event, where a connect follows
 pub connect-event : (stage mid new : Stage) (moment : Moment) (k t : ℕ) (answers : PollAnswers) (few : stage.core.next_conn ≤ 2 ^ 63) → IsSound stage.core
-    → ((pairs : List (Event × Reply)) (s : StageStands stage pairs) → Calls stage mid pairs s k t moment.0 answers few) → (r : Result Reply PlayError)
+    → ((pairs : Pairs) (s : StageStands stage pairs) → Calls stage mid pairs s k t moment.0 answers few) → (r : Result Reply PlayError)
     → ((x : Ticket) → ticket_of k t mid.core.tickets ≡ Some x → IfOk r (λ reply. reply ≡ connect_reply mid.pool answers mid.core.next_conn (moment.0 + wait_of x) answers.connect))
     → ((marks : List Mark) → StandsFor mid.core marks → IfOk r (λ reply. Makes mid.core.options.max_connections marks (connect_marks k t moment.0 reply) new.core))
     → IfOk r (λ reply. new.core ≡ after_connect k t moment reply mid.core)
@@ -128,7 +128,7 @@ connect-event stage mid new moment k t answers few sound called (Ok reply) is ma
 connect-event stage mid new moment k t answers few sound called (Err e) is makes becomes links pool = tt
 
 -- the first idle connection has no open level
-pub first-rests : (stage : Stage) (pairs : List (Event × Reply)) → StageStands stage pairs → (i : Idle Link) (rest : List (Idle Link)) → stage.core.idle ≡ i ∷ rest → i.lent.raw.depth ≡ 0
+pub first-rests : (stage : Stage) (pairs : Pairs) → StageStands stage pairs → (i : Idle Link) (rest : List (Idle Link)) → stage.core.idle ≡ i ∷ rest → i.lent.raw.depth ≡ 0
 first-rests stage pairs s i rest idle = (All-head (λ (j : Idle Link). IsRestingLink (linked_after (history_of stage.pool pairs)) j.lent.id j.lent.raw) i rest (All-same (λ (j : Idle Link). IsRestingLink (linked_after (history_of stage.pool pairs)) j.lent.id j.lent.raw) (i ∷ rest) stage.core.idle (sym idle) s.links.idle_links)).rests
 
 -- the event, where the idle connection passed its test

@@ -5,16 +5,15 @@ use Rattle.sqlx_pool_core.specs.declared.ticket.Ticket.{Ticket}
 use Rattle.sqlx_pool_core.specs.declared.ticket.Phase.{Phase}
 use Rattle.sqlx_pool_core.specs.declared.ticket.Phase.TheVariants as phase
 use Rattle.sqlx_pool_core.specs.declared.steps.Idle.{Idle}
-use Rattle.sqlx_pool_core.specs.Backoff.{cap, next_wait}
+use Rattle.sqlx_log.specs.Backoff.{cap, next_wait}
 use Rattle.sqlx_pool_core.specs.Edits.{with_ticket, without_ticket, to_test, to_try, to_try_at, to_connect}
 use Rattle.sqlx_pool_core.specs.PollSteps.{wait_of}
 use Rattle.sqlx_pool_core.proofs.Known.{IsOnly, KeepsNumber}
-use Rattle.sqlx_script.specs.declared.step.Event.{Event}
-use Rattle.sqlx_script.specs.declared.reply.Reply.{Reply}
-use Rattle.sqlx_play.specs.Tries.{Tries, tries_of, first_try, last_wait, backed_off, until_after}
+use Rattle.sqlx_rules.specs.Tries.{Tries, tries_of, first_try, last_wait, backed_off, until_after}
 use Rattle.sqlx_play.specs.StageStands.{IsTried, IsTriedAt}
-use Rattle.sqlx_play.proofs.Pairs.{tried-alike}
+use Rattle.sqlx_play.proofs.TriesSame.{tried-alike}
 use Rattle.sqlx_play.proofs.PollTurns.{IsDue}
+use Rattle.sqlx_rules.specs.Pairs.{Pairs}
 
 -- A ticket y that connects at m for the ticket x: its next refused try brings it the wait that the tries say.
 pub record Trying (m : ℕ) (tries : Option Tries) (x y : Ticket) : Type 0 where
@@ -51,12 +50,12 @@ try_at_backoff : (m until : ℕ) (x : Ticket) (p : Phase) → p ≡ phase.Backof
 try_at_backoff m until x p e = ap (λ (q : Phase). to_try_at m q x) e
 
 -- the ticket after the first idle connection was refused
-pub trying-refused : {C : Type 0} (m t : ℕ) (i : Idle C) (pairs : List (Event × Reply)) (x : Ticket) → t ≡ x.number → x.phase ≡ phase.Waiting → IsTried pairs x → Trying m (tries_of t pairs) x (to_connect (to_test m i x))
+pub trying-refused : {C : Type 0} (m t : ℕ) (i : Idle C) (pairs : Pairs) (x : Ticket) → t ≡ x.number → x.phase ≡ phase.Waiting → IsTried pairs x → Trying m (tries_of t pairs) x (to_connect (to_test m i x))
 trying-refused m t i pairs x number waits tried =
     trying-first m (tries_of t pairs) x (to_connect (to_test m i x)) (ap (λ (n : ℕ). tries_of n pairs) number ∙ subst (IsTriedAt pairs x) waits tried) refl refl refl refl
 
 -- the ticket where no connection was idle, or its next try is due
-pub trying-connect : (m t : ℕ) (pairs : List (Event × Reply)) (x : Ticket) (P : Type 0) → t ≡ x.number → ((x.phase ≡ phase.Waiting) × P) ⊎ IsDue m x → IsTried pairs x → Trying m (tries_of t pairs) x (to_try m x)
+pub trying-connect : (m t : ℕ) (pairs : Pairs) (x : Ticket) (P : Type 0) → t ≡ x.number → ((x.phase ≡ phase.Waiting) × P) ⊎ IsDue m x → IsTried pairs x → Trying m (tries_of t pairs) x (to_try m x)
 trying-connect m t pairs x P number (inl first) tried =
     subst (Trying m (tries_of t pairs) x) (sym (try_at_waiting m x x.phase first.0))
     (trying-first m (tries_of t pairs) x _ (ap (λ (n : ℕ). tries_of n pairs) number ∙ subst (IsTriedAt pairs x) first.0 tried) refl refl refl refl)
@@ -67,7 +66,7 @@ trying-connect m t pairs x P number (inr due) tried =
 -- ---- the tickets behind a poll
 
 -- only the tries of one ticket change
-pub tried-without : (one two : List (Event × Reply)) (t : ℕ) (tickets : List Ticket) → ((u : ℕ) → tries_of u two ≡ tries_of u one) → All (IsTried one) tickets → All (IsTried two) (without_ticket t tickets)
+pub tried-without : (one two : Pairs) (t : ℕ) (tickets : List Ticket) → ((u : ℕ) → tries_of u two ≡ tries_of u one) → All (IsTried one) tickets → All (IsTried two) (without_ticket t tickets)
 tried-without one two t [] same h = All-nil (IsTried two)
 tried-without one two t (x ∷ tickets) same h = by (tried-without one two t tickets same (All-tail (IsTried one) x tickets h)) (not (t == x.number))
   where
@@ -75,7 +74,7 @@ tried-without one two t (x ∷ tickets) same h = by (tried-without one two t tic
     by rest true = All-cons (IsTried two) x (without_ticket t tickets) (tried-alike one two x (same x.number) (All-head (IsTried one) x tickets h)) rest
     by rest false = rest
 
-pub tried-changed : (one two : List (Event × Reply)) (t : ℕ) (f : Ticket → Ticket) (x : Ticket) (tickets : List Ticket) → IsOnly t x tickets
+pub tried-changed : (one two : Pairs) (t : ℕ) (f : Ticket → Ticket) (x : Ticket) (tickets : List Ticket) → IsOnly t x tickets
     → ((u : ℕ) → (t == u) ≡ false → tries_of u two ≡ tries_of u one) → IsTried two (f x) → All (IsTried one) tickets → All (IsTried two) (with_ticket t f tickets)
 tried-changed one two t f x [] only others mine h = All-nil (IsTried two)
 tried-changed one two t f x (y ∷ tickets) only others mine h =

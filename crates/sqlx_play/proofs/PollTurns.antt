@@ -5,16 +5,17 @@ use Rattle.sqlx_pool_core.specs.declared.ticket.Phase.{Phase}
 use Rattle.sqlx_pool_core.specs.declared.ticket.Phase.TheVariants as phase
 use Rattle.sqlx_pool_core.specs.declared.steps.Idle.{Idle}
 use Rattle.sqlx_pool_core.specs.declared.steps.Start.TheVariants as start
-use Rattle.sqlx_pool_core.specs.declared.turn.Turn.{Turn}
-use Rattle.sqlx_pool_core.specs.declared.turn.Turn.TheVariants as turn
-use Rattle.sqlx_pool_core.specs.Core.{Core, ticket_of, free}
-use Rattle.sqlx_pool_core.specs.PollTable.{is_at_rest, in_time, first_idle}
-use Rattle.sqlx_pool_core.specs.OwnTurn.{own_turn, own_turn_at, before}
+use Rattle.sqlx_log.specs.declared.turn.Turn.{Turn}
+use Rattle.sqlx_log.specs.declared.turn.Turn.TheVariants as turn
+use Rattle.sqlx_pool_core.specs.Core.{Core, is_out, ticket_of}
+use Rattle.sqlx_log.specs.PollTable.{first_idle, in_time}
+use Rattle.sqlx_pool_core.specs.PollTable.{is_at_rest, backs_off_until}
+use Rattle.sqlx_pool_core.specs.OwnTurn.{own_turn, turn_of, is_first_in_line}
 use Rattle.sqlx_pool_core.specs.PollSteps.{start_answer, phase_for, tested_at}
 use Rattle.sqlx_pool_core.specs.Edits.{with_ticket, to_test, to_try, to_try_at, to_connect}
 use Rattle.sqlx_pool_core.proofs.TurnCases.{ConnectsFirst, ConnectsAgain, turn-test, turn-connect}
 use Rattle.sqlx_pool_core.proofs.Known.{KeepsOwner, ticket-changed}
-use Rattle.sqlx_pool_core.proofs.ListFacts.{same_number}
+use Rattle.sqlx_log.proofs.ListFacts.{same_number}
 
 -- The first idle connection is tested for a ticket that waits.
 pub record AtTest {C : Type 0} (core : Core C) (k t : ℕ) (i : Idle C) : Type 0 where
@@ -51,12 +52,16 @@ due_of true false false false u z e = refl
 due_of false shut le lt u z e = absurd cc
 
 module _ {C : Type 0} (core : Core C) (k t m : ℕ) where
+  -- the ticket is entitled by its line
+  abbrev q : Bool
+  q = is_first_in_line t core
+
   pub at-test : (i : Idle C) → start.Test i ≡ start_answer (own_turn core k t m) core.idle → AtTest core k t i
   at-test i own = by (ticket_of k t core.tickets) refl own
     where
-      turned : (x : Ticket) → ticket_of k t core.tickets ≡ Some x → (w : Turn) → own_turn_at core m (Some x) ≡ w → start.Test i ≡ start_answer w core.idle → AtTest core k t i
+      turned : (x : Ticket) → ticket_of k t core.tickets ≡ Some x → (w : Turn) → turn_of q m core (Some x) ≡ w → start.Test i ≡ start_answer w core.idle → AtTest core k t i
       turned x found turn.Test is e =
-          let tests = turn-test core m x is in
+          let tests = turn-test q core m x is in
           let first : start.Test i ≡ start.Test tests.first = e ∙ ap (start_answer turn.Test) tests.idle in
           let same : i ≡ tests.first = cc in
           record {
@@ -75,34 +80,34 @@ module _ {C : Type 0} (core : Core C) (k t m : ℕ) where
       turned x found (turn.Backoff until) is e = absurd cc
       turned x found turn.Connect is e = absurd cc
 
-      by : (o : Option Ticket) → ticket_of k t core.tickets ≡ o → start.Test i ≡ start_answer (own_turn_at core m o) core.idle → AtTest core k t i
+      by : (o : Option Ticket) → ticket_of k t core.tickets ≡ o → start.Test i ≡ start_answer (turn_of q m core o) core.idle → AtTest core k t i
       by None found e = absurd cc
-      by (Some x) found e = turned x found (own_turn_at core m (Some x)) refl e
+      by (Some x) found e = turned x found (turn_of q m core (Some x)) refl e
 
   pub at-connect : start.Connect ≡ start_answer (own_turn core k t m) core.idle → AtConnect core k t m
   at-connect own = by (ticket_of k t core.tickets) refl own
     where
-      ways_of : (x : Ticket) → own_turn_at core m (Some x) ≡ turn.Connect → (ConnectsFirst core x ⊎ ConnectsAgain core x) → ((x.phase ≡ phase.Waiting) × (core.idle ≡ [])) ⊎ IsDue m x
+      ways_of : (x : Ticket) → turn_of q m core (Some x) ≡ turn.Connect → (ConnectsFirst q core x ⊎ ConnectsAgain core x) → ((x.phase ≡ phase.Waiting) × (core.idle ≡ [])) ⊎ IsDue m x
       ways_of x is (inl first) = inl (first.leaves.waits, first.none)
       ways_of x is (inr again) = inr (record {
         until = again.until;
         backs_off = again.backs_off;
         due = due_of true core.shut (nat_le x.deadline m) (nat_lt m again.until) again.until _
-            (sym (ap (λ (p : Phase). cond (is_at_rest p) (cond core.shut turn.Closed (cond (nat_le x.deadline m) turn.TimedOut (in_time m (free core) (before x.number core.tickets) core.next_conn core.idle p))) turn.NotHeld) again.backs_off) ∙ is);
+            (sym (ap (λ (p : Phase). cond (is_at_rest p) (cond core.shut turn.Closed (cond (nat_le x.deadline m) turn.TimedOut (in_time m q core.next_conn core.idle (is_out p) (backs_off_until p)))) turn.NotHeld) again.backs_off) ∙ is);
       })
 
-      connects : (x : Ticket) → ticket_of k t core.tickets ≡ Some x → own_turn_at core m (Some x) ≡ turn.Connect → AtConnect core k t m
+      connects : (x : Ticket) → ticket_of k t core.tickets ≡ Some x → turn_of q m core (Some x) ≡ turn.Connect → AtConnect core k t m
       connects x found is = record {
         x = x;
         found = found;
-        ways = ways_of x is (turn-connect core m x is);
+        ways = ways_of x is (turn-connect q core m x is);
         is_open = open_of (is_at_rest x.phase) core.shut _ turn.Connect is (λ h. cc) (λ h. cc);
       }
 
-      turned : (x : Ticket) → ticket_of k t core.tickets ≡ Some x → (w : Turn) → own_turn_at core m (Some x) ≡ w → start.Connect ≡ start_answer w core.idle → AtConnect core k t m
+      turned : (x : Ticket) → ticket_of k t core.tickets ≡ Some x → (w : Turn) → turn_of q m core (Some x) ≡ w → start.Connect ≡ start_answer w core.idle → AtConnect core k t m
       turned x found turn.Connect is e = connects x found is
       turned x found turn.Test is e =
-          let tests = turn-test core m x is in
+          let tests = turn-test q core m x is in
           let first : start.Connect ≡ start.Test tests.first = e ∙ ap (start_answer turn.Test) tests.idle in
           absurd cc
       turned x found turn.NotHeld is e = absurd cc
@@ -112,9 +117,9 @@ module _ {C : Type 0} (core : Core C) (k t m : ℕ) where
       turned x found turn.Waiting is e = absurd cc
       turned x found (turn.Backoff until) is e = absurd cc
 
-      by : (o : Option Ticket) → ticket_of k t core.tickets ≡ o → start.Connect ≡ start_answer (own_turn_at core m o) core.idle → AtConnect core k t m
+      by : (o : Option Ticket) → ticket_of k t core.tickets ≡ o → start.Connect ≡ start_answer (turn_of q m core o) core.idle → AtConnect core k t m
       by None found e = absurd cc
-      by (Some x) found e = turned x found (own_turn_at core m (Some x)) refl e
+      by (Some x) found e = turned x found (turn_of q m core (Some x)) refl e
 
 -- The ticket's next try isn't due yet.
 pub record AtBackoff {C : Type 0} (core : Core C) (k t m until : ℕ) : Type 0 where
@@ -130,21 +135,24 @@ early_of false false true ex v u e = (refl, cc)
 early_of false false false true v u e = absurd cc
 early_of false false false false v u e = absurd cc
 
-none_waiting : {X : Type 0} (sh le wt ex : Bool) (idle : List X) (u : ℕ) → cond sh turn.Closed (cond le turn.TimedOut (cond wt turn.Waiting (cond ex turn.Exhausted (first_idle idle)))) ≡ turn.Backoff u → ⊥
-none_waiting true le wt ex idle u e = cc
-none_waiting false true wt ex idle u e = cc
-none_waiting false false true ex idle u e = cc
-none_waiting false false false true idle u e = cc
-none_waiting false false false false [] u e = cc
-none_waiting false false false false (i ∷ rest) u e = cc
+none_waiting : {X : Type 0} (sh le q ex : Bool) (idle : List X) (u : ℕ) → cond sh turn.Closed (cond le turn.TimedOut (cond q (cond ex turn.Exhausted (first_idle idle)) turn.Waiting)) ≡ turn.Backoff u → ⊥
+none_waiting true le q ex idle u e = cc
+none_waiting false true q ex idle u e = cc
+none_waiting false false false ex idle u e = cc
+none_waiting false false true true idle u e = cc
+none_waiting false false true false [] u e = cc
+none_waiting false false true false (i ∷ rest) u e = cc
 
 module _ {C : Type 0} (core : Core C) (k t m : ℕ) where
+  abbrev line : Bool
+  line = is_first_in_line t core
+
   turn_by : Ticket → Phase → Turn
-  turn_by x p = cond (is_at_rest p) (cond core.shut turn.Closed (cond (nat_le x.deadline m) turn.TimedOut (in_time m (free core) (before x.number core.tickets) core.next_conn core.idle p))) turn.NotHeld
+  turn_by x p = cond (is_at_rest p) (cond core.shut turn.Closed (cond (nat_le x.deadline m) turn.TimedOut (in_time m line core.next_conn core.idle (is_out p) (backs_off_until p)))) turn.NotHeld
 
   waits_early : (x : Ticket) (u : ℕ) → ticket_of k t core.tickets ≡ Some x → (p : Phase) → x.phase ≡ p → turn_by x p ≡ turn.Backoff u → AtBackoff core k t m u
   unfolding turn_by
-  waits_early x u found phase.Waiting is e = absurd (none_waiting core.shut (nat_le x.deadline m) (nat_le (free core) (before x.number core.tickets)) (nat_lt (2 ^ 63) core.next_conn) core.idle u e)
+  waits_early x u found phase.Waiting is e = absurd (none_waiting core.shut (nat_le x.deadline m) line (nat_lt (2 ^ 63) core.next_conn) core.idle u e)
   waits_early x u found (phase.Testing c created) is e = absurd cc
   waits_early x u found phase.Connecting is e = absurd cc
   waits_early x u found (phase.Backoff v) is e =
@@ -155,12 +163,12 @@ module _ {C : Type 0} (core : Core C) (k t m : ℕ) where
   unfolding turn_by
   at-backoff until own = by (ticket_of k t core.tickets) refl own
     where
-      turned : (x : Ticket) → ticket_of k t core.tickets ≡ Some x → (w : Turn) → own_turn_at core m (Some x) ≡ w → start.Backoff until ≡ start_answer w core.idle → AtBackoff core k t m until
+      turned : (x : Ticket) → ticket_of k t core.tickets ≡ Some x → (w : Turn) → turn_of line m core (Some x) ≡ w → start.Backoff until ≡ start_answer w core.idle → AtBackoff core k t m until
       turned x found (turn.Backoff u) is e =
           let same : u ≡ until = cc in
           waits_early x until found x.phase refl (is ∙ ap (λ (n : ℕ). turn.Backoff n) same)
       turned x found turn.Test is e =
-          let tests = turn-test core m x is in
+          let tests = turn-test line core m x is in
           let first : start.Backoff until ≡ start.Test tests.first = e ∙ ap (start_answer turn.Test) tests.idle in
           absurd cc
       turned x found turn.Connect is e = absurd cc
@@ -170,9 +178,9 @@ module _ {C : Type 0} (core : Core C) (k t m : ℕ) where
       turned x found turn.Exhausted is e = absurd cc
       turned x found turn.Waiting is e = absurd cc
 
-      by : (o : Option Ticket) → ticket_of k t core.tickets ≡ o → start.Backoff until ≡ start_answer (own_turn_at core m o) core.idle → AtBackoff core k t m until
+      by : (o : Option Ticket) → ticket_of k t core.tickets ≡ o → start.Backoff until ≡ start_answer (turn_of line m core o) core.idle → AtBackoff core k t m until
       by None found e = absurd cc
-      by (Some x) found e = turned x found (own_turn_at core m (Some x)) refl e
+      by (Some x) found e = turned x found (turn_of line m core (Some x)) refl e
 
 -- ---- the phase of the ticket
 

@@ -2,8 +2,8 @@
 use Rattle.std.proofs.Common.{◌≡◌, ℕ, ◌+◌, ◌≤◌, ◌<◌, ◌==◌, Bool, true, false, cond, List, [], ◌∷◌, ◌++◌, Option, Some, All, refl, sym, ap, subst, ◌∙◌, arith}
 use Rattle.std.proofs.lemmas.Bool.{ne_eqb}
 use Rattle.sqlx_text.specs.declared.Moment.{Moment}
-use Rattle.sqlx_pool_core.specs.declared.mark.Mark.{Mark}
-use Rattle.sqlx_pool_core.specs.declared.mark.Mark.TheVariants as mark
+use Rattle.sqlx_log.specs.declared.mark.Mark.{Mark}
+use Rattle.sqlx_log.specs.declared.mark.Mark.TheVariants as mark
 use Rattle.sqlx_pool_core.specs.declared.ticket.Ticket.{Ticket}
 use Rattle.sqlx_pool_core.specs.declared.steps.Idle.{Idle}
 use Rattle.sqlx_pool_core.specs.declared.steps.Start.TheVariants as start
@@ -12,9 +12,9 @@ use Rattle.sqlx_pool_core.specs.Edits.{ended, lent_to, took, with_ticket, withou
 use Rattle.sqlx_pool_core.specs.Sound.{IsSound}
 use Rattle.sqlx_pool_core.specs.PollSteps.{start_marks, started, phase_for, wait_of}
 use Rattle.sqlx_pool_core.specs.Makes.{Makes}
-use Rattle.sqlx_pool_core.proofs.FairLaws.{makes-then}
+use Rattle.sqlx_pool_core.proofs.Fair.{makes-then}
 use Rattle.sqlx_pool_core.proofs.Known.{KeepsNumber, ticket-number, ticket-is_only, ticket-below, gone-changed, idle-first}
-use Rattle.sqlx_pool_core.proofs.ListFacts.{same_number, number_comm}
+use Rattle.sqlx_log.proofs.ListFacts.{same_number, number_comm}
 use Rattle.mem_store.specs.Store.{Link, without}
 use Rattle.sqlx_script.specs.declared.answers.PollAnswers.{PollAnswers}
 use Rattle.sqlx_script.specs.declared.step.Event.{Event}
@@ -24,14 +24,14 @@ use Rattle.sqlx_script.specs.declared.reply.Reply.TheVariants as reply
 use Rattle.sqlx_brackets.specs.Changes.{leaves}
 use Rattle.sqlx_play.specs.declared.stage.Stage.{Stage}
 use Rattle.sqlx_pool_core.specs.declared.options.PoolOptions.{PoolOptions}
-use Rattle.sqlx_play.specs.Answer.{connect_reply}
-use Rattle.sqlx_play.specs.ScriptMarks.{marks_of, waits, leaving, polled}
-use Rattle.sqlx_play.specs.ScriptLevels.{gone_by, history_of}
+use Rattle.sqlx_rules.specs.Answer.{connect_reply}
+use Rattle.sqlx_rules.specs.ScriptMarks.{marks_of, waits, leaving, polled}
+use Rattle.sqlx_rules.specs.ScriptLevels.{gone_by, history_of}
 use Rattle.sqlx_play.specs.LinksStand.{LinksStand}
-use Rattle.sqlx_play.specs.Tries.{tries_of, backed_off}
+use Rattle.sqlx_rules.specs.Tries.{tries_of, backed_off}
 use Rattle.sqlx_play.specs.StageStands.{IsTried, StageStands}
-use Rattle.sqlx_play.specs.Polling.{connect_marks, after_connect}
-use Rattle.sqlx_play.proofs.Pairs.{tries_of-push}
+use Rattle.sqlx_play.specs.ConnectByReply.{connect_marks, after_connect}
+use Rattle.sqlx_rules.proofs.Pairs.{tries_of-push}
 use Rattle.sqlx_play.proofs.LinksSame.{links-same, links-as}
 use Rattle.sqlx_play.proofs.LinksMoves.{links-lent, links-closed}
 use Rattle.sqlx_play.proofs.StageAfter.{stage-after}
@@ -39,13 +39,14 @@ use Rattle.sqlx_play.proofs.PollTurns.{AtTest, AtConnect, keeps-try, found-try, 
 use Rattle.sqlx_play.proofs.PollReplies.{tried-of}
 use Rattle.sqlx_play.proofs.PollTries.{Trying, trying-refused, trying-connect, tried-without, tried-changed, with-with}
 use Rattle.sqlx_play.proofs.PollMarks.{gone-append, taken-test, taken-connect, waits-test, leaving-connect, polled_by, lent-marks, Outcome, connected, backs_off, broken, refused, reply_by, connect-marks, refused-marks, connect-gone, polled-by, outcome_of, outcome-is, outcome-until}
+use Rattle.sqlx_rules.specs.Pairs.{Pairs}
 
 abbrev pub pair_of : Moment → ℕ → ℕ → PollAnswers → Reply → Event × Reply
 pair_of moment k t answers r = (record { moment = moment; step = Poll k t answers }, r)
 
 -- ---- the connection that passed its test
 
-pub tested-stands : (stage new : Stage) (pairs : List (Event × Reply)) (moment : Moment) (k t last : ℕ) (answers : PollAnswers) (i : Idle Link) (mid : Core Link) → StageStands stage pairs → IsSound stage.core → AtTest stage.core k t i
+pub tested-stands : (stage new : Stage) (pairs : Pairs) (moment : Moment) (k t last : ℕ) (answers : PollAnswers) (i : Idle Link) (mid : Core Link) → StageStands stage pairs → IsSound stage.core → AtTest stage.core k t i
     → mid ≡ started t last (start.Test i) stage.core → new.core ≡ ended t (lent_to k i.lent.id i.lent.created mid)
     → new.out.store ≡ stage.out.store → new.lent.items ≡ stage.lent.items ++ i.lent ∷ [] → new.pool ≡ stage.pool
     → Makes stage.core.options.max_connections (marks_of stage.pool pairs) (mark.Left t ∷ mark.Taken i.lent.id ∷ []) mid
@@ -85,7 +86,7 @@ tested-stands stage new pairs moment k t last answers i mid s sound a begun beco
 -- ---- a connect
 
 -- A stage between two steps of a poll, whose ticket connects: x is the ticket before the poll, and y is it now.
-pub record Connecting (stage mid : Stage) (pairs : List (Event × Reply)) (k t m : ℕ) (made : List Mark) : Type 0 where
+pub record Connecting (stage mid : Stage) (pairs : Pairs) (k t m : ℕ) (made : List Mark) : Type 0 where
   pub x : Ticket
   pub y : Ticket
   pub change : Ticket → Ticket
@@ -116,7 +117,7 @@ keeps-connect k t n moment core (backs_off until) = record { options = refl; pla
 keeps-connect k t n moment core broken = record { options = refl; places = refl; next_ticket = refl }
 keeps-connect k t n moment core refused = record { options = refl; places = refl; next_ticket = refl }
 
-module _ (stage mid new : Stage) (pairs : List (Event × Reply)) (moment : Moment) (k t : ℕ) (answers : PollAnswers) (made : List Mark) (s : StageStands stage pairs) (sound : IsSound stage.core)
+module _ (stage mid new : Stage) (pairs : Pairs) (moment : Moment) (k t : ℕ) (answers : PollAnswers) (made : List Mark) (s : StageStands stage pairs) (sound : IsSound stage.core)
     (c : Connecting stage mid pairs k t moment.0 made) where
   gone : without_ticket t mid.core.tickets ≡ without_ticket t stage.core.tickets
   gone = ap (without_ticket t) c.tickets ∙ gone-changed t c.change stage.core.tickets c.keeps
@@ -139,7 +140,7 @@ module _ (stage mid new : Stage) (pairs : List (Event × Reply)) (moment : Momen
 
   waiting_tries : All (IsTried (pairs ++ pair_of moment k t answers (reply.Backoff (moment.0 + wait_of c.y)) ∷ [])) (with_ticket t (λ (z : Ticket). to_back_off (wait_of z) (moment.0 + wait_of c.y) z) mid.core.tickets)
   waiting_tries =
-      let after : List (Event × Reply) = pairs ++ pair_of moment k t answers (reply.Backoff (moment.0 + wait_of c.y)) ∷ [] in
+      let after : Pairs = pairs ++ pair_of moment k t answers (reply.Backoff (moment.0 + wait_of c.y)) ∷ [] in
       let waits : Ticket → Ticket = λ (z : Ticket). to_back_off (wait_of z) (moment.0 + wait_of c.y) z in
       let mine : IsTried after (waits c.y) = (wait_of c.y, refl, ap (λ (n : ℕ). tries_of n after) number ∙ own_tries) in
       subst (All (IsTried after)) (sym (ap (with_ticket t waits) c.tickets ∙ with-with t c.change waits stage.core.tickets c.keeps))
@@ -199,7 +200,7 @@ module _ (stage mid new : Stage) (pairs : List (Event × Reply)) (moment : Momen
 -- ---- the two ways to a connect
 
 -- no connection is idle, or the next try is due
-pub at-connect-connects : (stage mid : Stage) (pairs : List (Event × Reply)) (k t m : ℕ) → StageStands stage pairs → IsSound stage.core → (a : AtConnect stage.core k t m)
+pub at-connect-connects : (stage mid : Stage) (pairs : Pairs) (k t m : ℕ) → StageStands stage pairs → IsSound stage.core → (a : AtConnect stage.core k t m)
     → mid.core ≡ started t m start.Connect stage.core → mid.out.store ≡ stage.out.store → mid.lent.items ≡ stage.lent.items → mid.pool ≡ stage.pool
     → Makes stage.core.options.max_connections (marks_of stage.pool pairs) (start_marks {C = Link} t (phase_for k t stage.core.tickets) start.Connect) mid.core
     → Connecting stage mid pairs k t m (leaving t (waits k t (marks_of stage.pool pairs)))
@@ -235,7 +236,7 @@ at-connect-connects stage mid pairs k t m s sound a becomes store owned pool mak
     by false = refl
 
 -- the idle connection was refused
-pub refused-connects : (stage mid : Stage) (core : Core Link) (pairs : List (Event × Reply)) (k t m : ℕ) (i : Idle Link) → StageStands stage pairs → IsSound stage.core → (a : AtTest stage.core k t i)
+pub refused-connects : (stage mid : Stage) (core : Core Link) (pairs : Pairs) (k t m : ℕ) (i : Idle Link) → StageStands stage pairs → IsSound stage.core → (a : AtTest stage.core k t i)
     → core ≡ started t m (start.Test i) stage.core → mid.core ≡ record core { tickets = with_ticket t to_connect core.tickets }
     → mid.out.store ≡ record stage.out.store { places = without i.lent.raw.number stage.out.store.places } → mid.lent.items ≡ stage.lent.items → mid.pool ≡ stage.pool
     → Makes stage.core.options.max_connections (marks_of stage.pool pairs) (mark.Left t ∷ mark.Taken i.lent.id ∷ []) core

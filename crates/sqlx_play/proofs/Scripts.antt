@@ -3,28 +3,27 @@ use Rattle.std.proofs.Common.{◌≡◌, ℕ, ℤ, arith, List, [], ◌∷◌, �
 use Rattle.std.specs.Io.KnownBytes.{Appends}
 use Rattle.std.proofs.KnownBytes.{Appends-nil, Appends-trans}
 use Rattle.sqlx_script.specs.declared.pool_line.PoolLine.{PoolLine}
-use Rattle.sqlx_script.specs.declared.step.Event.{Event}
-use Rattle.sqlx_script.specs.declared.reply.Reply.{Reply}
 use Rattle.sqlx_script.specs.declared.report.Report.{Report}
 use Rattle.sqlx_script.specs.Texts.{report_text, line_of}
 use Rattle.sqlx_script.specs.Words.{lines_of}
 use Rattle.sqlx_script.specs.Grammar.{Script, reading_from, pool_of, script_after, script_lines, script_of, bad_line, limit}
 use Rattle.std.specs.FinMap.{get, get-empty}
 use Rattle.std.specs.Ordering.{int_cmp}
-use Rattle.sqlx_pool_core.specs.FairLog.{IsFair}
 use Rattle.sqlx_pool_core.specs.StandsFor.{StandsFor}
-use Rattle.sqlx_pool_core.proofs.LogLaws.{lends-once, keeps-the-line, keeps-the-maximum}
+use Rattle.sqlx_rules.proofs.Holds.{headline-holds}
 use Rattle.sqlx_savepoints.specs.Rows.{Rows, seen, sees}
 use Rattle.sqlx_brackets.specs.Brackets.{value}
 use Rattle.sqlx_brackets.specs.Links.{Link, linked_after}
 use Rattle.sqlx_brackets.proofs.Linking.{savepoints_read_alike}
-use Rattle.sqlx_play.specs.ScriptMarks.{marks_of}
-use Rattle.sqlx_play.specs.ScriptLevels.{history_of}
+use Rattle.sqlx_rules.specs.ScriptMarks.{marks_of}
+use Rattle.sqlx_rules.specs.ScriptLevels.{history_of}
 use Rattle.sqlx_play.specs.declared.stage.Stage.{Stage}
-use Rattle.sqlx_play.specs.Answer.{report_of}
-use Rattle.sqlx_play.specs.StageStands.{StageStands}
-use Rattle.sqlx_play.specs.Output.{pairs_after, closing_due, replies_due, output_due}
-use Rattle.sqlx_play.specs.Headline.{WrotePart, PlaysLines, StopsAt, StopsText, Plays, lines_text}
+use Rattle.sqlx_rules.specs.Answer.{report_of}
+use Rattle.sqlx_play.specs.StageStands.{IsSetUp, StageStands}
+use Rattle.sqlx_rules.specs.Output.{pairs_after, closing_due, replies_due, output_due}
+use Rattle.sqlx_play.specs.Causes.{WrotePart, StopsText}
+use Rattle.sqlx_play.specs.Plays.{PlaysLines, StopsAt, Plays, lines_text}
+use Rattle.sqlx_rules.specs.Pairs.{Pairs}
 
 -- the script of a first line that sets a pool up, and of the lines in rest
 abbrev pub script_with : PoolLine → List ℕ → Script
@@ -64,7 +63,7 @@ part_of_replies text rest pool before now e p =
 
 -- the line of the report, where no line is bad
 report_due : (rest : List ℕ) (pool : PoolLine) (before mid : Option (List ℕ)) (stage : Stage) (report : Report) → stage.pool ≡ pool → PlaysLines rest pool before mid stage
-    → ((pairs : List (Event × Reply)) → StageStands stage pairs → report ≡ report_of stage.pool pairs)
+    → ((pairs : Pairs) → StageStands stage pairs → report ≡ report_of stage.pool pairs)
     → line_of (report_text report) ≡ closing_due (reading_from 2 0 (lines_of rest)).bad (script_with pool rest)
 report_due rest pool before mid stage report same plays reports =
     ap (λ r. line_of (report_text r)) (reports _ plays.stage_after ∙ ap (λ p. report_of p (pairs_after pool [] (reading_from 2 0 (lines_of rest)).events)) same)
@@ -73,7 +72,7 @@ report_due rest pool before mid stage report same plays reports =
 -- the replies and a part of the report were written
 pub part_of_report : (text rest : List ℕ) (pool : PoolLine) (before mid now : Option (List ℕ)) (stage : Stage) (report : Report) → script_of text ≡ Some (script_with pool rest)
     → stage.pool ≡ pool → PlaysLines rest pool before mid stage
-    → ((pairs : List (Event × Reply)) → StageStands stage pairs → report ≡ report_of stage.pool pairs)
+    → ((pairs : Pairs) → StageStands stage pairs → report ≡ report_of stage.pool pairs)
     → WrotePart mid now (line_of (report_text report)) → WrotePart before now (output_due (script_of text))
 part_of_report text rest pool before mid now stage report e same plays reports p =
     let replies = lines_text pool rest in
@@ -87,9 +86,8 @@ part_of_report text rest pool before mid now stage report e same plays reports p
       written = Appends-trans before mid now replies p.front plays.written p.written;
     }
 
--- all was written
 -- the rows of the store are what a connection that was never opened sees
-rows_seen : (stage : Stage) (pairs : List (Event × Reply)) → StageStands stage pairs → (key : ℤ) → get stage.out.store.rows key ≡ value stage.core.next_conn key (history_of stage.pool pairs)
+rows_seen : (stage : Stage) (pairs : Pairs) → StageStands stage pairs → (key : ℤ) → get stage.out.store.rows key ≡ value stage.core.next_conn key (history_of stage.pool pairs)
 rows_seen stage pairs s key =
     let history = history_of stage.pool pairs in
     let link = s.links.unopened stage.core.next_conn (omega arith) in
@@ -98,24 +96,21 @@ rows_seen stage pairs s key =
     ∙ sym (ap (λ (l : Link). sees l.own (linked_after history).rows key) link)
     ∙ (savepoints_read_alike history s.links.accepted).values stage.core.next_conn key
 
+-- all was written
 pub plays_text : (text rest : List ℕ) (pool : PoolLine) (before mid now : Option (List ℕ)) (stage : Stage) (report : Report) → length text ≤ limit → script_of text ≡ Some (script_with pool rest)
     → stage.pool ≡ pool → PlaysLines rest pool before mid stage
-    → ((pairs : List (Event × Reply)) → StageStands stage pairs → report ≡ report_of stage.pool pairs)
+    → ((pairs : Pairs) → StageStands stage pairs → report ≡ report_of stage.pool pairs)
     → Appends mid now (line_of (report_text report)) → Plays text before now stage.core stage.out.store
 plays_text text rest pool before mid now stage report short e same plays reports w =
     let due = report_due rest pool before mid stage report same plays reports ∙ ap (λ bad. closing_due bad (script_with pool rest)) plays.good in
-    let pairs : List (Event × Reply) = pairs_after pool [] (reading_from 2 0 (lines_of rest)).events in
-    let fair : IsFair pool.max [] (marks_of pool pairs) = subst (λ (p : PoolLine). IsFair p.max [] (marks_of p pairs)) same plays.stage_after.fair in
+    let pairs : Pairs = pairs_after pool [] (reading_from 2 0 (lines_of rest)).events in
     record {
       script = script_with pool rest;
       is_script = record { short = short; reads = e; good = plays.good };
       written = Appends-trans before mid now (lines_text pool rest) _ plays.written (subst (Appends mid now) due w);
-      headline = record {
-        no_two_owners = lends-once pool.max _ fair;
-        rests = plays.rests;
-        in_turn = keeps-the-line pool.max _ fair;
-        within = keeps-the-maximum pool.max _ fair;
-      };
+      headline = headline-holds pool (reading_from 2 0 (lines_of rest)).events;
+      set_up = subst (λ (p : PoolLine). IsSetUp p stage.core.options) same plays.stage_after.set_up;
+      places = plays.stage_after.places;
       core_after = subst (λ (p : PoolLine). StandsFor stage.core (marks_of p pairs)) same plays.stage_after.stands;
       rows_after = subst (λ (p : PoolLine). (key : ℤ) → get stage.out.store.rows key ≡ value stage.core.next_conn key (history_of p pairs)) same (rows_seen stage pairs plays.stage_after);
       runs_after = plays.runs_after;

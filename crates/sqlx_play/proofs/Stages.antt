@@ -1,28 +1,9 @@
 -- What a step leaves of a stage.
-use Rattle.std.proofs.Common.{◌≡◌, suc, List, [], ◌∷◌, ◌++◌, length, map, refl, sym, ap, ◌∙◌}
-use Rattle.sqlx_pool_core.specs.declared.mark.Mark.{Mark}
+use Rattle.std.proofs.Common.{◌≡◌, suc, List, [], ◌∷◌, length, map, refl, sym, ap, ◌∙◌}
+use Rattle.sqlx_log.specs.declared.mark.Mark.{Mark}
 use Rattle.sqlx_pool_core.specs.Core.{Core, asking, loan, resting}
 use Rattle.sqlx_pool_core.specs.StandsFor.{StandsFor}
-use Rattle.sqlx_script.specs.declared.pool_line.PoolLine.{PoolLine}
-use Rattle.sqlx_script.specs.declared.step.Event.{Event}
-use Rattle.sqlx_script.specs.declared.reply.Reply.{Reply}
-use Rattle.sqlx_play.specs.Answer.{report_at}
-use Rattle.sqlx_play.specs.ScriptMarks.{added, marks_after, marks_of}
-
--- no event and no mark
-pub marks_of-nil : (pool : PoolLine) → marks_of pool [] ≡ []
-unfolding marks_after
-marks_of-nil pool = refl
-
-marks_after-push : (pool : PoolLine) (marks : List Mark) (pairs : List (Event × Reply)) (pair : Event × Reply)
-    → marks_after pool marks (pairs ++ pair ∷ []) ≡ marks_after pool marks pairs ++ added pool (marks_after pool marks pairs) pair
-unfolding marks_after
-marks_after-push pool marks [] pair = refl
-marks_after-push pool marks (p ∷ pairs) pair = marks_after-push pool (marks ++ added pool marks p) pairs pair
-
--- the marks of one more pair
-pub marks_of-push : (pool : PoolLine) (pairs : List (Event × Reply)) (pair : Event × Reply) → marks_of pool (pairs ++ pair ∷ []) ≡ marks_of pool pairs ++ added pool (marks_of pool pairs) pair
-marks_of-push pool pairs pair = marks_after-push pool [] pairs pair
+use Rattle.sqlx_rules.specs.Answer.{report_at}
 
 length-map : {X Y : Type 0} (f : X → Y) (xs : List X) → length (map f xs) ≡ length xs
 length-map f [] = refl

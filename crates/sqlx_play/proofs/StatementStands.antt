@@ -1,17 +1,16 @@
 -- The stage behind a statement.
-use Rattle.std.proofs.Common.{◌≡◌, ℕ, ◌≤◌, ◌==◌, Bool, true, false, is_some, ◌⊎◌, inl, inr, List, [], ◌∷◌, ◌++◌, map, count_by, Option, Some, Result, Ok, Err, IfOk, refl, sym, ap, subst, ◌∙◌, arith}
-use Rattle.std.specs.List.{list_any}
+use Rattle.std.proofs.Common.{◌≡◌, find, ℕ, ◌≤◌, ◌==◌, Bool, true, false, is_some, ◌⊎◌, inl, inr, List, [], ◌∷◌, ◌++◌, map, count_by, Option, Some, None, Result, Ok, Err, IfOk, refl, sym, ap, subst, ◌∙◌, arith}
 use Rattle.std.proofs.lemmas.List.Elements.{All-same}
-use Rattle.sqlx_pool_core.specs.declared.mark.Mark.{Mark}
+use Rattle.sqlx_log.specs.declared.mark.Mark.{Mark}
 use Rattle.sqlx_pool_core.specs.declared.ticket.Held.{Held}
 use Rattle.sqlx_pool_core.specs.declared.steps.Lent.{Lent}
 use Rattle.sqlx_pool_core.specs.Core.{Core, loan_of}
-use Rattle.sqlx_pool_core.specs.Marks.{owner_of}
+use Rattle.sqlx_log.specs.Marks.{owner_of}
 use Rattle.sqlx_pool_core.specs.Sound.{IsSound, holds}
 use Rattle.sqlx_pool_core.specs.StandsFor.{StandsFor}
 use Rattle.sqlx_pool_core.specs.Makes.{Makes}
 use Rattle.sqlx_pool_core.proofs.Fair.{makes-none}
-use Rattle.sqlx_pool_core.proofs.ListFacts.{count_by-map}
+use Rattle.sqlx_log.proofs.ListFacts.{count_by-map}
 use Rattle.mem_store.specs.Store.{Store, Link, Session}
 use Rattle.sqlx_script.specs.declared.pool_line.PoolLine.{PoolLine}
 use Rattle.sqlx_script.specs.declared.step.Event.{Event}
@@ -26,24 +25,28 @@ use Rattle.sqlx_brackets.specs.Events as bracket
 use Rattle.sqlx_brackets.proofs.Answering.{asked_fine}
 use Rattle.sqlx_play.specs.declared.stage.Stage.{Stage}
 use Rattle.sqlx_play.specs.declared.stage.statements.Statement.{Statement}
-use Rattle.sqlx_play.specs.Answer.{answer, reply_at}
-use Rattle.sqlx_play.specs.ScriptMarks.{made, marks_of}
-use Rattle.sqlx_play.specs.ScriptLevels as levels
-use Rattle.sqlx_play.specs.ScriptLevels.{statement_of, statement_reply, written_reply, read_reply, owns, met_of, changed_by, history_of, history_after}
-use Rattle.sqlx_play.specs.Tries.{Tries, tried, tries_of}
+use Rattle.sqlx_rules.specs.Answer.{answer, reply_at}
+use Rattle.sqlx_rules.specs.ScriptMarks.{made, marks_of}
+use Rattle.sqlx_rules.specs.ScriptLevels as levels
+use Rattle.sqlx_rules.specs.ScriptLevels.{statement_of, statement_reply, written_reply, read_reply, owns, met_of, changed_by, history_of, history_after}
+use Rattle.sqlx_rules.specs.Tries.{Tries, tried, tries_of}
 use Rattle.sqlx_play.specs.LinksStand.{LinksStand, IsLinkOf}
 use Rattle.sqlx_play.specs.StageStands.{StageStands, IsTried}
 use Rattle.sqlx_play.specs.PlaysEvent.{PlaysEvent}
 use Rattle.sqlx_play.specs.LinkActs.{act_on, answer_for, IsMet, reply_on, left_by}
-use Rattle.sqlx_play.specs.StatementRuns.{said, is_lent_id, at_work, left_at, RunsOnLink, RunsNot, Runs}
-use Rattle.sqlx_play.proofs.Pairs.{tries_of-push, tried-same}
+use Rattle.sqlx_play.specs.LentLinks.{is_lent}
+use Rattle.sqlx_play.proofs.LentTaken.{none-counted}
+use Rattle.sqlx_play.specs.StatementRuns.{said, at_work, left_at, RunsOnLink, RunsNot, Runs}
+use Rattle.sqlx_rules.proofs.Pairs.{tries_of-push}
+use Rattle.sqlx_play.proofs.TriesSame.{tried-same}
 use Rattle.sqlx_play.proofs.StageAfter.{stage-after}
 use Rattle.sqlx_play.proofs.Leaves.{session_at}
 use Rattle.sqlx_play.proofs.ActsAlike.{AlikeAt, acts-alike}
-use Rattle.sqlx_play.proofs.Middles.{All-mid, uncounted}
+use Rattle.sqlx_play.proofs.Middles.{All-mid}
 use Rattle.sqlx_play.proofs.OwnLink.{busy-alike}
 use Rattle.sqlx_play.proofs.OwnLinkLeft.{links-left}
 use Rattle.sqlx_play.proofs.Owners.{owner-alike, held-counted}
+use Rattle.sqlx_rules.specs.Pairs.{Pairs}
 
 -- ---- a statement makes no mark and no try
 
@@ -97,13 +100,13 @@ not_held_changes (bracket.give_up c) past = refl
 -- ---- the stage
 
 -- the answer to a statement
-answer_is : (pool : PoolLine) (pairs : List (Event × Reply)) (event : Event) (x : levels.Statement) → statement_of event.step ≡ Some x
+answer_is : (pool : PoolLine) (pairs : Pairs) (event : Event) (x : levels.Statement) → statement_of event.step ≡ Some x
     → answer pool pairs event ≡ statement_reply (marks_of pool pairs) (history_of pool pairs) x
 unfolding answer
 answer_is pool pairs event x e = ap (reply_at pool pairs (marks_of pool pairs) (history_of pool pairs) event.moment.0 event.step) e
 
 -- a stage of which a statement changed the store and the links
-moves : (old new : Stage) (pairs : List (Event × Reply)) (event : Event) (r : Reply) (x : levels.Statement) → StageStands old pairs → statement_of event.step ≡ Some x
+moves : (old new : Stage) (pairs : Pairs) (event : Event) (r : Reply) (x : levels.Statement) → StageStands old pairs → statement_of event.step ≡ Some x
     → new.core ≡ old.core → new.pool ≡ old.pool → LinksStand old.core new.out.store new.lent.items (changed_by (Some x) r (history_of old.pool pairs)) → StageStands new (pairs ++ (event, r) ∷ [])
 moves old new pairs event r x s e core pool links =
     let pair : Event × Reply = (event, r) in
@@ -125,7 +128,7 @@ moves old new pairs event r x s e core pool links =
 -- ---- a connection that the client doesn't own
 
 unowned : (core : Core Link) (lent : List (Lent Link)) (k c : ℕ) → map (λ (l : Lent Link). l.id) lent ≡ map (λ (h : Held). h.conn) core.held
-    → (is_some (loan_of k c core.held) ≡ false) ⊎ (list_any (is_lent_id c) lent ≡ false) → is_some (loan_of k c core.held) ≡ false
+    → (is_some (loan_of k c core.held) ≡ false) ⊎ (find (is_lent c) lent ≡ None) → is_some (loan_of k c core.held) ≡ false
 unowned core lent k c owned (inl none) = none
 unowned core lent k c owned (inr none) = by (is_some (loan_of k c core.held)) refl
   where
@@ -133,11 +136,11 @@ unowned core lent k c owned (inr none) = by (is_some (loan_of k c core.held)) re
     by false e = e
     by true e = absurd (
         let some = held-counted k c core.held e in
-        let same : count_by (is_lent_id c) lent ≡ count_by (holds c) core.held = sym (count_by-map (λ (l : Lent Link). l.id) (λ n. c == n) lent) ∙ ap (count_by (λ n. c == n)) owned ∙ count_by-map (λ (h : Held). h.conn) (λ n. c == n) core.held in
-        let zero' = uncounted (is_lent_id c) lent none in
+        let same : count_by (is_lent c) lent ≡ count_by (holds c) core.held = sym (count_by-map (λ (l : Lent Link). l.id) (λ n. c == n) lent) ∙ ap (count_by (λ n. c == n)) owned ∙ count_by-map (λ (h : Held). h.conn) (λ n. c == n) core.held in
+        let zero' = none-counted (is_lent c) lent none in
         omega (arith, some, same, zero'))
 
-runs_not : (old new : Stage) (pairs : List (Event × Reply)) (event : Event) (st : Statement) (r : Reply) → StageStands old pairs → IsSound old.core → statement_of event.step ≡ Some (said st)
+runs_not : (old new : Stage) (pairs : Pairs) (event : Event) (st : Statement) (r : Reply) → StageStands old pairs → IsSound old.core → statement_of event.step ≡ Some (said st)
     → new.core ≡ old.core → new.pool ≡ old.pool → RunsNot old new st r → (r ≡ answer old.pool pairs event) × StageStands new (pairs ++ (event, r) ∷ [])
 runs_not old new pairs event st r s sound e core pool ran =
     let past : History = history_of old.pool pairs in
@@ -161,7 +164,7 @@ work_is past c store link st rows side = λ i. record {
   answer = answer_for st.answer;
 }
 
-runs_on : (old new : Stage) (pairs : List (Event × Reply)) (event : Event) (st : Statement) (r : Reply) → StageStands old pairs → IsSound old.core → statement_of event.step ≡ Some (said st) → IsMet st.act st.answer
+runs_on : (old new : Stage) (pairs : Pairs) (event : Event) (st : Statement) (r : Reply) → StageStands old pairs → IsSound old.core → statement_of event.step ≡ Some (said st) → IsMet st.act st.answer
     → new.core ≡ old.core → new.pool ≡ old.pool → RunsOnLink old new st r → (r ≡ answer old.pool pairs event) × StageStands new (pairs ++ (event, r) ∷ [])
 runs_on old new pairs event st r s sound e met core pool ran =
     let past : History = history_of old.pool pairs in

@@ -98,6 +98,7 @@ reply_within GiveUp session = reply.Level (pred session.link.depth) (rollback_at
 reply_within (Custom starts) session = if session.link.depth == 0 then reply_met (Custom starts) session (refusal_of (Some (statement_at (Custom starts) session.link.depth)) session) else reply.InvalidSavePointStatement
 reply_within act session = reply_met act session (refusal_of (Some (statement_at act session.link.depth)) session)
 
+-- the session after it
 abbrev pub left_within : Act → Session → Session
 left_within GiveUp session = after_start_rollback session
 left_within (Custom starts) session = if session.link.depth == 0 then left_met (Custom starts) session (refusal_of (Some (statement_at (Custom starts) session.link.depth)) session) else session

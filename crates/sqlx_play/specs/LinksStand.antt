@@ -27,6 +27,7 @@ pub record IsRestingLink (linked : Linked) (c : ℕ) (link : Link) : Type 0 wher
 
 -- ---- of links
 
+-- a level is open on the link
 abbrev pub is_in_level : Link → Bool
 is_in_level link = nat_lt 0 link.depth
 
@@ -34,9 +35,11 @@ is_in_level link = nat_lt 0 link.depth
 abbrev pub is_another_in_level : ℕ → Lent Link → Bool
 is_another_in_level number l = not (l.raw.number == number) && is_in_level l.raw
 
+-- the lent link has this number
 abbrev pub has_number : ℕ → Lent Link → Bool
 has_number number l = l.raw.number == number
 
+-- the idle connection's link has this number
 abbrev pub rests_with_number : ℕ → Idle Link → Bool
 rests_with_number number i = i.lent.raw.number == number
 

@@ -1,16 +1,16 @@
 -- What reaping is: idle connections that leave one by one.
 use Rattle.std.specs.Prelude.{◌≡◌, ℕ, ◌+◌, Bool, true, false, List, [], ◌∷◌, ◌++◌, length, map, filter, if◌then◌else◌}
-use Rattle.sqlx_pool_core.specs.declared.mark.Mark.{Mark}
-use Rattle.sqlx_pool_core.specs.declared.mark.Mark.TheVariants.{Reaped}
+use Rattle.sqlx_log.specs.declared.mark.Mark.{Mark}
+use Rattle.sqlx_log.specs.declared.mark.Mark.TheVariants.{Reaped}
 use Rattle.sqlx_pool_core.specs.declared.steps.Idle.{Idle}
 use Rattle.sqlx_pool_core.specs.Core.{Core}
 use Rattle.sqlx_pool_core.specs.KeepingSteps.{is_reaped_at}
 use Rattle.mem_store.specs.Store.{Link}
 use Rattle.sqlx_brackets.specs.Changes.{History}
 use Rattle.sqlx_play.specs.declared.stage.Stage.{Stage}
-use Rattle.sqlx_play.specs.ScriptLevels.{gone_by}
-use Rattle.sqlx_play.specs.Comes.{IsAt, Comes}
-use Rattle.sqlx_play.specs.Fills.{core_passes}
+use Rattle.sqlx_rules.specs.ScriptLevels.{gone_by}
+use Rattle.sqlx_play.specs.StageAdvance.{IsAt, StageAdvance}
+use Rattle.sqlx_play.specs.KeepsMinimum.{core_passes}
 
 -- the idle connections that are to be reaped at m
 abbrev pub reapable : ℕ → Core Link → List (Idle Link)
@@ -23,7 +23,7 @@ reap_mark i = Reaped i.lent.id
 -- These were reaped at m, in their order.
 pub record Reaps (old new : Stage) (m : ℕ) (taken : List (Idle Link)) : Type 0 where
   pub beyond : reapable m old.core ≡ taken ++ reapable m new.core
-  pub comes : (marks : List Mark) (past : History) → IsAt old marks past → Comes old new marks (map reap_mark taken) (gone_by (map reap_mark taken) past)
+  pub comes : (marks : List Mark) (past : History) → IsAt old marks past → StageAdvance old new marks (map reap_mark taken) (gone_by (map reap_mark taken) past)
   pub next : new.core.next_conn ≡ old.core.next_conn
   pub fewer : length old.core.idle ≡ length taken + length new.core.idle
 

@@ -1,5 +1,5 @@
 -- What the outside of a script answers: the letters of the present line, told before they are asked for.
-use Rattle.std.specs.Prelude.{◌≡◌, ℕ, ◌==◌, Bool, true, false, nat_lt, min, max, List, [], ◌∷◌, ◌++◌, replicate, Option, Some, None, Result, Ok, Err, if◌then◌else◌}
+use Rattle.std.specs.Prelude.{◌≡◌, ℕ, ◌==◌, Bool, false, nat_lt, max, List, [], ◌∷◌, ◌++◌, replicate, Option, Some, None, Result, Ok, Err, if◌then◌else◌}
 use Rattle.sqlx_text.specs.declared.error.Error.{Error}
 use Rattle.sqlx_text.specs.declared.error.Error.TheVariants.{Io, Database}
 use Rattle.sqlx_text.specs.declared.io_fault.IoFault.TheVariants.{ConnectionRefused, Other}
@@ -37,6 +37,7 @@ reach_by Transient = outside.RefusedTransiently
 reach_by ConnectIo = outside.RefusedForGood
 reach_by ConnectDatabase = outside.RefusedForGood
 
+-- the ping is answered, by its letter
 abbrev pub is_answered : Bool → Bool
 is_answered answered = answered
 

@@ -1,19 +1,17 @@
 -- When a stage is what events and their replies come to.
-use Rattle.std.specs.Prelude.{◌≡◌, ℕ, ◌+◌, ◌≤◌, List, [], All, Some, None}
+use Rattle.std.specs.Prelude.{◌≡◌, ℕ, ◌+◌, ◌≤◌, All, Some, None}
 use Rattle.sqlx_script.specs.declared.pool_line.PoolLine.{PoolLine}
-use Rattle.sqlx_script.specs.declared.step.Event.{Event}
-use Rattle.sqlx_script.specs.declared.reply.Reply.{Reply}
 use Rattle.sqlx_pool_core.specs.declared.options.PoolOptions.{PoolOptions}
 use Rattle.sqlx_pool_core.specs.declared.ticket.Ticket.{Ticket}
 use Rattle.sqlx_pool_core.specs.declared.ticket.Phase.{Phase}
 use Rattle.sqlx_pool_core.specs.declared.ticket.Phase.TheVariants as phase
 use Rattle.sqlx_pool_core.specs.StandsFor.{StandsFor}
-use Rattle.sqlx_pool_core.specs.FairLog.{IsFair}
 use Rattle.sqlx_play.specs.declared.stage.Stage.{Stage}
-use Rattle.sqlx_play.specs.ScriptMarks.{marks_of}
-use Rattle.sqlx_play.specs.ScriptLevels.{history_of}
-use Rattle.sqlx_play.specs.Tries.{tries_of}
+use Rattle.sqlx_rules.specs.ScriptMarks.{marks_of}
+use Rattle.sqlx_rules.specs.ScriptLevels.{history_of}
+use Rattle.sqlx_rules.specs.Tries.{tries_of}
 use Rattle.sqlx_play.specs.LinksStand.{LinksStand}
+use Rattle.sqlx_rules.specs.Pairs.{Pairs}
 
 -- The options of a core are those that the first line of a script sets up.
 pub record IsSetUp (pool : PoolLine) (options : PoolOptions) : Type 0 where
@@ -28,19 +26,19 @@ pub record IsSetUp (pool : PoolLine) (options : PoolOptions) : Type 0 where
   pub after_release : options.after_release ≡ pool.after_release
 
 -- the tries of a ticket in this phase: none in the line, and in backoff those that brought it there; between two events no step is under way
-abbrev pub IsTriedAt : List (Event × Reply) → Ticket → Phase → Type 0
+abbrev pub IsTriedAt : Pairs → Ticket → Phase → Type 0
 IsTriedAt pairs x phase.Waiting = tries_of x.number pairs ≡ None
 IsTriedAt pairs x (phase.Backoff until) = (wait : ℕ) × (x.last_wait ≡ Some wait) × (tries_of x.number pairs ≡ Some (record { first = x.first_try.0; wait = wait; until = until }))
 IsTriedAt pairs x (phase.Testing c created) = ⊥
 IsTriedAt pairs x phase.Connecting = ⊥
 
-abbrev pub IsTried : List (Event × Reply) → Ticket → Type 0
+-- the tries of a ticket are those that its phase tells
+abbrev pub IsTried : Pairs → Ticket → Type 0
 IsTried pairs x = IsTriedAt pairs x x.phase
 
--- The stage is as it is after these events and replies: its core stands for their marks, which are fair, its tickets tried what they say, and its links and its store are what their transactions come to.
-pub record StageStands (stage : Stage) (pairs : List (Event × Reply)) : Type 0 where
+-- The stage is as it is after these events and replies: its core stands for their marks, its tickets tried what they say, and its links and its store are what their transactions come to.
+pub record StageStands (stage : Stage) (pairs : Pairs) : Type 0 where
   pub stands : StandsFor stage.core (marks_of stage.pool pairs)
-  pub fair : IsFair stage.pool.max [] (marks_of stage.pool pairs)
   pub set_up : IsSetUp stage.pool stage.core.options
   pub places : stage.core.places ≡ 0
   pub tried : All (IsTried pairs) stage.core.tickets

@@ -1,6 +1,5 @@
 -- What a statement of a script does on a stage, by the database's statement.
-use Rattle.std.specs.Prelude.{◌≡◌, ℕ, ◌==◌, ◌⊎◌, Bool, true, false, is_some, pos, Option, Some, None, List, ◌∷◌, ◌++◌, length}
-use Rattle.std.specs.List.{list_any}
+use Rattle.std.specs.Prelude.{◌≡◌, ◌⊎◌, Bool, true, false, find, is_some, pos, Option, Some, None, List, ◌∷◌, ◌++◌}
 use Rattle.sqlx_pool_core.specs.declared.steps.Lent.{Lent}
 use Rattle.sqlx_pool_core.specs.Core.{loan_of}
 use Rattle.mem_store.specs.Store.{Store, Link, Session}
@@ -12,8 +11,9 @@ use Rattle.sqlx_play.specs.declared.stage.Stage.{Stage}
 use Rattle.sqlx_play.specs.declared.stage.acts.Act.{Act}
 use Rattle.sqlx_play.specs.declared.stage.acts.Act.TheVariants as act
 use Rattle.sqlx_play.specs.declared.stage.statements.Statement.{Statement}
-use Rattle.sqlx_play.specs.ScriptLevels as levels
-use Rattle.sqlx_play.specs.ScriptLevels.{met_of}
+use Rattle.sqlx_rules.specs.ScriptLevels as levels
+use Rattle.sqlx_rules.specs.ScriptLevels.{met_of}
+use Rattle.sqlx_play.specs.LentLinks.{is_lent}
 use Rattle.sqlx_play.specs.LinkActs.{act_on, answer_for, reply_on, left_by}
 
 -- the statement as brackets see it
@@ -44,22 +44,11 @@ done_by (Rollback client connection answer) = Some act.Rollback
 done_by (GiveUp client connection) = Some act.GiveUp
 done_by other = None
 
-abbrev pub is_lent_id : ℕ → Lent Link → Bool
-is_lent_id id l = id == l.id
-
--- the connection was taken out of the list, where it stood behind so many others
-pub record IsTakenOut (id at : ℕ) (l : Lent Link) (old new : List (Lent Link)) : Type 0 where
-  pub before : List (Lent Link)
-  pub after : List (Lent Link)
-  pub old_is : old ≡ before ++ l ∷ after
-  pub new_is : new ≡ before ++ after
-  pub at_is : at ≡ length before
-  pub is : l.id ≡ id
-
 -- the link at work, and the session that its act leaves
 abbrev pub at_work : Store → Link → Statement → Session
 at_work store link s = record { store = store; link = link; answer = answer_for s.answer }
 
+-- the session that the act leaves
 abbrev pub left_at : Store → Link → Statement → Session
 left_at store link s = left_by s.act (at_work store link s)
 
@@ -80,7 +69,8 @@ pub record RunsNot (old new : Stage) (s : Statement) (reply : Reply) : Type 0 wh
   pub told : reply ≡ NotHeld
   pub store : new.out.store ≡ old.out.store
   pub links : new.lent.items ≡ old.lent.items
-  pub cause : (is_some (loan_of s.client s.connection old.core.held) ≡ false) ⊎ (list_any (is_lent_id s.connection) old.lent.items ≡ false)
+  pub cause : (is_some (loan_of s.client s.connection old.core.held) ≡ false) ⊎ (find (is_lent s.connection) old.lent.items ≡ None)
 
+-- The act was done on the client's connection, or the client has no such connection.
 abbrev pub Runs : Stage → Stage → Statement → Reply → Type 0
 Runs old new s reply = RunsOnLink old new s reply ⊎ RunsNot old new s reply

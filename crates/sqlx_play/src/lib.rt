@@ -4,15 +4,12 @@
 mod error;
 mod failed;
 mod io;
-pub mod laws;
 mod memory;
 mod outside;
 mod player;
 mod pour;
 mod stage;
 mod standard;
-#[cfg(test)]
-mod tests;
 
 pub use error::{PlayError, status};
 pub use failed::Failed;
@@ -20,5 +17,6 @@ pub use io::{Sink, Source};
 pub use memory::{MemSink, MemSource, SureSink, SureSource};
 pub use outside::ScriptOutside;
 pub use player::{Played, play, run};
+pub use sqlx_rules::laws;
 pub use stage::Stage;
 pub use standard::{StdSink, StdSource};

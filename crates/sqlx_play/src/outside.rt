@@ -13,7 +13,7 @@ use sqlx_text::{DatabaseFault, Error, ErrorKind, IoFault, UStr};
 use std::alloc::Global;
 
 /// A letter of the present line, and whether its answer is still to come.
-#[derive(Clone, Copy, Debug, PartialEq, Eq)]
+#[derive(Clone, Copy)]
 pub struct Letter<A> {
     pub answer: A,
     pub is_due: bool,
@@ -93,7 +93,7 @@ pub fn refused_by(error: &Error) -> Option<ConnectAnswer>
 
 impl ScriptOutside {
     /// The outside of a database before the first line.
-    pub(crate) fn new(store: MemStore) -> ScriptOutside
+    pub fn new(store: MemStore) -> ScriptOutside
         ensures store { result.store ≡ store }
         ensures counts { (result.faults ≡ 0) × (result.refusals ≡ 0) }
     {
@@ -119,7 +119,7 @@ impl ScriptOutside {
     }
 
     /// A poll's line begins.
-    pub(crate) fn begin_poll(&mut self, answers: PollAnswers)
+    pub fn begin_poll(&mut self, answers: PollAnswers)
         ensures store { self.new.store ≡ self.old.store }
         ensures letters { poll_letters self.new ≡ answers }
         ensures told { told_of self.new ≡ told_by_poll answers }
@@ -137,7 +137,7 @@ impl ScriptOutside {
     }
 
     /// A give's line begins.
-    pub(crate) fn begin_give(&mut self, answers: GiveAnswers)
+    pub fn begin_give(&mut self, answers: GiveAnswers)
         ensures store { self.new.store ≡ self.old.store }
         ensures letters { give_letters self.new ≡ answers }
         ensures told { told_of self.new ≡ told_by_give answers }
@@ -154,7 +154,7 @@ impl ScriptOutside {
     }
 
     /// The minimum is kept: so many connects are accepted, and the next one is refused.
-    pub(crate) fn begin_minimum(&mut self, opens: u32)
+    pub fn begin_minimum(&mut self, opens: u32)
         ensures store { self.new.store ≡ self.old.store }
         ensures opens { self.new.opens ≡ opens }
         ensures sets_up { sets_up self.new.after_connect.answer ≡ true }

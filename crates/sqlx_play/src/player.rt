@@ -6,11 +6,13 @@ ghost use Rattle.sqlx_script.specs.declared.reply.Reply.{Reply};
 ghost use Rattle.sqlx_script.specs.Texts.{reply_text, line_of};
 ghost use Rattle.sqlx_script.specs.Built.{is_built};
 ghost use Rattle.sqlx_script.specs.Grammar.{Script, script_of, limit};
-ghost use Rattle.sqlx_play.specs.Answer.{answer};
+ghost use Rattle.sqlx_rules.specs.Answer.{answer};
 ghost use Rattle.sqlx_play.specs.StageStands.{StageStands, last_of, numbers_of};
 ghost use Rattle.sqlx_play.specs.ScriptRuns.{runs_of, runs_after};
-ghost use Rattle.sqlx_play.specs.Output.{output_due};
-ghost use Rattle.sqlx_play.specs.Headline.{TookAll, WrotePart, TextCause, PlaysLines, StopsAt, lines_text, Plays, Answers, StopsText, PlayCause, IsSound, shown};
+ghost use Rattle.sqlx_rules.specs.Output.{output_due};
+ghost use Rattle.sqlx_play.specs.Causes.{TookAll, WrotePart, TextCause, StopsText, PlayCause, IsSound, shown};
+ghost use Rattle.sqlx_play.specs.Plays.{PlaysLines, StopsAt, lines_text, Plays, Answers};
+ghost use Rattle.sqlx_rules.specs.Pairs.{Pairs};
 
 use crate::error::PlayError;
 use crate::io::{Sink, Source};
@@ -52,16 +54,16 @@ fn play_event<K: Sink>(
     requires built { is_built event.now.step ≡ true }
     requires numbers { numbers_of stage.old ≤ 2 ^ 62 }
     requires in_order { last_of stage.old ≤ event.now.moment.0 }
-    ensures ok { OnOk result ((pairs : List (Event × Reply)) → StageStands stage.old pairs →
+    ensures ok { OnOk result ((pairs : Pairs) → StageStands stage.old pairs →
         Appends (K.written sink.old) (K.written sink.new) (line_of (reply_text (answer stage.old.pool pairs event.now)))
         × StageStands stage.new (pairs ++ (event.now, answer stage.old.pool pairs event.now) ∷ [])) }
-    ensures runs { OnOk result ((pairs : List (Event × Reply)) → StageStands stage.old pairs →
+    ensures runs { OnOk result ((pairs : Pairs) → StageStands stage.old pairs →
         stage.new.out.store.runs ≡ runs_after event.now.step (answer stage.old.pool pairs event.now) stage.old.out.store.runs) }
     ensures pool { stage.new.pool ≡ stage.old.pool }
     ensures last { last_of stage.new ≤ event.now.moment.0 }
     ensures used { numbers_of stage.new ≤ numbers_of stage.old + 2 ^ 20 }
     ensures rises { K.faults sink.old ≤ K.faults sink.new }
-    ensures cause { IfErr result (TextCause (λ _. ⊥) ((pairs : List (Event × Reply)) → StageStands stage.old pairs →
+    ensures cause { IfErr result (TextCause (λ _. ⊥) ((pairs : Pairs) → StageStands stage.old pairs →
         WrotePart (K.written sink.old) (K.written sink.new) (line_of (reply_text (answer stage.old.pool pairs event.now))))
         (K.faults sink.old) (K.faults sink.new)) }
 {
@@ -106,6 +108,18 @@ fn play_lines<K: Sink>(
     Ok(())
 }
 
+// What a stage leaves of a script.
+fn played_on(stage: Stage) -> Played
+    ensures core { result.core ≡ stage.core }
+    ensures store { result.store ≡ stage.out.store }
+{
+    let Stage { core, out, .. } = stage;
+    Played {
+        core,
+        store: out.into_store(),
+    }
+}
+
 // Plays a script that was read whole.
 fn play_text<K: Sink>(alloc: Global, text: &[u8], sink: &mut K) -> Result<Played, PlayError>
     requires { length text.now ≤ limit }
@@ -121,21 +135,16 @@ fn play_text<K: Sink>(alloc: Global, text: &[u8], sink: &mut K) -> Result<Played
     let Some(pool) = read_pool_line(line) else {
         return Err(PlayError::ScriptLine(1));
     };
-    let mut stage = match new_stage(alloc, pool) {
-        Ok(stage) => stage,
-        Err(error) => return Err(error),
-    };
+    let mut stage = new_stage(alloc, pool)?;
     if let Err(error) = play_lines(alloc, &mut stage, rest, sink) {
+        drop(stage);
         return Err(error);
     }
     if let Err(error) = write_line(alloc, sink, &report(&stage)) {
+        drop(stage);
         return Err(error);
     }
-    let Stage { core, out, .. } = stage;
-    Ok(Played {
-        core,
-        store: out.into_store(),
-    })
+    Ok(played_on(stage))
 }
 
 // Reads a script to its end and plays it.
@@ -150,14 +159,8 @@ fn play_source<S: Source, K: Sink>(
     ensures writes_rise { K.faults sink.old ≤ K.faults sink.new }
     ensures cause { IfErr result (PlayCause (shown S.left S.faults source.old source.new K.written K.faults sink.old sink.new)) }
 {
-    let text = match read_all(alloc, source) {
-        Ok(text) => text,
-        Err(error) => return Err(error),
-    };
-    match play_text(alloc, &text, sink) {
-        Ok(played) => Ok(played),
-        Err(error) => Err(error),
-    }
+    let text = read_all(alloc, source)?;
+    play_text(alloc, &text, sink)
 }
 
 /// Reads a script to its end, plays it, and writes each reply and the closing report.
@@ -204,8 +207,7 @@ pub fn run<S: Source, K: Sink>(
     if !words.is_empty() {
         return Err(PlayError::Usage);
     }
-    match play(alloc, source, sink) {
-        Ok(_) => Ok(()),
-        Err(error) => Err(error),
-    }
+    let played = play(alloc, source, sink)?;
+    drop(played);
+    Ok(())
 }

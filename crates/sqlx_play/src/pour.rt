@@ -2,7 +2,7 @@
 ghost use Rattle.std.specs.Prelude.{◌≡◌, ◌≤◌, ◌⊎◌, IfOk, IfErr, OnOk, vec_len};
 ghost use Rattle.std.specs.Io.KnownBytes.{Appends};
 ghost use Rattle.sqlx_script.specs.Grammar.{limit};
-ghost use Rattle.sqlx_play.specs.Headline.{TookAll, ReadCause, TextCause, WrotePart};
+ghost use Rattle.sqlx_play.specs.Causes.{TookAll, ReadCause, TextCause, WrotePart};
 
 use crate::error::PlayError;
 use crate::failed::Failed;

@@ -3,10 +3,11 @@ ghost use Rattle.std.specs.Prelude.{◌≡◌, ◌+◌, ◌^◌, ◌≤◌, true
 ghost use Rattle.sqlx_script.specs.declared.step.Event.{Event};
 ghost use Rattle.sqlx_script.specs.declared.reply.Reply.{Reply};
 ghost use Rattle.sqlx_script.specs.Built.{is_built};
-ghost use Rattle.sqlx_play.specs.Answer.{report_of};
+ghost use Rattle.sqlx_rules.specs.Answer.{report_of};
 ghost use Rattle.sqlx_play.specs.PlaysEvent.{PlaysEvent};
 ghost use Rattle.sqlx_play.specs.ScriptRuns.{runs_of, runs_after};
 ghost use Rattle.sqlx_play.specs.StageStands.{IsSetUp, StageStands, last_of, numbers_of};
+ghost use Rattle.sqlx_rules.specs.Pairs.{Pairs};
 
 mod acts;
 mod ask;
@@ -146,9 +147,9 @@ pub fn answer(stage: &mut Stage, alloc: Global, event: &Event) -> Result<Reply, 
 }
 
 /// What the stage holds.
-#[tactic(auto, unfolding(crate::specs::Answer::report_of))]
+#[tactic(auto, unfolding(sqlx_rules::specs::Answer::report_of))]
 pub fn report(stage: &Stage) -> Report
-    ensures { (pairs : List (Event × Reply)) → StageStands stage.now pairs → result ≡ report_of stage.now.pool pairs }
+    ensures { (pairs : Pairs) → StageStands stage.now pairs → result ≡ report_of stage.now.pool pairs }
 {
     Report {
         held: stage.core.num_held() as u64,

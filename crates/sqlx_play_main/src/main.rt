@@ -1,9 +1,6 @@
 //! The program: plays the script on its standard input, and writes the replies to its standard output.
 #![tactic(auto)]
 
-#[cfg(test)]
-mod tables;
-
 use sqlx_play::{PlayError, StdSink, StdSource, run, status};
 use std::io::BufWriter;
 use std::process::ExitCode;

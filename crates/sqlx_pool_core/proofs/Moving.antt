@@ -23,9 +23,9 @@ use Rattle.sqlx_pool_core.specs.declared.steps.Given.TheVariants as given
 use Rattle.sqlx_pool_core.specs.Core.{Core, is_out, waits, ticket_of, loan_of, waiting, free}
 use Rattle.sqlx_pool_core.specs.Sound.{IsSound, holds, rests}
 use Rattle.sqlx_pool_core.specs.Place.{IsAmong}
-use Rattle.sqlx_pool_core.specs.OwnTurn.{own_turn, own_turn_at, before as before_own}
-use Rattle.sqlx_log.specs.PollTable.{first_idle}
-use Rattle.sqlx_pool_core.specs.PollTable.{in_time, is_at_rest}
+use Rattle.sqlx_pool_core.specs.OwnTurn.{is_first_in_line, turn_of, own_turn}
+use Rattle.sqlx_log.specs.PollTable.{in_time, first_idle}
+use Rattle.sqlx_pool_core.specs.PollTable.{is_at_rest, backs_off_until}
 use Rattle.sqlx_log.specs.EventTable.{may_pass}
 use Rattle.sqlx_pool_core.specs.Edits.{with_ticket, without_ticket, is_another_ticket, without_loan, without_idle, to_test, to_try, to_try_at, to_connect, to_back_off, ended, asked, at_moment}
 use Rattle.sqlx_pool_core.specs.PollSteps.{phase_for, lent_since, start_answer, start_marks, started, judged, tested_at, test_answer, test_marks, after_test, wait_of, try_answer_at, connect_answer, connect_marks, after_connect, may_cancel, cancel_marks, cancelled, try_lent, try_marks, after_try}
@@ -129,14 +129,14 @@ module _ {C : Type 0} (core : Core C) (sound : IsSound core) (k t : ℕ) (x : Ti
       let u : one is_testing (to_try m x) ≡ 0 = ap (one is_testing) f in
       moves-changed (to_try m) core.idle m [] refl refl refl (omega (arith, v, u))
 
-  start-waiting : (m : ℕ) → x.phase ≡ phase.Waiting → (shut late enough used : Bool)
-      → Moves core (started t m (start_answer (cond shut turned.Closed (cond late turned.TimedOut (cond enough turned.Waiting (cond used turned.Exhausted (first_idle core.idle))))) core.idle) core)
-      (start_marks t (Some phase.Waiting) (start_answer (cond shut turned.Closed (cond late turned.TimedOut (cond enough turned.Waiting (cond used turned.Exhausted (first_idle core.idle))))) core.idle)) 0 0
-  start-waiting m is true late enough used = over m
-  start-waiting m is false true enough used = over m
-  start-waiting m is false false true used = moves-none core
-  start-waiting m is false false false true = moves-ended core.held core.next_conn m (Left t ∷ Ended t ∷ []) refl refl (omega arith) (omega arith)
-  start-waiting m is false false false false = start-idle m is core.idle refl
+  start-waiting : (m : ℕ) → x.phase ≡ phase.Waiting → (shut late entitled used : Bool)
+      → Moves core (started t m (start_answer (cond shut turned.Closed (cond late turned.TimedOut (cond entitled (cond used turned.Exhausted (first_idle core.idle)) turned.Waiting))) core.idle) core)
+      (start_marks t (Some phase.Waiting) (start_answer (cond shut turned.Closed (cond late turned.TimedOut (cond entitled (cond used turned.Exhausted (first_idle core.idle)) turned.Waiting))) core.idle)) 0 0
+  start-waiting m is true late entitled used = over m
+  start-waiting m is false true entitled used = over m
+  start-waiting m is false false false used = moves-none core
+  start-waiting m is false false true true = moves-ended core.held core.next_conn m (Left t ∷ Ended t ∷ []) refl refl (omega arith) (omega arith)
+  start-waiting m is false false true false = start-idle m is core.idle refl
 
   start-backoff : (m until : ℕ) → x.phase ≡ phase.Backoff until → (shut late early used : Bool)
       → Moves core (started t m (start_answer (cond shut turned.Closed (cond late turned.TimedOut (cond early (turned.Backoff until) (cond used turned.Exhausted turned.Connect)))) core.idle) core)
@@ -148,9 +148,9 @@ module _ {C : Type 0} (core : Core C) (sound : IsSound core) (k t : ℕ) (x : Ti
   start-backoff m until is false false false false = start-again m until is
 
   start-phase : (m : ℕ) (p : Phase) → x.phase ≡ p
-      → Moves core (started t m (start_answer (cond (is_at_rest p) (cond core.shut turned.Closed (cond (nat_le x.deadline m) turned.TimedOut (in_time m (free core) (before_own x.number core.tickets) core.next_conn core.idle p))) turned.NotHeld) core.idle) core)
-      (start_marks t (Some p) (start_answer (cond (is_at_rest p) (cond core.shut turned.Closed (cond (nat_le x.deadline m) turned.TimedOut (in_time m (free core) (before_own x.number core.tickets) core.next_conn core.idle p))) turned.NotHeld) core.idle)) 0 0
-  start-phase m phase.Waiting is = start-waiting m is core.shut (nat_le x.deadline m) (nat_le (free core) (before_own x.number core.tickets)) (nat_lt (2 ^ 63) core.next_conn)
+      → Moves core (started t m (start_answer (cond (is_at_rest p) (cond core.shut turned.Closed (cond (nat_le x.deadline m) turned.TimedOut (in_time m (is_first_in_line t core) core.next_conn core.idle (is_out p) (backs_off_until p)))) turned.NotHeld) core.idle) core)
+      (start_marks t (Some p) (start_answer (cond (is_at_rest p) (cond core.shut turned.Closed (cond (nat_le x.deadline m) turned.TimedOut (in_time m (is_first_in_line t core) core.next_conn core.idle (is_out p) (backs_off_until p)))) turned.NotHeld) core.idle)) 0 0
+  start-phase m phase.Waiting is = start-waiting m is core.shut (nat_le x.deadline m) (is_first_in_line t core) (nat_lt (2 ^ 63) core.next_conn)
   start-phase m (phase.Testing c created) is = moves-none core
   start-phase m phase.Connecting is = moves-none core
   start-phase m (phase.Backoff until) is = start-backoff m until is core.shut (nat_le x.deadline m) (nat_lt m until) (nat_lt (2 ^ 63) core.next_conn)
@@ -213,7 +213,7 @@ module _ {C : Type 0} (core : Core C) (sound : IsSound core) (k t : ℕ) (x : Ti
 
 module _ {C : Type 0} (core : Core C) (sound : IsSound core) (k t : ℕ) where
   start-found : (m : ℕ) (o : Option Ticket) → ticket_of k t core.tickets ≡ o
-      → Moves core (started t m (start_answer (own_turn_at core m o) core.idle) core) (start_marks t (option_map (λ (x : Ticket). x.phase) o) (start_answer (own_turn_at core m o) core.idle)) 0 0
+      → Moves core (started t m (start_answer (turn_of (is_first_in_line t core) m core o) core.idle) core) (start_marks t (option_map (λ (x : Ticket). x.phase) o) (start_answer (turn_of (is_first_in_line t core) m core o) core.idle)) 0 0
   start-found m None e = moves-none core
   start-found m (Some x) e = start-phase core sound k t x e m x.phase refl
 

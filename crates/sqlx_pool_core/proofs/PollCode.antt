@@ -1,5 +1,5 @@
 -- What the code of a poll's first step writes is what the step makes of the core.
-use Rattle.std.proofs.Common.{◌≡◌, ℕ, List, ◌∷◌, ◌++◌, refl, ap, sym, ◌∙◌, subst, arith, drop, Bool, true, false, Option, Some, None, IfSome, inl, inr, ◌&&◌, ◌==◌}
+use Rattle.std.proofs.Common.{◌≡◌, ℕ, ◌<◌, List, ◌∷◌, ◌++◌, refl, ap, sym, ◌∙◌, subst, drop, Bool, true, false, Option, Some, None, IfSome, inl, inr, ◌&&◌, ◌==◌}
 use Rattle.std.proofs.lemmas.Bool.Decides.{eqb_tells}
 use Rattle.sqlx_pool_core.specs.declared.ticket.Ticket.{Ticket}
 use Rattle.sqlx_pool_core.specs.declared.ticket.Phase.{Phase}
@@ -7,9 +7,9 @@ use Rattle.sqlx_pool_core.specs.declared.ticket.Phase.TheVariants as phase
 use Rattle.sqlx_log.specs.declared.turn.Turn.TheVariants as turn
 use Rattle.sqlx_pool_core.specs.declared.steps.Idle.{Idle}
 use Rattle.sqlx_pool_core.specs.declared.steps.Start.TheVariants as start
-use Rattle.sqlx_pool_core.specs.Core.{Core, ticket_of}
+use Rattle.sqlx_pool_core.specs.Core.{Core, ticket_of, free}
 use Rattle.sqlx_pool_core.specs.Sound.{IsSound, number_of}
-use Rattle.sqlx_pool_core.specs.OwnTurn.{own_turn_at}
+use Rattle.sqlx_pool_core.specs.OwnTurn.{turn_of}
 use Rattle.sqlx_pool_core.specs.Edits.{with_ticket, to_test, to_try, to_try_at}
 use Rattle.sqlx_pool_core.specs.Place.{IsAmong}
 use Rattle.sqlx_pool_core.specs.PollSteps.{started}
@@ -25,24 +25,24 @@ changed-const t x y tickets f is e = is.changed (λ _. y) ∙ ap (λ (z : Ticket
 pub among : {C : Type 0} (core : Core C) (k t : ℕ) (x : Ticket) → IsSound core → ticket_of k t core.tickets ≡ Some x → IsAmong t x core.tickets
 among core k t x s found = found-among k t x 1 core.tickets core.next_ticket s.rising found
 
-begins_test : {C : Type 0} (core : Core C) (x : Ticket) (m : ℕ) (i : Idle C) (rest : List (Idle C)) (tickets : List Ticket)
+begins_test : {C : Type 0} (q : Bool) (core : Core C) (x : Ticket) (m : ℕ) (i : Idle C) (rest : List (Idle C)) (tickets : List Ticket)
     → IsSound core → core.idle ≡ i ∷ rest → tickets ≡ with_ticket x.number (λ _. to_test m i x) core.tickets
-    → own_turn_at core m (Some x) ≡ turn.Test → ticket_of x.client x.number core.tickets ≡ Some x
+    → turn_of q m core (Some x) ≡ turn.Test → (q ≡ true → 0 < free core) → ticket_of x.client x.number core.tickets ≡ Some x
     → IsSound (record core { tickets = tickets; idle = rest; last = m }) × (record core { tickets = tickets; idle = rest; last = m } ≡ started x.number m (start.Test i) core)
-begins_test {C} core x m i rest tickets s first put t found =
+begins_test {C} q core x m i rest tickets s first put t permit found =
     let is = among core x.client x.number x s found in
     let e : tickets ≡ with_ticket x.number (to_test m i) core.tickets = put ∙ changed-const x.number x (to_test m i x) core.tickets (to_test m i) is refl in
-    let at_test = turn-test core m x t in
+    let at_test = turn-test q core m x t in
     let r : drop 1 core.idle ≡ rest = ap (λ (l : List (Idle C)). drop 1 l) first in
     (rw e (sound-to_test core x.number x i rest m s is first at_test.leaves.numbers), rw (e, r) refl)
 
-pub begun-test : {C : Type 0} (core now : Core C) (x : Ticket) (m : ℕ) (i : Idle C) (rest : List (Idle C)) (tickets : List Ticket)
+pub begun-test : {C : Type 0} (q : Bool) (core now : Core C) (x : Ticket) (m : ℕ) (i : Idle C) (rest : List (Idle C)) (tickets : List Ticket)
     → core ≡ now → IsSound core → core.idle ≡ i ∷ rest → tickets ≡ with_ticket x.number (λ _. to_test m i x) core.tickets
-    → own_turn_at now m (Some x) ≡ turn.Test → ticket_of x.client x.number now.tickets ≡ Some x
+    → turn_of q m now (Some x) ≡ turn.Test → (q ≡ true → 0 < free now) → ticket_of x.client x.number now.tickets ≡ Some x
     → IsSound (record core { tickets = tickets; idle = rest; last = m }) × (record core { tickets = tickets; idle = rest; last = m } ≡ started x.number m (start.Test i) now)
-begun-test {C} core now x m i rest tickets view s first put =
-    subst (λ (n : Core C). own_turn_at n m (Some x) ≡ turn.Test → ticket_of x.client x.number n.tickets ≡ Some x
-    → IsSound (record core { tickets = tickets; idle = rest; last = m }) × (record core { tickets = tickets; idle = rest; last = m } ≡ started x.number m (start.Test i) n)) view (begins_test core x m i rest tickets s first put)
+begun-test {C} q core now x m i rest tickets view s first put =
+    subst (λ (n : Core C). turn_of q m n (Some x) ≡ turn.Test → (q ≡ true → 0 < free n) → ticket_of x.client x.number n.tickets ≡ Some x
+    → IsSound (record core { tickets = tickets; idle = rest; last = m }) × (record core { tickets = tickets; idle = rest; last = m } ≡ started x.number m (start.Test i) n)) view (begins_test q core x m i rest tickets s first put)
 
 number-to_try : (m : ℕ) (x : Ticket) (p : Phase) → (to_try_at m p x).number ≡ x.number
 number-to_try m x phase.Waiting = refl
@@ -50,27 +50,27 @@ number-to_try m x (phase.Testing c created) = refl
 number-to_try m x phase.Connecting = refl
 number-to_try m x (phase.Backoff until) = refl
 
-begins_connect : {C : Type 0} (core : Core C) (x y : Ticket) (m : ℕ) (tickets : List Ticket)
+begins_connect : {C : Type 0} (q : Bool) (core : Core C) (x y : Ticket) (m : ℕ) (tickets : List Ticket)
     → IsSound core → y ≡ to_try m x → tickets ≡ with_ticket y.number (λ _. y) core.tickets
-    → own_turn_at core m (Some x) ≡ turn.Connect → ticket_of x.client x.number core.tickets ≡ Some x
+    → turn_of q m core (Some x) ≡ turn.Connect → (q ≡ true → 0 < free core) → ticket_of x.client x.number core.tickets ≡ Some x
     → IsSound (record core { tickets = tickets; last = m }) × (record core { tickets = tickets; last = m } ≡ started x.number m start.Connect core)
-begins_connect {C} core x y m tickets s tries put t found =
+begins_connect {C} q core x y m tickets s tries put t permit found =
     let is = among core x.client x.number x s found in
     let same : y.number ≡ x.number = ap number_of tries ∙ number-to_try m x x.phase in
     let e : tickets ≡ with_ticket x.number (to_try m) core.tickets = put ∙ ap (λ (n : ℕ). with_ticket n (λ _. y) core.tickets) same ∙ changed-const x.number x y core.tickets (to_try m) is tries in
-    let sound : IsSound (record core { tickets = with_ticket x.number (to_try m) core.tickets; last = m }) = elim (turn-connect core m x t) [
-      | inl first ↦ sound-to_try_first core x.number x m s is first.leaves.waits (let h = first.leaves.entitled in omega (arith, h)) first.none first.leaves.numbers
+    let sound : IsSound (record core { tickets = with_ticket x.number (to_try m) core.tickets; last = m }) = elim (turn-connect q core m x t) [
+      | inl first ↦ sound-to_try_first core x.number x m s is first.leaves.waits (permit first.leaves.entitled) first.none first.leaves.numbers
       | inr again ↦ sound-to_try_again core x.number x m again.until s is again.backs_off
     ] in
     (rw e sound, rw e refl)
 
-pub begun-connect : {C : Type 0} (core now : Core C) (x y : Ticket) (m : ℕ) (tickets : List Ticket)
+pub begun-connect : {C : Type 0} (q : Bool) (core now : Core C) (x y : Ticket) (m : ℕ) (tickets : List Ticket)
     → core ≡ now → IsSound core → y ≡ to_try m x → tickets ≡ with_ticket y.number (λ _. y) core.tickets
-    → own_turn_at now m (Some x) ≡ turn.Connect → ticket_of x.client x.number now.tickets ≡ Some x
+    → turn_of q m now (Some x) ≡ turn.Connect → (q ≡ true → 0 < free now) → ticket_of x.client x.number now.tickets ≡ Some x
     → IsSound (record core { tickets = tickets; last = m }) × (record core { tickets = tickets; last = m } ≡ started x.number m start.Connect now)
-begun-connect {C} core now x y m tickets view s tries put =
-    subst (λ (n : Core C). own_turn_at n m (Some x) ≡ turn.Connect → ticket_of x.client x.number n.tickets ≡ Some x
-    → IsSound (record core { tickets = tickets; last = m }) × (record core { tickets = tickets; last = m } ≡ started x.number m start.Connect n)) view (begins_connect core x y m tickets s tries put)
+begun-connect {C} q core now x y m tickets view s tries put =
+    subst (λ (n : Core C). turn_of q m n (Some x) ≡ turn.Connect → (q ≡ true → 0 < free n) → ticket_of x.client x.number n.tickets ≡ Some x
+    → IsSound (record core { tickets = tickets; last = m }) × (record core { tickets = tickets; last = m } ≡ started x.number m start.Connect n)) view (begins_connect q core x y m tickets s tries put)
 
 -- ---- the ticket that a look-up finds
 

@@ -1,6 +1,6 @@
 -- What the first step of a poll makes of a core that stands for the marks.
 use Rattle.std.proofs.Common.{◌≡◌, ℕ, suc, ◌^◌, ◌<◌, Bool, true, false, cond, not, ◌&&◌, ◌==◌, nat_le, nat_lt, List, [], ◌∷◌, ◌++◌, map, drop, length, All, Option, Some, None, option_map, refl, sym, ap, ap₂, ◌∙◌, subst, arith}
-use Rattle.std.proofs.lemmas.Bool.{leb-false, ltb-true, and_parts}
+use Rattle.std.proofs.lemmas.Bool.{ltb-true, and_parts}
 use Rattle.std.proofs.lemmas.List.Elements.{All-head}
 use Rattle.sqlx_log.specs.declared.mark.Mark.{Mark}
 use Rattle.sqlx_log.specs.declared.mark.Mark.TheVariants.{Left, Taken, Ended}
@@ -14,9 +14,9 @@ use Rattle.sqlx_log.specs.Standing.{last_mark}
 use Rattle.sqlx_log.specs.Counts.{before_in}
 use Rattle.sqlx_log.specs.View.{view_of, before}
 use Rattle.sqlx_pool_core.specs.Core.{Core, asking, resting, is_out, is_of, ticket_of, free}
-use Rattle.sqlx_log.specs.PollTable.{first_idle, numbered}
-use Rattle.sqlx_pool_core.specs.PollTable.{in_time, is_at_rest}
-use Rattle.sqlx_pool_core.specs.OwnTurn.{before as before_own, own_turn, own_turn_at}
+use Rattle.sqlx_log.specs.PollTable.{in_time, first_idle, numbered}
+use Rattle.sqlx_pool_core.specs.PollTable.{is_at_rest, backs_off_until}
+use Rattle.sqlx_pool_core.specs.OwnTurn.{before as before_own, is_first_in_line, turn_of, own_turn}
 use Rattle.sqlx_pool_core.specs.Sound.{IsSound}
 use Rattle.sqlx_log.specs.Born.{IsBorn}
 use Rattle.sqlx_pool_core.specs.StandsFor.{StandsFor}
@@ -28,7 +28,7 @@ use Rattle.sqlx_log.proofs.ListFacts.{found_passes}
 use Rattle.sqlx_pool_core.proofs.Stands.{stands-beside, stands-alike, IsIdleBorn, IsTicketBorn}
 use Rattle.sqlx_pool_core.proofs.EachMark.{Leaves, stands-left, stands-ended, stands-taken, changed_born}
 use Rattle.sqlx_pool_core.proofs.TurnAtMarks.{free-places, before-asking}
-use Rattle.sqlx_pool_core.proofs.Known.{ticket-below, ticket-number, ticket-is_only, ticket-changed, alike-changed, gone-changed, gone-ended_le, gone-left_le, idle-first}
+use Rattle.sqlx_pool_core.proofs.Known.{ticket-below, ticket-is_only, ticket-changed, alike-changed, gone-changed, gone-ended_le, gone-left_le, idle-first}
 use Rattle.sqlx_pool_core.specs.Makes.{Makes}
 use Rattle.sqlx_pool_core.proofs.Fair.{makes-none, makes-one, makes-more, open-stands, within-stands, ticket-any, fair-ended, fair-taken}
 
@@ -68,21 +68,21 @@ module _ {C : Type 0} (core : Core C) (marks : List Mark) (sound : IsSound core)
       (fair-ended core.options.max_connections core new marks s k t x None e after (let le = gone-ended_le t core.tickets in let all = sound.within in omega (arith, le, all)))
 
   -- a Left, where the ticket may leave
-  fair-left : (next : Option Mark) → core.shut ≡ false → x.phase ≡ phase.Waiting → before_own x.number core.tickets < free core
+  fair-left : (next : Option Mark) → core.shut ≡ false → x.phase ≡ phase.Waiting → before_own t core.tickets < free core
       → GoesOn (view_of marks) t (map resting core.idle) next → KeepsSize core.options.max_connections (view_of (marks ++ Left t ∷ [])) (Left t) next
       → IsFairMark core.options.max_connections (view_of marks) (view_of (marks ++ Left t ∷ [])) (last_mark None marks) (Left t) next
   fair-left next open_yet waiting lt goes keeps =
       let mine : (t == x.number) ≡ true = (and_parts (t == x.number) (k == x.client) (found_passes (is_of k t) core.tickets x e)).0 in
       let in_line : is_in_line t (asking x) ≡ true = ap₂ ◌&&◌ mine (ap (λ p. not (is_out p)) waiting) in
       let less = free-places core marks s in
-      let same : before t (view_of marks) ≡ before_own x.number core.tickets = ap₂ before_in (ticket-number k t core.tickets x e) (sym s.tickets) ∙ sym (before-asking x.number core.tickets) in
+      let same : before t (view_of marks) ≡ before_own t core.tickets = ap (before_in t) (sym s.tickets) ∙ sym (before-asking t core.tickets) in
       record {
         finds = open-stands core marks s open_yet;
         keeps = keeps;
         order = (ticket-any core marks s (is_in_line t) k t x e in_line, omega (arith, less, same, lt), subst (λ l. GoesOn (view_of marks) t l next) s.idle goes);
       }
 
-  module _ (open_yet : core.shut ≡ false) (waiting : x.phase ≡ phase.Waiting) (lt : before_own x.number core.tickets < free core) where
+  module _ (open_yet : core.shut ≡ false) (waiting : x.phase ≡ phase.Waiting) (lt : before_own t core.tickets < free core) where
     -- the numbers of connections are used up
     makes-exhausted : 2 ^ 63 < core.next_conn → Makes core.options.max_connections marks (Left t ∷ Ended t ∷ []) (at_moment m (ended t core))
     makes-exhausted used =
@@ -164,27 +164,27 @@ module _ {C : Type 0} (core : Core C) (marks : List Mark) (sound : IsSound core)
     over : Makes core.options.max_connections marks (Ended t ∷ []) (at_moment m (ended t core))
     over = makes-ended core marks sound s k t m x e m
 
-    start-idle : core.shut ≡ false → x.phase ≡ phase.Waiting → before_own x.number core.tickets < free core → (idle : List (Idle C)) → core.idle ≡ idle
+    start-idle : core.shut ≡ false → x.phase ≡ phase.Waiting → before_own t core.tickets < free core → (idle : List (Idle C)) → core.idle ≡ idle
         → Starts core marks t m (Some phase.Waiting) idle (first_idle idle)
     start-idle open_yet waiting lt [] is = makes-connect core marks sound s k t m x e open_yet waiting lt is
     start-idle open_yet waiting lt (i ∷ rest) is = makes-test core marks sound s k t m x e open_yet waiting lt i rest is
 
-    start-numbered : core.shut ≡ false → x.phase ≡ phase.Waiting → before_own x.number core.tickets < free core → (b : Bool) → nat_lt (2 ^ 63) core.next_conn ≡ b
+    start-numbered : core.shut ≡ false → x.phase ≡ phase.Waiting → before_own t core.tickets < free core → (b : Bool) → nat_lt (2 ^ 63) core.next_conn ≡ b
         → Starts core marks t m (Some phase.Waiting) core.idle (cond b turned.Exhausted (first_idle core.idle))
     start-numbered open_yet waiting lt true is = makes-exhausted core marks sound s k t m x e open_yet waiting lt (ltb-true (2 ^ 63) core.next_conn is)
     start-numbered open_yet waiting lt false is = start-idle open_yet waiting lt core.idle refl
 
-    start-placed : core.shut ≡ false → x.phase ≡ phase.Waiting → (b : Bool) → nat_le (free core) (before_own x.number core.tickets) ≡ b
-        → Starts core marks t m (Some phase.Waiting) core.idle (cond b turned.Waiting (numbered core.next_conn (first_idle core.idle)))
-    start-placed open_yet waiting true is = nothing
-    start-placed open_yet waiting false is = start-numbered open_yet waiting (leb-false (free core) (before_own x.number core.tickets) is) (nat_lt (2 ^ 63) core.next_conn) refl
+    start-placed : core.shut ≡ false → x.phase ≡ phase.Waiting → (b : Bool) → is_first_in_line t core ≡ b
+        → Starts core marks t m (Some phase.Waiting) core.idle (cond b (numbered core.next_conn (first_idle core.idle)) turned.Waiting)
+    start-placed open_yet waiting false is = nothing
+    start-placed open_yet waiting true is = start-numbered open_yet waiting (ltb-true (before_own t core.tickets) (free core) is) (nat_lt (2 ^ 63) core.next_conn) refl
 
     start-waiting : x.phase ≡ phase.Waiting → (shut late : Bool) → core.shut ≡ shut
         → Starts core marks t m (Some phase.Waiting) core.idle
-        (cond shut turned.Closed (cond late turned.TimedOut (cond (nat_le (free core) (before_own x.number core.tickets)) turned.Waiting (numbered core.next_conn (first_idle core.idle)))))
+        (cond shut turned.Closed (cond late turned.TimedOut (cond (is_first_in_line t core) (numbered core.next_conn (first_idle core.idle)) turned.Waiting)))
     start-waiting waiting true late is = over
     start-waiting waiting false true is = over
-    start-waiting waiting false false is = start-placed is waiting (nat_le (free core) (before_own x.number core.tickets)) refl
+    start-waiting waiting false false is = start-placed is waiting (is_first_in_line t core) refl
 
     start-backoff : (until : ℕ) → is_out x.phase ≡ true → (shut late early used : Bool)
         → Starts core marks t m (Some (phase.Backoff until)) core.idle
@@ -195,7 +195,7 @@ module _ {C : Type 0} (core : Core C) (marks : List Mark) (sound : IsSound core)
     start-backoff until out false false false true = over
     start-backoff until out false false false false = makes-again core marks sound s k t m x e out
 
-    start-phase : (p : Phase) → x.phase ≡ p → Starts core marks t m (Some p) core.idle (cond (is_at_rest p) (cond core.shut turned.Closed (cond (nat_le x.deadline m) turned.TimedOut (in_time m (free core) (before_own x.number core.tickets) core.next_conn core.idle p))) turned.NotHeld)
+    start-phase : (p : Phase) → x.phase ≡ p → Starts core marks t m (Some p) core.idle (cond (is_at_rest p) (cond core.shut turned.Closed (cond (nat_le x.deadline m) turned.TimedOut (in_time m (is_first_in_line t core) core.next_conn core.idle (is_out p) (backs_off_until p)))) turned.NotHeld)
     start-phase phase.Waiting is = start-waiting is core.shut (nat_le x.deadline m) refl
     start-phase (phase.Testing c created) is = nothing
     start-phase phase.Connecting is = nothing
@@ -203,7 +203,7 @@ module _ {C : Type 0} (core : Core C) (marks : List Mark) (sound : IsSound core)
 
   start-ticket : (o : Option Ticket) → ticket_of k t core.tickets ≡ o
       → Starts core marks t m (option_map (λ (x : Ticket). x.phase) o) core.idle
-      (own_turn_at core m o)
+      (turn_of (is_first_in_line t core) m core o)
   start-ticket None e = nothing
   start-ticket (Some x) e = start-phase x e x.phase refl
 

@@ -1,21 +1,22 @@
 -- The counts and the turn of a core are those of the marks that it stands for.
-use Rattle.std.proofs.Common.{◌≡◌, ℕ, ◌+◌, ◌-◌, Bool, true, false, cond, not, ◌==◌, List, [], ◌∷◌, map, length, take_while, option_map, Option, Some, None, nat_le, refl, sym, ap, ◌∙◌, arith}
+use Rattle.std.proofs.Common.{◌≡◌, ℕ, ◌+◌, ◌-◌, Bool, true, false, cond, not, ◌==◌, List, [], ◌∷◌, map, length, take_while, option_map, Option, Some, None, nat_le, nat_lt, refl, sym, ap, ◌∙◌, arith}
+use Rattle.std.specs.List.{list_any}
+use Rattle.std.proofs.lemmas.Bool.{eqb-true, and_parts}
 use Rattle.std.proofs.lemmas.List.Sums.{take_while-cons}
 use Rattle.sqlx_log.specs.declared.mark.Mark.{Mark}
 use Rattle.sqlx_pool_core.specs.declared.ticket.Ticket.{Ticket}
-use Rattle.sqlx_pool_core.specs.declared.ticket.Phase.{Phase}
-use Rattle.sqlx_pool_core.specs.declared.ticket.Phase.TheVariants as phase
+use Rattle.sqlx_log.specs.declared.turn.Turn.{Turn}
 use Rattle.sqlx_log.specs.declared.turn.Turn.TheVariants as turned
-use Rattle.sqlx_log.specs.Marks.{PendingTicket, tickets_of, loans_of, idle_of, leaked_of}
+use Rattle.sqlx_log.specs.Marks.{PendingTicket, tickets_of, loans_of, idle_of, leaked_of, is_shut, next_conn}
 use Rattle.sqlx_log.specs.Counts.{has_left, is_waiting, left_in, waiting_in, before_in, asked_in, is_asked_by, free_of}
 use Rattle.sqlx_log.specs.View.{view_of, free as free_in, size as size_in, waiting as waiting_at}
-use Rattle.sqlx_pool_core.specs.Core.{Core, asking, loan, resting, gone, waiting, free, size, ticket_of}
-use Rattle.sqlx_log.specs.PollTable.{first_idle, numbered}
-use Rattle.sqlx_pool_core.specs.PollTable.{turn, turn_in, in_time, is_at_rest}
-use Rattle.sqlx_pool_core.specs.OwnTurn.{before, own_turn, own_turn_at}
+use Rattle.sqlx_pool_core.specs.Core.{Core, asking, loan, resting, is_out, is_of, gone, waiting, free, size, ticket_of}
+use Rattle.sqlx_log.specs.PollTable.{first_idle, numbered, turn_at_rest, is_first_at, turn, turn_of as turn_of_asked}
+use Rattle.sqlx_pool_core.specs.PollTable.{is_at_rest, backs_off_until, phase_turn}
+use Rattle.sqlx_pool_core.specs.OwnTurn.{before, is_first_in_line, turn_of, own_turn}
 use Rattle.sqlx_pool_core.specs.PollSteps.{phase_for}
 use Rattle.sqlx_pool_core.specs.StandsFor.{StandsFor}
-use Rattle.sqlx_log.proofs.ListFacts.{count_by-map, length_map, find-map}
+use Rattle.sqlx_log.proofs.ListFacts.{count_by-map, length_map, find-map, found_passes}
 
 -- ---- counts
 
@@ -67,40 +68,37 @@ first_idle-map : {X Y : Type 0} (f : X → Y) (idle : List X) → first_idle idl
 first_idle-map f [] = refl
 first_idle-map f (x ∷ rest) = refl
 
-in_time-map : {X Y : Type 0} (f : X → Y) (moment free before conn : ℕ) (idle : List X) (p : Phase) → in_time moment free before conn idle p ≡ in_time moment free before conn (map f idle) p
-in_time-map f moment free before conn idle phase.Waiting = ap (λ t. cond (nat_le free before) turned.Waiting (numbered conn t)) (first_idle-map f idle)
-in_time-map f moment free before conn idle (phase.Testing c created) = refl
-in_time-map f moment free before conn idle phase.Connecting = refl
-in_time-map f moment free before conn idle (phase.Backoff until) = refl
+at_rest-map : {X Y : Type 0} (f : X → Y) (moment : ℕ) (entitled shut : Bool) (conn : ℕ) (idle : List X) (deadline : ℕ) (left : Bool) (until : ℕ)
+    → turn_at_rest moment entitled shut conn idle deadline left until ≡ turn_at_rest moment entitled shut conn (map f idle) deadline left until
+at_rest-map f moment entitled shut conn idle deadline left until =
+    ap (λ (t : Turn). cond shut turned.Closed (cond (nat_le deadline moment) turned.TimedOut (cond left (cond (nat_lt moment until) (turned.Backoff until) (numbered conn turned.Connect)) (cond entitled (numbered conn t) turned.Waiting))))
+    (first_idle-map f idle)
 
-turn_in-map : {X Y : Type 0} (f : X → Y) (moment free : ℕ) (shut : Bool) (conn : ℕ) (tickets : List PendingTicket) (idle : List X) (a : Option PendingTicket) (p : Option Phase)
-    → turn_in moment free shut conn tickets idle a p ≡ turn_in moment free shut conn tickets (map f idle) a p
-turn_in-map f moment free shut conn tickets idle None p = refl
-turn_in-map f moment free shut conn tickets idle (Some a) None = refl
-turn_in-map f moment free shut conn tickets idle (Some a) (Some p) =
-    ap (λ t. cond (is_at_rest p) (cond shut turned.Closed (cond (nat_le a.deadline moment) turned.TimedOut t)) turned.NotHeld)
-    (in_time-map f moment free (before_in a.ticket tickets) conn idle p)
+module _ {C : Type 0} (core : Core C) (marks : List Mark) (s : StandsFor core marks) (k t moment : ℕ) where
+  -- who is first in the core's own line is so by its marks
+  first-stands : is_first_in_line t core ≡ is_first_at core.options.max_connections core.places marks t
+  first-stands = λ i. nat_lt ((before-asking t core.tickets ∙ ap (before_in t) s.tickets) i) (free-stands core marks s i)
 
--- the turn over a core's own lists is the turn over its marks
-pub turn-stands : {C : Type 0} (core : Core C) (marks : List Mark) (k t moment : ℕ) (p : Option Phase) → StandsFor core marks
-    → turn_in moment (free core) core.shut core.next_conn (map asking core.tickets) core.idle (asked_in k t (map asking core.tickets)) p
-    ≡ turn core.options.max_connections core.places marks k t moment p
-turn-stands core marks k t moment p s =
-    turn_in-map resting moment (free core) core.shut core.next_conn (map asking core.tickets) core.idle (asked_in k t (map asking core.tickets)) p
-    ∙ (λ i. turn_in moment (free-stands core marks s i) (s.shut i) (s.conn_number i) (s.tickets i) (s.idle i) (asked_in k t (s.tickets i)) p)
+  asked-is : (x : Ticket) → ticket_of k t core.tickets ≡ Some x → asked_in k t (tickets_of marks) ≡ Some (asking x)
+  asked-is x e = ap (asked_in k t) (sym s.tickets) ∙ find-map asking (is_asked_by k t) core.tickets ∙ ap (option_map asking) e
 
-own_turn-asking : {C : Type 0} (core : Core C) (moment : ℕ) (o : Option Ticket)
-    → own_turn_at core moment o
-    ≡ turn_in moment (free core) core.shut core.next_conn (map asking core.tickets) core.idle (option_map asking o) (option_map (λ (x : Ticket). x.phase) o)
-own_turn-asking core moment None = refl
-own_turn-asking core moment (Some x) =
-    ap (λ n. cond (is_at_rest x.phase) (cond core.shut turned.Closed (cond (nat_le x.deadline moment) turned.TimedOut (in_time moment (free core) n core.next_conn core.idle x.phase))) turned.NotHeld)
-    (before-asking x.number core.tickets)
+  number-is : (x : Ticket) → ticket_of k t core.tickets ≡ Some x → t ≡ x.number
+  number-is x e = eqb-true t x.number (and_parts (t == x.number) (k == x.client) (found_passes (is_of k t) core.tickets x e)).0
 
--- the turn that a core finds is the turn over its marks
-pub own_turn-stands : {C : Type 0} (core : Core C) (marks : List Mark) (k t moment : ℕ) → StandsFor core marks
-    → own_turn core k t moment ≡ turn core.options.max_connections core.places marks k t moment (phase_for k t core.tickets)
-own_turn-stands core marks k t moment s =
-    own_turn-asking core moment (ticket_of k t core.tickets)
-    ∙ ap (λ a. turn_in moment (free core) core.shut core.next_conn (map asking core.tickets) core.idle a (phase_for k t core.tickets)) (sym (find-map asking (is_asked_by k t) core.tickets))
-    ∙ turn-stands core marks k t moment (phase_for k t core.tickets) s
+  rests-at : (x : Ticket) → ticket_of k t core.tickets ≡ Some x
+      → turn_at_rest moment (is_first_in_line t core) core.shut core.next_conn core.idle x.deadline (is_out x.phase) (backs_off_until x.phase)
+      ≡ turn core.options.max_connections core.places marks k t moment (backs_off_until x.phase)
+  rests-at x e =
+      at_rest-map resting moment (is_first_in_line t core) core.shut core.next_conn core.idle x.deadline (is_out x.phase) (backs_off_until x.phase)
+      ∙ (λ i. turn_at_rest moment (first-stands i) (s.shut i) (s.conn_number i) (s.idle i) x.deadline (is_out x.phase) (backs_off_until x.phase))
+      ∙ ap (λ (n : ℕ). turn_at_rest moment (is_first_at core.options.max_connections core.places marks n) (list_any is_shut marks) (next_conn marks) (idle_of marks) x.deadline (is_out x.phase) (backs_off_until x.phase)) (number-is x e)
+      ∙ sym (ap (turn_of_asked core.options.max_connections core.places marks moment (backs_off_until x.phase)) (asked-is x e))
+
+  turn-found : (o : Option Ticket) → ticket_of k t core.tickets ≡ o
+      → turn_of (is_first_in_line t core) moment core o ≡ phase_turn core.options.max_connections core.places marks k t moment (option_map (λ (x : Ticket). x.phase) o)
+  turn-found None e = refl
+  turn-found (Some x) e = ap (λ (w : Turn). cond (is_at_rest x.phase) w turned.NotHeld) (rests-at x e)
+
+  -- the turn that a core finds is the turn over its marks
+  pub own_turn-stands : own_turn core k t moment ≡ phase_turn core.options.max_connections core.places marks k t moment (phase_for k t core.tickets)
+  own_turn-stands = turn-found (ticket_of k t core.tickets) refl

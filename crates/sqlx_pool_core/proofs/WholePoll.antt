@@ -16,13 +16,14 @@ use Rattle.sqlx_pool_core.specs.declared.probe.Opening.TheVariants as opening
 use Rattle.sqlx_pool_core.specs.declared.options.PoolOptions.{PoolOptions}
 use Rattle.sqlx_text.specs.declared.error.Error.TheVariants.{OutOfMemory}
 use Rattle.sqlx_pool_core.specs.Outside.{Reach}
-use Rattle.sqlx_pool_core.specs.Core.{Core, is_of, ticket_of, free}
+use Rattle.sqlx_pool_core.specs.Core.{Core, is_of, is_out, ticket_of}
 use Rattle.sqlx_log.specs.declared.turn.Turn.{Turn}
 use Rattle.sqlx_log.specs.declared.turn.Turn.TheVariants as turn
 use Rattle.sqlx_pool_core.specs.declared.steps.Idle.{Idle}
 use Rattle.sqlx_pool_core.specs.declared.steps.Start.TheVariants as start
-use Rattle.sqlx_pool_core.specs.OwnTurn.{own_turn, own_turn_at, before}
-use Rattle.sqlx_pool_core.specs.PollTable.{in_time, is_at_rest}
+use Rattle.sqlx_pool_core.specs.OwnTurn.{is_first_in_line, turn_of, own_turn}
+use Rattle.sqlx_log.specs.PollTable.{in_time}
+use Rattle.sqlx_pool_core.specs.PollTable.{is_at_rest, backs_off_until}
 use Rattle.sqlx_pool_core.proofs.TurnCases.{unless_first, turn-test}
 use Rattle.sqlx_pool_core.specs.Sound.{IsSound}
 use Rattle.sqlx_pool_core.specs.Place.{IsAmong}
@@ -112,10 +113,10 @@ unless_last true a z w e other = (refl, e)
 unless_last false a z w e other = absurd (other e)
 
 -- a turn that is neither of a closed pool nor of a ticket that isn't held is of an open pool
-open_turn : {C : Type 0} (core : Core C) (m : ℕ) (x : Ticket) (w : Turn) → own_turn_at core m (Some x) ≡ w → (turn.NotHeld ≡ w → ⊥) → (turn.Closed ≡ w → ⊥) → core.shut ≡ false
-open_turn core m x w e held closed =
-    let rest = unless_last (is_at_rest x.phase) (if core.shut then turn.Closed else (if nat_le x.deadline m then turn.TimedOut else in_time m (free core) (before x.number core.tickets) core.next_conn core.idle x.phase)) turn.NotHeld w e held in
-    (unless_first core.shut turn.Closed (if nat_le x.deadline m then turn.TimedOut else in_time m (free core) (before x.number core.tickets) core.next_conn core.idle x.phase) w rest.1 closed).0
+open_turn : {C : Type 0} (q : Bool) (core : Core C) (m : ℕ) (x : Ticket) (w : Turn) → turn_of q m core (Some x) ≡ w → (turn.NotHeld ≡ w → ⊥) → (turn.Closed ≡ w → ⊥) → core.shut ≡ false
+open_turn q core m x w e held closed =
+    let rest = unless_last (is_at_rest x.phase) (if core.shut then turn.Closed else (if nat_le x.deadline m then turn.TimedOut else in_time m q core.next_conn core.idle (is_out x.phase) (backs_off_until x.phase))) turn.NotHeld w e held in
+    (unless_first core.shut turn.Closed (if nat_le x.deadline m then turn.TimedOut else in_time m q core.next_conn core.idle (is_out x.phase) (backs_off_until x.phase)) w rest.1 closed).0
 
 -- A ticket that waits takes the first idle connection.
 pub record Takes {C : Type 0} (core : Core C) (k t m : ℕ) (i : Idle C) : Type 0 where
@@ -156,17 +157,17 @@ connect_turn turn.Exhausted idle e = absurd cc
 connect_turn turn.Waiting idle e = absurd cc
 connect_turn (turn.Backoff until) idle e = absurd cc
 
-takes_at : {C : Type 0} (core : Core C) (k t m : ℕ) (i : Idle C) (o : Option Ticket) → ticket_of k t core.tickets ≡ o → own_turn_at core m o ≡ turn.Test
+takes_at : {C : Type 0} (core : Core C) (k t m : ℕ) (i : Idle C) (o : Option Ticket) → ticket_of k t core.tickets ≡ o → turn_of (is_first_in_line t core) m core o ≡ turn.Test
     → (rest : List (Idle C)) → core.idle ≡ i ∷ rest → Takes core k t m i
 takes_at core k t m i None found e rest idle = absurd cc
 takes_at core k t m i (Some x) found e rest idle = record {
   x = x;
   found = found;
-  tests = ap (own_turn_at core m) found ∙ e;
-  waits = (turn-test core m x e).leaves.waits;
+  tests = ap (turn_of (is_first_in_line t core) m core) found ∙ e;
+  waits = (turn-test (is_first_in_line t core) core m x e).leaves.waits;
   rest = rest;
   idle = idle;
-  open_is = open_turn core m x turn.Test e (λ q. cc) (λ q. cc);
+  open_is = open_turn (is_first_in_line t core) core m x turn.Test e (λ q. cc) (λ q. cc);
 }
 
 pub takes : {C : Type 0} (core : Core C) (k t m : ℕ) (i : Idle C) → start.Test i ≡ start_answer (own_turn core k t m) core.idle → Takes core k t m i
@@ -174,16 +175,16 @@ takes core k t m i e =
     let both = test_turn i (own_turn core k t m) core.idle e in
     takes_at core k t m i (ticket_of k t core.tickets) refl both.0 both.1.0 both.1.1
 
-tries_at : {C : Type 0} (core : Core C) (k t m : ℕ) (o : Option Ticket) → ticket_of k t core.tickets ≡ o → (own_turn_at core m o ≡ turn.Connect) ⊎ ((own_turn_at core m o ≡ turn.Test) × (core.idle ≡ [])) → Tries core k t m
+tries_at : {C : Type 0} (core : Core C) (k t m : ℕ) (o : Option Ticket) → ticket_of k t core.tickets ≡ o → (turn_of (is_first_in_line t core) m core o ≡ turn.Connect) ⊎ ((turn_of (is_first_in_line t core) m core o ≡ turn.Test) × (core.idle ≡ [])) → Tries core k t m
 tries_at core k t m None found (inl e) = absurd cc
 tries_at core k t m None found (inr e) = let no : turn.NotHeld ≡ turn.Test = e.0 in absurd cc
 tries_at core k t m (Some x) found (inl e) = record {
   x = x;
   found = found;
-  connects = ap (own_turn_at core m) found ∙ e;
-  open_is = open_turn core m x turn.Connect e (λ q. cc) (λ q. cc);
+  connects = ap (turn_of (is_first_in_line t core) m core) found ∙ e;
+  open_is = open_turn (is_first_in_line t core) core m x turn.Connect e (λ q. cc) (λ q. cc);
 }
-tries_at {C} core k t m (Some x) found (inr e) = let is = turn-test core m x e.0 in absurd (let no : ◌≡◌ {A = List (Idle C)} [] (is.first ∷ is.rest) = sym e.1 ∙ is.idle in cc)
+tries_at {C} core k t m (Some x) found (inr e) = let is = turn-test (is_first_in_line t core) core m x e.0 in absurd (let no : ◌≡◌ {A = List (Idle C)} [] (is.first ∷ is.rest) = sym e.1 ∙ is.idle in cc)
 
 pub tries : {C : Type 0} (core : Core C) (k t m : ℕ) → start.Connect ≡ start_answer (own_turn core k t m) core.idle → Tries core k t m
 tries core k t m e = tries_at core k t m (ticket_of k t core.tickets) refl (connect_turn (own_turn core k t m) core.idle e)

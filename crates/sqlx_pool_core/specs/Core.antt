@@ -24,21 +24,26 @@ pub record Core (C : Type 0) : Type 0 where
 
 -- ---- what a ticket, a loan and an idle connection say of themselves
 
+-- the ticket has left the line
 abbrev pub is_out : Phase → Bool
 is_out Waiting = false
 is_out phase = true
 
+-- what a ticket says of itself
 abbrev pub asking : Ticket → PendingTicket
 asking t = record { ticket = t.number; client = t.client; deadline = t.deadline; left = is_out t.phase }
 
+-- what a loan says of itself
 abbrev pub loan : Held → Loan
 loan h = record { client = h.client; conn = h.conn }
 
+-- what an idle connection says of itself
 abbrev pub resting : {C : Type 0} → Idle C → IdleEntry
 resting i = record { conn = i.lent.id; since = i.since.0 }
 
 -- ---- counts
 
+-- the ticket has left the line
 abbrev pub has_gone : Ticket → Bool
 has_gone t = is_out t.phase
 
@@ -46,6 +51,7 @@ has_gone t = is_out t.phase
 abbrev pub gone : List Ticket → ℕ
 gone tickets = count_by has_gone tickets
 
+-- the ticket stands in the line
 abbrev pub waits : Ticket → Bool
 waits t = not (is_out t.phase)
 
@@ -63,6 +69,7 @@ size core = length core.idle + length core.held + core.leaked + gone core.ticket
 
 -- ---- finding
 
+-- it is this client's ticket of this number
 abbrev pub is_of : ℕ → ℕ → Ticket → Bool
 is_of k t x = (t == x.number) && (k == x.client)
 
@@ -70,6 +77,7 @@ is_of k t x = (t == x.number) && (k == x.client)
 abbrev pub ticket_of : ℕ → ℕ → List Ticket → Option Ticket
 ticket_of k t tickets = find (is_of k t) tickets
 
+-- it is this client's loan of this connection
 abbrev pub is_held_by : ℕ → ℕ → Held → Bool
 is_held_by k c h = (c == h.conn) && (k == h.client)
 

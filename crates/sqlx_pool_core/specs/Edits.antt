@@ -11,6 +11,7 @@ use Rattle.sqlx_pool_core.specs.Core.{Core}
 
 -- ---- of lists
 
+-- it has another number
 abbrev pub is_another_ticket : ℕ → Ticket → Bool
 is_another_ticket t x = not (t == x.number)
 
@@ -22,6 +23,7 @@ without_ticket t tickets = filter (is_another_ticket t) tickets
 abbrev pub with_ticket : ℕ → (Ticket → Ticket) → List Ticket → List Ticket
 with_ticket t change tickets = map (λ x. if t == x.number then change x else x) tickets
 
+-- it is of another connection
 abbrev pub is_another_loan : ℕ → Held → Bool
 is_another_loan c h = not (c == h.conn)
 
@@ -29,6 +31,7 @@ is_another_loan c h = not (c == h.conn)
 abbrev pub without_loan : ℕ → List Held → List Held
 without_loan c held = filter (is_another_loan c) held
 
+-- it is another connection
 abbrev pub is_another_idle : {C : Type 0} → ℕ → Idle C → Bool
 is_another_idle c i = not (c == i.lent.id)
 
@@ -51,6 +54,7 @@ abbrev pub to_try_at : ℕ → Phase → Ticket → Ticket
 to_try_at m phase.Waiting x = record x { phase = phase.Connecting; first_try = record { 0 = m }; last_wait = None }
 to_try_at m other x = to_connect x
 
+-- it connects; where it waited, it left the line at this moment
 abbrev pub to_try : ℕ → Ticket → Ticket
 to_try m x = to_try_at m x.phase x
 

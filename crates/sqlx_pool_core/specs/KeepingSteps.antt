@@ -28,10 +28,12 @@ abbrev pub reap_answer : {C : Type 0} → Bool → PoolOptions → ℕ → List 
 reap_answer true options m idle = find (is_reaped_at options m) idle
 reap_answer false options m idle = None
 
+-- the marks of a reap
 abbrev pub reap_marks : {C : Type 0} → Option (Idle C) → List Mark
 reap_marks (Some i) = Reaped i.lent.id ∷ []
 reap_marks None = []
 
+-- the core after a reap
 abbrev pub reaped : {C : Type 0} → ℕ → Option (Idle C) → Core C → Core C
 reaped m (Some i) core = at_moment m (record core { idle = without_idle i.lent.id core.idle })
 reaped m None core = core
@@ -51,6 +53,7 @@ has_place minimum core = may_open core.shut (waiting core.tickets) (free core) (
 abbrev pub lacks : {C : Type 0} → Core C → ℕ
 lacks core = lacking core.shut (waiting core.tickets) (free core) (size core) core.options.min_connections core.options.max_connections core.next_conn
 
+-- a place for the minimum is held
 abbrev pub placed : {C : Type 0} → Bool → Core C → Core C
 placed true core = record core { places = core.places + 1 }
 placed false core = core
@@ -60,29 +63,36 @@ abbrev pub handed_back : {C : Type 0} → Bool → Option C → Option C
 handed_back true raw = raw
 handed_back false raw = None
 
+-- the marks of a connection for the minimum that was opened, or not
 abbrev pub done_marks : {C : Type 0} → Bool → ℕ → ℕ → Option C → List Mark
 done_marks false n m (Some raw) = Opened n m ∷ Kept n m ∷ []
 done_marks shut n m raw = []
 
+-- a place for the minimum is given back
 abbrev pub placed_back : {C : Type 0} → Core C → Core C
 placed_back core = record core { places = core.places - 1 }
 
+-- the new connection rests, unless the pool is closed
 abbrev pub done_at : {C : Type 0} → Bool → ℕ → Option C → Core C → Core C
 done_at false m (Some raw) core = opened (kept (record { id = core.next_conn; created = record { 0 = m }; raw = raw }) m core)
 done_at shut m raw core = core
 
+-- the core after a place was used or given up
 abbrev pub done : {C : Type 0} → ℕ → Option C → Core C → Core C
 done m raw core = at_moment m (placed_back (done_at core.shut m raw core))
 
 -- ---- close
 
+-- the mark of an idle connection that a close closes
 abbrev pub closed_idle : {C : Type 0} → Idle C → Mark
 closed_idle i = Closed i.lent.id
 
+-- the marks of a close
 abbrev pub close_marks : {C : Type 0} → Bool → List (Idle C) → List Mark
 close_marks true idle = []
 close_marks false idle = Shut ∷ map closed_idle idle
 
+-- the pool is shut, and nothing of it is idle
 abbrev pub closed : {C : Type 0} → Core C → Core C
 closed core = record core { shut = true; idle = [] }
 

@@ -12,14 +12,17 @@ use Rattle.sqlx_pool_core.specs.Core.{Core, waiting, gone, size}
 
 -- ---- counts of marks
 
+-- the mark asks a ticket
 abbrev pub is_asked : Mark → Bool
 is_asked (Asked t k d) = true
 is_asked m = false
 
+-- the mark ends a ticket
 abbrev pub is_ended : Mark → Bool
 is_ended (Ended t) = true
 is_ended m = false
 
+-- the mark lends a connection
 abbrev pub is_lent : Mark → Bool
 is_lent (Lent k c) = true
 is_lent m = false
@@ -28,18 +31,22 @@ is_lent m = false
 abbrev pub asks : List Mark → ℕ
 asks marks = count_by is_asked marks
 
+-- how many tickets these marks end
 abbrev pub ends : List Mark → ℕ
 ends marks = count_by is_ended marks
 
+-- how many loans these marks make
 abbrev pub lents : List Mark → ℕ
 lents marks = count_by is_lent marks
 
 -- ---- marks still due
 
+-- a connection is under test
 abbrev pub tests_one : Phase → Bool
 tests_one (phase.Testing c created) = true
 tests_one phase = false
 
+-- the ticket has a connection under test
 abbrev pub is_testing : Ticket → Bool
 is_testing x = tests_one x.phase
 
@@ -65,6 +72,7 @@ pub record Moves {C : Type 0} (old new : Core C) (made : List Mark) (backs room 
 abbrev pub one_if : Bool → ℕ
 one_if done = if done then 1 else 0
 
+-- how many loans a return ends
 abbrev pub given_back : {C : Type 0} → Given C → ℕ
 given_back given.Kept = 1
 given_back (given.Closed raw) = 1

@@ -28,6 +28,7 @@ abbrev pub refusal : Error → Option Reach
 refusal OutOfMemory = None
 refusal error = if is_transient error then Some RefusedTransiently else Some RefusedForGood
 
+-- what a connect came to
 abbrev pub reach_of : {C : Type 0} → Result C Error → Option Reach
 reach_of (Ok conn) = Some Connected
 reach_of (Err error) = refusal error
@@ -65,17 +66,22 @@ abbrev pub IsFirstIfAny : {A : Type 0} → List A → Option A → Type 0
 IsFirstIfAny told None = ⊤
 IsFirstIfAny told (Some given) = IsFirst told given
 
+-- what is told after a connect
 abbrev pub connected_once : Told → Told
 connected_once t = record t { connects = drop 1 t.connects }
 
+-- what is told after a ping
 abbrev pub pinged_once : Told → Told
 pinged_once t = record t { pings = drop 1 t.pings }
 
+-- what is told after the hook after a connect
 abbrev pub set_up_once : Told → Told
 set_up_once t = record t { after_connects = drop 1 t.after_connects }
 
+-- what is told after the hook before an acquire
 abbrev pub tested_once : Told → Told
 tested_once t = record t { before_acquires = drop 1 t.before_acquires }
 
+-- what is told after the hook after a release
 abbrev pub released_once : Told → Told
 released_once t = record t { after_releases = drop 1 t.after_releases }

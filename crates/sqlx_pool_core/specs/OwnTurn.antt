@@ -1,11 +1,13 @@
 -- The turn of a poll by the core's own lists.
-use Rattle.std.specs.Prelude.{ℕ, Bool, not, ◌==◌, List, Option, Some, None, if◌then◌else◌, nat_le, take_while}
+use Rattle.std.specs.Prelude.{ℕ, Bool, not, ◌==◌, List, Option, Some, None, if◌then◌else◌, nat_lt, take_while}
 use Rattle.sqlx_pool_core.specs.declared.ticket.Ticket.{Ticket}
 use Rattle.sqlx_log.specs.declared.turn.Turn.{Turn}
-use Rattle.sqlx_log.specs.declared.turn.Turn.TheVariants.{NotHeld, Closed, TimedOut}
-use Rattle.sqlx_pool_core.specs.Core.{Core, free, waiting, ticket_of}
-use Rattle.sqlx_pool_core.specs.PollTable.{in_time, is_at_rest}
+use Rattle.sqlx_log.specs.declared.turn.Turn.TheVariants.{NotHeld}
+use Rattle.sqlx_log.specs.PollTable.{turn_at_rest}
+use Rattle.sqlx_pool_core.specs.Core.{Core, is_out, free, waiting, ticket_of}
+use Rattle.sqlx_pool_core.specs.PollTable.{is_at_rest, backs_off_until}
 
+-- it has another number
 abbrev pub is_another : ℕ → Ticket → Bool
 is_another t x = not (t == x.number)
 
@@ -13,11 +15,16 @@ is_another t x = not (t == x.number)
 abbrev pub before : ℕ → List Ticket → ℕ
 before t tickets = waiting (take_while (is_another t) tickets)
 
-abbrev pub own_turn_at : {C : Type 0} → Core C → ℕ → Option Ticket → Turn
-own_turn_at core moment None = NotHeld
-own_turn_at core moment (Some x) =
-    if is_at_rest x.phase then (if core.shut then Closed else (if nat_le x.deadline moment then TimedOut else in_time moment (free core) (before x.number core.tickets) core.next_conn core.idle x.phase)) else NotHeld
+-- the ticket is entitled by the pool's own line: fewer waiting tickets precede it than permits are free
+abbrev pub is_first_in_line : {C : Type 0} → ℕ → Core C → Bool
+is_first_in_line t core = nat_lt (before t core.tickets) (free core)
 
--- what the poll of a client's ticket comes to at a moment
+-- what the poll of a ticket comes to at a moment, entitled or not
+abbrev pub turn_of : {C : Type 0} → Bool → ℕ → Core C → Option Ticket → Turn
+turn_of entitled moment core None = NotHeld
+turn_of entitled moment core (Some x) =
+    if is_at_rest x.phase then turn_at_rest moment entitled core.shut core.next_conn core.idle x.deadline (is_out x.phase) (backs_off_until x.phase) else NotHeld
+
+-- what the poll of a client's ticket comes to at a moment, by the pool's own line
 abbrev pub own_turn : {C : Type 0} → Core C → ℕ → ℕ → ℕ → Turn
-own_turn core k t moment = own_turn_at core moment (ticket_of k t core.tickets)
+own_turn core k t moment = turn_of (is_first_in_line t core) moment core (ticket_of k t core.tickets)

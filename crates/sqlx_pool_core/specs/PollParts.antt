@@ -37,6 +37,7 @@ is_pass check.Pass = true
 is_pass check.Close = false
 is_pass check.CloseHard = false
 
+-- the verdict accepts its connection
 abbrev pub is_accepted : {C : Type 0} → Verdict C → Bool
 is_accepted (verdict.Accepted lent) = true
 is_accepted (verdict.Refused c) = false
@@ -106,6 +107,7 @@ abbrev pub after_check : {C : Type 0} → ℕ → ℕ → Idle C → Bool → Co
 after_check k t i true core = ended t (lent_to k i.lent.id i.lent.created core)
 after_check k t i false core = untested t core
 
+-- the marks of a test
 abbrev pub check_made : ℕ → ℕ → ℕ → Bool → List Mark
 check_made k t c true = mark.Lent k c ∷ mark.Ended t ∷ []
 check_made k t c false = mark.Closed c ∷ []
@@ -145,6 +147,7 @@ IsAnswer (connected.Ready lent) = ⊤
 IsAnswer (connected.Backoff until) = ⊤
 IsAnswer other = ⊥
 
+-- what a poll answers after a try that was not refused for good
 abbrev pub answered : {C : Type 0} → AfterConnect C → Polled C
 answered (connected.Ready lent) = polled.Ready lent
 answered (connected.Backoff until) = polled.Backoff until

@@ -28,6 +28,11 @@ use Rattle.sqlx_pool_core.specs.Edits.{with_ticket, to_test, to_try, to_connect,
 abbrev pub phase_for : ℕ → ℕ → List Ticket → Option Phase
 phase_for k t tickets = option_map (λ (x : Ticket). x.phase) (ticket_of k t tickets)
 
+-- the ticket stands in the line
+abbrev pub is_in_line : Option Phase → Bool
+is_in_line (Some phase.Waiting) = true
+is_in_line other = false
+
 -- ---- start
 
 -- the answer of a turn
@@ -47,6 +52,7 @@ abbrev pub leaving : ℕ → Option Phase → List Mark → List Mark
 leaving t (Some phase.Waiting) later = Left t ∷ later
 leaving t other later = later
 
+-- the marks of the start of a poll
 abbrev pub start_marks : {C : Type 0} → ℕ → Option Phase → Start C → List Mark
 start_marks t phase start.Closed = Ended t ∷ []
 start_marks t phase start.TimedOut = Ended t ∷ []
@@ -55,6 +61,7 @@ start_marks t phase (start.Test i) = Left t ∷ Taken i.lent.id ∷ []
 start_marks t phase start.Connect = leaving t phase []
 start_marks t phase other = []
 
+-- the core after the start of a poll
 abbrev pub started : {C : Type 0} → ℕ → ℕ → Start C → Core C → Core C
 started t m start.Closed core = at_moment m (ended t core)
 started t m start.TimedOut core = at_moment m (ended t core)
@@ -75,6 +82,7 @@ abbrev pub tested_at : ℕ → Option Phase → Option Moment
 tested_at c (Some (phase.Testing d created)) = if c == d then Some created else None
 tested_at c other = None
 
+-- the connection of an accepting verdict
 abbrev pub accepted_raw : {C : Type 0} → Verdict C → Option C
 accepted_raw (verdict.Accepted lent) = Some lent.raw
 accepted_raw (verdict.Refused c) = None
@@ -83,18 +91,21 @@ accepted_raw (verdict.Refused c) = None
 abbrev pub lent_since : {C : Type 0} → Moment → LentValue C → LentValue C
 lent_since created lent = record lent { created = created }
 
+-- the answer to a test
 abbrev pub test_answer : {C : Type 0} → Option Moment → Bool → Verdict C → AfterTest C
 test_answer None shut verdict = tested.NotHeld verdict
 test_answer (Some created) true verdict = tested.Closed (accepted_raw verdict)
 test_answer (Some created) false (verdict.Accepted lent) = tested.Ready (lent_since created lent)
 test_answer (Some created) false (verdict.Refused c) = tested.Connect
 
+-- the marks of a test
 abbrev pub test_marks : {C : Type 0} → ℕ → ℕ → ℕ → AfterTest C → List Mark
 test_marks k t c (tested.NotHeld verdict) = []
 test_marks k t c (tested.Closed raw) = Closed c ∷ Ended t ∷ []
 test_marks k t c (tested.Ready lent) = Lent k c ∷ Ended t ∷ []
 test_marks k t c tested.Connect = Closed c ∷ []
 
+-- the core after a test
 abbrev pub after_test : {C : Type 0} → ℕ → ℕ → AfterTest C → Core C → Core C
 after_test k t (tested.NotHeld verdict) core = core
 after_test k t (tested.Closed raw) core = ended t core
@@ -103,6 +114,7 @@ after_test k t tested.Connect core = record core { tickets = with_ticket t to_co
 
 -- ---- finish_connect
 
+-- the connection that a try opened
 abbrev pub opened_raw : {C : Type 0} → Tried C → Option C
 opened_raw (tried.Opened raw) = Some raw
 opened_raw other = None
@@ -118,15 +130,18 @@ try_answer x n m tried.Rejected = connected.Backoff (m + wait_of x)
 try_answer x n m tried.Transient = connected.Backoff (m + wait_of x)
 try_answer x n m tried.Fatal = connected.Ended
 
+-- the answer to a try of a ticket in this phase
 abbrev pub try_answer_at : {C : Type 0} → Phase → Ticket → Bool → ℕ → ℕ → Tried C → AfterConnect C
 try_answer_at phase.Connecting x true n m tried = connected.Closed (opened_raw tried)
 try_answer_at phase.Connecting x false n m tried = try_answer x n m tried
 try_answer_at other x shut n m tried = connected.NotHeld tried
 
+-- the answer to a try
 abbrev pub connect_answer : {C : Type 0} → Option Ticket → Bool → ℕ → ℕ → Tried C → AfterConnect C
 connect_answer (Some x) shut n m tried = try_answer_at x.phase x shut n m tried
 connect_answer None shut n m tried = connected.NotHeld tried
 
+-- the marks of a try
 abbrev pub connect_marks : {C : Type 0} → ℕ → ℕ → ℕ → AfterConnect C → List Mark
 connect_marks k t m (connected.NotHeld tried) = []
 connect_marks k t m (connected.Closed raw) = Ended t ∷ []
@@ -134,6 +149,7 @@ connect_marks k t m (connected.Ready lent) = Opened lent.id m ∷ Lent k lent.id
 connect_marks k t m (connected.Backoff until) = []
 connect_marks k t m connected.Ended = Ended t ∷ []
 
+-- the core after a try
 abbrev pub after_connect : {C : Type 0} → ℕ → ℕ → ℕ → AfterConnect C → Core C → Core C
 after_connect k t m (connected.NotHeld tried) core = core
 after_connect k t m (connected.Closed raw) core = at_moment m (ended t core)
@@ -149,10 +165,12 @@ may_cancel (Some phase.Waiting) = true
 may_cancel (Some (phase.Backoff until)) = true
 may_cancel other = false
 
+-- the marks of a cancel
 abbrev pub cancel_marks : ℕ → Bool → List Mark
 cancel_marks t true = Ended t ∷ []
 cancel_marks t false = []
 
+-- the core after a cancel
 abbrev pub cancelled : {C : Type 0} → ℕ → Bool → Core C → Core C
 cancelled t true core = ended t core
 cancelled t false core = core
@@ -164,10 +182,12 @@ abbrev pub try_lent : {C : Type 0} → Bool → List (Idle C) → Option (LentVa
 try_lent true (i ∷ rest) = Some i.lent
 try_lent may idle = None
 
+-- the marks of a loan past the line
 abbrev pub try_marks : {C : Type 0} → ℕ → Option (LentValue C) → List Mark
 try_marks k (Some lent) = Taken lent.id ∷ Lent k lent.id ∷ []
 try_marks k None = []
 
+-- the core after a loan past the line
 abbrev pub after_try : {C : Type 0} → ℕ → ℕ → Option (LentValue C) → Core C → Core C
 after_try k m (Some lent) core = at_moment m (lent_to k lent.id lent.created (took core))
 after_try k m None core = core

@@ -45,6 +45,7 @@ pub data Says : Type 0 where
   Ready : ℕ → ℕ → Says
   Refused : Says
 
+-- what an answer says
 abbrev pub says : {C : Type 0} → Polled C → Says
 says polled.NotHeld = NotHeld
 says polled.Closed = Closed
@@ -63,11 +64,13 @@ try_says n m until Opens = Ready n m
 try_says n m until Again = Backoff until
 try_says n m until Fails = Refused
 
+-- the marks of a try
 abbrev pub try_made : ℕ → ℕ → ℕ → ℕ → Try → List Mark
 try_made k t n m Opens = mark.Opened n m ∷ mark.Lent k n ∷ mark.Ended t ∷ []
 try_made k t n m Again = []
 try_made k t n m Fails = mark.Ended t ∷ []
 
+-- the core after a try
 abbrev pub after_try : {C : Type 0} → ℕ → ℕ → ℕ → Try → Core C → Core C
 after_try k t m Opens core = at_moment m (ended t (lent_to k core.next_conn (record { 0 = m }) (opened core)))
 after_try k t m Again core = at_moment m (record core { tickets = with_ticket t (λ x. to_back_off (wait_of x) (m + wait_of x) x) core.tickets })
@@ -75,17 +78,21 @@ after_try k t m Fails core = at_moment m (ended t core)
 
 -- ---- a poll that tests the first idle connection
 
+-- what a poll says that tested an idle connection
 abbrev pub test_says : ℕ → ℕ → Says → Bool → Says
 test_says c created connects true = Ready c created
 test_says c created connects false = connects
 
+-- its marks
 abbrev pub test_made : ℕ → ℕ → ℕ → List Mark → Bool → List Mark
 test_made k t c connects true = mark.Left t ∷ mark.Taken c ∷ mark.Lent k c ∷ mark.Ended t ∷ []
 test_made k t c connects false = (mark.Left t ∷ mark.Taken c ∷ mark.Closed c ∷ []) ++ connects
 
+-- the connection under test is gone: its ticket connects
 abbrev pub untested : {C : Type 0} → ℕ → Core C → Core C
 untested t core = record core { tickets = with_ticket t to_connect core.tickets }
 
+-- the core after it
 abbrev pub after_test : {C : Type 0} → ℕ → ℕ → ℕ → Idle C → Try → Bool → Core C → Core C
 after_test k t m i try true core = ended t (lent_to k i.lent.id i.lent.created (started t m (start.Test i) core))
 after_test k t m i try false core = after_try k t m try (untested t (started t m (start.Test i) core))
@@ -117,6 +124,7 @@ poll_made k t phase turn.Test (i ∷ rest) n m outcome = test_made k t i.lent.id
 poll_made k t phase turn.Connect idle n m outcome = leaving t phase [] ++ try_made k t n m outcome.try
 poll_made k t phase other idle n m outcome = []
 
+-- the core after a poll
 abbrev pub after_poll : {C : Type 0} → ℕ → ℕ → ℕ → Turn → List (Idle C) → Outcome → Core C → Core C
 after_poll k t m turn.Closed idle outcome core = at_moment m (ended t core)
 after_poll k t m turn.TimedOut idle outcome core = at_moment m (ended t core)

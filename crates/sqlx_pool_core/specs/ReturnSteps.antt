@@ -18,6 +18,7 @@ abbrev pub give_answer : {C : Type 0} → PoolOptions → Bool → ℕ → Bool 
 give_answer options shut m accepted None lent = given.NotHeld lent.raw
 give_answer options shut m accepted (Some h) lent = if accepted && not (closes (limits_of options) shut h.created.0 m) then given.Kept else given.Closed lent.raw
 
+-- the marks of a return
 abbrev pub give_marks : {C : Type 0} → ℕ → ℕ → Given C → List Mark
 give_marks c m given.Kept = Kept c m ∷ []
 give_marks c m (given.Closed raw) = Closed c ∷ []
@@ -28,6 +29,7 @@ abbrev pub rested : {C : Type 0} → Option Held → LentValue C → ℕ → Cor
 rested (Some h) lent m core = kept (lent_since h.created lent) m core
 rested None lent m core = core
 
+-- the core after a return
 abbrev pub gave : {C : Type 0} → Option Held → LentValue C → ℕ → Given C → Core C → Core C
 gave h lent m given.Kept core = at_moment m (rested h lent m (unlent lent.id core))
 gave h lent m (given.Closed raw) core = at_moment m (unlent lent.id core)
@@ -35,14 +37,17 @@ gave h lent m (given.NotHeld raw) core = core
 
 -- ---- end, detach, leak
 
+-- the marks of an end
 abbrev pub end_marks : ℕ → Bool → List Mark
 end_marks c true = Closed c ∷ []
 end_marks c false = []
 
+-- the marks of a detach
 abbrev pub detach_marks : ℕ → Bool → List Mark
 detach_marks c true = Detached c ∷ []
 detach_marks c false = []
 
+-- the marks of a leak
 abbrev pub leak_marks : ℕ → Bool → List Mark
 leak_marks c true = Leaked c ∷ []
 leak_marks c false = []

@@ -12,19 +12,24 @@ abbrev pub IsRising : ℕ → List ℕ → ℕ → Type 0
 IsRising low [] high = low ≤ high
 IsRising low (n ∷ rest) high = (low ≤ n) × IsRising (n + 1) rest high
 
+-- the number of a ticket
 abbrev pub number_of : Ticket → ℕ
 number_of t = t.number
 
+-- this connection is under test in this phase
 abbrev pub is_tested : ℕ → Phase → Bool
 is_tested c (phase.Testing d created) = c == d
 is_tested c other = false
 
+-- the ticket has this connection under test
 abbrev pub tests : ℕ → Ticket → Bool
 tests c t = is_tested c t.phase
 
+-- the loan is of this connection
 abbrev pub holds : ℕ → Held → Bool
 holds c h = c == h.conn
 
+-- it is this connection that rests
 abbrev pub rests : {C : Type 0} → ℕ → Idle C → Bool
 rests c i = c == i.lent.id
 

@@ -21,6 +21,7 @@ tries_of false (Connected ∷ reaches) goods = Opens ∷ tries_of false reaches 
 tries_of true (Connected ∷ reaches) [] = []
 tries_of true (Connected ∷ reaches) (good ∷ goods) = set_up_try good ∷ tries_of true reaches goods
 
+-- what the tries come to that are told
 abbrev pub tries_told : Bool → Option Told → List Try
 tries_told hook None = []
 tries_told hook (Some t) = tries_of hook t.connects t.after_connects

@@ -19,5 +19,6 @@ pub use outside::{Outside, PoolConnectionMetadata};
 pub use pool_core::PoolCore;
 pub use sqlx_log::{Mark, laws};
 pub use steps::{
-    AfterConnect, AfterTest, CloseState, Given, Idle, Lent, Openings, Polled, Start, Tried, Verdict,
+    AfterConnect, AfterTest, CloseState, Given, Idle, Lent, Numbers, Openings, Polled, Start,
+    Tried, Verdict,
 };

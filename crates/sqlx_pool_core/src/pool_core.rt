@@ -3,7 +3,6 @@
 ghost use Rattle.std.specs.Prelude.{◌≡◌, ℕ, ◌+◌, ◌<◌, ◌≤◌, max, List, [], Option, Some, None, IfOk, length, if◌then◌else◌, not};
 ghost use Rattle.sqlx_log.specs.declared.mark.Mark.{Mark};
 ghost use Rattle.sqlx_pool_core.specs.Core.{waiting, gone, free, size};
-ghost use Rattle.sqlx_pool_core.specs.OwnTurn.{own_turn_at};
 ghost use Rattle.sqlx_pool_core.specs.Moves.{due, IsBounded};
 ghost use Rattle.sqlx_pool_core.specs.Sound.{IsSound};
 ghost use Rattle.sqlx_pool_core.specs.StandsFor.{StandsFor};

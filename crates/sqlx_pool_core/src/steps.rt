@@ -139,3 +139,10 @@ pub struct Openings {
     /// It ended for want of memory.
     pub short: bool,
 }
+
+/// The numbers that the next ticket and the next connection get.
+#[derive(Clone, Copy, PartialEq, Eq)]
+pub struct Numbers {
+    pub next_ticket: u64,
+    pub next_conn: u64,
+}

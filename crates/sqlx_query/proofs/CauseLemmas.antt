@@ -1,10 +1,10 @@
 -- Where the errors of mapped rows come from.
-use Rattle.std.proofs.Common.{◌≡◌, ◌⊎◌, inl, inr, ℕ, List, [], ◌∷◌, Option, Some, None, Result, Ok, Err, IfErr, IfSome, rules, arith}
+use Rattle.std.proofs.Common.{◌≡◌, ◌⊎◌, inl, inr, ℕ, List, [], ◌∷◌, Option, Some, None, Result, Ok, Err, IfErr, IfSome, rules, arith, subst}
 use Rattle.sqlx_text.specs.declared.error.Error.{Error}
 use Rattle.sqlx_text.specs.declared.error.Error.TheVariants as error
 use Rattle.sqlx_text.specs.declared.fault.Fault.{Fault}
 use Rattle.sqlx_traits.specs.StepList.{StepCause, StepCauses, first_error, or_error, values_of}
-use Rattle.sqlx_query.specs.Mapping.{MapsAll, MappedRows, RefusedBy}
+use Rattle.sqlx_query.specs.Mapping.{MapsAll, MappedRows, ReadsOne, RefusedBy}
 
 -- want of memory is no fault that is counted
 memory : {A : Type 0} (n now : ℕ) (arguments : Result A Fault) → StepCause n now arguments error.OutOfMemory
@@ -39,3 +39,11 @@ cause_of_all n now arguments seen maps rows start (Err e) causes (inl none) = me
 cause_of_all n now arguments seen maps rows start (Err e) causes (inr (items, mapped, inl due)) =
     cause_of_error (λ e. Cause n now arguments maps e) (values_of items) (first_error items) e (cause_of_items n now arguments maps rows start items causes mapped) due
 cause_of_all n now arguments seen maps rows start (Err e) causes (inr (items, mapped, inr none)) = memory_alone n now arguments maps e none
+
+-- the error in place of one row that is read
+pub cause_of_one : {R B : Type 0} (read : R → Result B Error → Type 0) (Refuses C : Error → Type 0) → ((row : R) (e : Error) → read row (Err e) → Refuses e)
+    → (row : Result R Error) (r : Result B Error) → IfErr row C → ReadsOne read row r → IfErr r (λ e. Refuses e ⊎ C e)
+cause_of_one read Refuses C told (Ok row) (Ok x) cause is = tt
+cause_of_one read Refuses C told (Ok row) (Err e) cause is = inl (told row e is)
+cause_of_one read Refuses C told (Err f) (Ok x) cause is = tt
+cause_of_one read Refuses C told (Err f) (Err e) cause is = let same : f ≡ e = cc is in inr (subst C same cause)

@@ -3,3 +3,4 @@ pub mod CauseLemmas
 pub mod DraftLemmas
 pub mod PlaceholderLemmas
 pub mod ReadLemmas
+pub mod OpenLemmas

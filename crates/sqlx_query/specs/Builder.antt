@@ -54,10 +54,6 @@ abbrev pub with_pieces : {L : Type 0} → Draft L → List (Piece L) → Draft L
 with_pieces d [] = d
 with_pieces d (p ∷ ps) = with_pieces (with_piece d p) ps
 
--- the text is what the driver writes for the last of some arguments that hold this list
-abbrev pub IsPlaceholder : {A L : Type 0} → (A → L) → (A → List ℕ) → L → List ℕ → Type 0
-IsPlaceholder {A} buffered placeholder list text = (args : A) × (buffered args ≡ list) × (placeholder args ≡ text)
-
 -- each bound value among the pieces adds one argument behind those that are there
 abbrev pub AddsOneEach : {L : Type 0} → (L → ℕ) → (ℕ → L → L) → L → List (Piece L) → Type 0
 AddsOneEach count first list [] = Unit {0}
@@ -105,6 +101,14 @@ WritesEach writes w xs ps last = ⊥
 -- the second draft is the first with the pieces behind it, each bound value of which adds one argument
 abbrev pub Gains : {L : Type 0} → (L → ℕ) → (ℕ → L → L) → Draft L → List (Piece L) → Draft L → Type 0
 Gains count first before ps now = AddsOneEach count first before.arguments ps × (now ≡ with_pieces before ps)
+
+-- a piece that stands alone
+abbrev pub alone : {L : Type 0} → Piece L → List (Piece L)
+alone p = p ∷ []
+
+-- the second draft gains a bound value, at the placeholder of the last argument that it has, and what stands around it
+abbrev pub GainsBound : {L : Type 0} → (ℕ → List ℕ) → (L → ℕ) → (ℕ → L → L) → (Piece L → List (Piece L)) → (L → L) → Draft L → Draft L → Type 0
+GainsBound placeholder count first around adds before now = Gains count first before (around (Bound (placeholder (count now.arguments)) adds)) now
 
 -- the second draft is the first with the tuples that the writer may write for the drained items, and what stands around them
 abbrev pub GainsTuples : {L W T : Type 0} → (L → ℕ) → (ℕ → L → L) → (List T → Type 0) → (W → T → List (Piece L) → W → Type 0) → W

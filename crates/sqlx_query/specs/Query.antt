@@ -24,9 +24,9 @@ statement_of (Left sql) = None
 statement_of (Right statement) = Some statement.now
 
 -- arguments that are there, or why they can't be had
-abbrev pub given : {A : Type 0} → Result A Fault → Result (Option A) Fault
-given (Ok arguments) = Ok (Some arguments)
-given (Err fault) = Err fault
+abbrev pub given_arguments : {A : Type 0} → Result A Fault → Result (Option A) Fault
+given_arguments (Ok arguments) = Ok (Some arguments)
+given_arguments (Err fault) = Err fault
 
 -- the arguments as the driver takes them, where there are some
 abbrev pub turned : {A B : Type 0} → (A → B) → Result (Option A) Fault → Result (Option B) Fault
@@ -40,7 +40,7 @@ handed_over becomes query = record { text = query.text; arguments = turned becom
 
 -- a query of a text or a statement with these arguments, whose statement is to be kept
 abbrev pub begun : {S A : Type 0} → List ℕ → Option S → Result A Fault → Asked S A
-begun text prepared arguments = record { text = text; prepared = prepared; arguments = given arguments; kept = true }
+begun text prepared arguments = record { text = text; prepared = prepared; arguments = given_arguments arguments; kept = true }
 
 -- such a query to which no argument is bound yet
 abbrev pub BeginsEmpty : {S A : Type 0} → (A → ℕ) → List ℕ → Option S → Asked S A → Type 0

@@ -6,13 +6,13 @@ ghost use Rattle.sqlx_text.specs.declared.fault.Fault.{Fault};
 ghost use Rattle.sqlx_traits.specs.Arguments.{AddsOne};
 ghost use Rattle.sqlx_query.specs.Query as asked;
 ghost use Rattle.sqlx_query.specs.Binding.{OrWantOfMemory};
-ghost use Rattle.sqlx_query.specs.Builder.{Gains, IsPlaceholder, Piece, begun, cut_to, with_piece};
+ghost use Rattle.sqlx_query.specs.Builder.{Gains, GainsBound, Piece, alone, begun, cut_to, with_piece};
 
 use crate::growing_text::GrowingText;
-use crate::{Query, QueryAs, QueryScalar, Separated};
+use crate::{Query, QueryAs, QueryScalar, ReadQuery, Separated};
 use either::Either;
 use sqlx_text::{AssertSqlSafe, Fault, OutOfMemory, SqlSafeStr, SqlStr};
-use sqlx_traits::{ArgumentList, Arguments, Database, Encode, IntoArguments, SqlType, add};
+use sqlx_traits::{ArgumentList, Arguments, Database, Encode, IntoArguments, SqlType};
 use std::alloc::Global;
 use std::fmt::Display;
 use std::marker::Model;
@@ -72,8 +72,21 @@ impl<DB: Database> QueryBuilder<DB> {
         }
     }
 
-    /// Appends a text. Want of memory leaves the builder as it was.
-    pub fn push(&mut self, _alloc: Global, sql: &str) -> Result<(), OutOfMemory>
+    /// Appends a text, and gives the builder back. [`QueryBuilder::try_push`] says what want of memory leaves.
+    pub fn push(&mut self, alloc: Global, sql: &str) -> Result<&mut Self, OutOfMemory>
+        requires { self.old.built ≡ Bool.false }
+        ensures same { IfOk result (λ b. b.ghost_name ≡ self.entry.ghost_name) }
+        ensures ok { IfOk result (λ b. Gains DB.ArgumentBuffer.count DB.ArgumentBuffer.first self.old (Piece.Text sql.now ∷ []) b.now) }
+        ensures unbuilt { IfOk result (λ b. b.now.built ≡ Bool.false) }
+    {
+        match self.try_push(alloc, sql) {
+            Ok(()) => Ok(self),
+            Err(want) => Err(want),
+        }
+    }
+
+    /// Appends a text, as [`QueryBuilder::push`] does. Want of memory leaves the builder as it was.
+    pub fn try_push(&mut self, _alloc: Global, sql: &str) -> Result<(), OutOfMemory>
         requires { self.old.built ≡ Bool.false }
         ensures ok { OnOk result (Gains DB.ArgumentBuffer.count DB.ArgumentBuffer.first self.old (Piece.Text sql.now ∷ []) self.new) }
         ensures err { OnErr result (self.new ≡ self.old) }
@@ -81,27 +94,78 @@ impl<DB: Database> QueryBuilder<DB> {
         self.append(sql)
     }
 
+    /// Appends what `{}` writes of a value, and gives the builder back. [`QueryBuilder::try_push_display`] says what
+    /// want of memory leaves.
+    pub fn push_display<T: Display>(
+        &mut self,
+        alloc: Global,
+        value: &T,
+    ) -> Result<&mut Self, OutOfMemory>
+        requires { self.old.built ≡ Bool.false }
+        ensures same { IfOk result (λ b. b.ghost_name ≡ self.entry.ghost_name) }
+        ensures ok { IfOk result (λ b. (text : _) × IfSome (T.output value.now) (λ written. written ≡ text)
+            × Gains DB.ArgumentBuffer.count DB.ArgumentBuffer.first self.old (Piece.Text text ∷ []) b.now) }
+        ensures unbuilt { IfOk result (λ b. b.now.built ≡ Bool.false) }
+    {
+        match self.try_push_display(alloc, value) {
+            Ok(()) => Ok(self),
+            Err(want) => Err(want),
+        }
+    }
+
     /// Appends what `{}` writes of a value. Want of memory leaves the builder as it was.
-    pub fn push_display<T: Display>(&mut self, alloc: Global, value: &T) -> Result<(), OutOfMemory>
+    pub fn try_push_display<T: Display>(
+        &mut self,
+        alloc: Global,
+        value: &T,
+    ) -> Result<(), OutOfMemory>
         requires { self.old.built ≡ Bool.false }
         ensures ok { OnOk result ((text : _) × IfSome (T.output value.now) (λ written. written ≡ text)
             × Gains DB.ArgumentBuffer.count DB.ArgumentBuffer.first self.old (Piece.Text text ∷ []) self.new) }
         ensures err { OnErr result (self.new ≡ self.old) }
     {
-        let text = value.to_string(alloc)?;
-        self.append(text.as_str())
+        match value.to_string(alloc) {
+            Ok(text) => {
+                let appended = self.append(text.as_str());
+                drop(text);
+                appended
+            }
+            Err(failed) => {
+                drop(failed);
+                Err(OutOfMemory)
+            }
+        }
+    }
+
+    /// Binds a value, appends its placeholder, and gives the builder back. [`QueryBuilder::try_push_bind`] says what a
+    /// refusal leaves.
+    pub fn push_bind<'t, T: Encode<'t, DB> + SqlType<DB>>(
+        &mut self,
+        alloc: Global,
+        value: T,
+    ) -> Result<&mut Self, Fault>
+        requires { self.old.built ≡ Bool.false }
+        ensures same { IfOk result (λ b. b.ghost_name ≡ self.entry.ghost_name) }
+        ensures ok { IfOk result (λ b. GainsBound DB.Arguments.placeholder DB.ArgumentBuffer.count DB.ArgumentBuffer.first
+            alone (T.encoded value) self.old b.now) }
+        ensures unbuilt { IfOk result (λ b. b.now.built ≡ Bool.false) }
+        ensures refused { IfErr result (OrWantOfMemory (T.refuses value)) }
+    {
+        match self.try_push_bind(alloc, value) {
+            Ok(()) => Ok(self),
+            Err(fault) => Err(fault),
+        }
     }
 
     /// Binds a value, and appends its placeholder. A refusal leaves the builder as it was.
-    pub fn push_bind<'t, T: Encode<'t, DB> + SqlType<DB>>(
+    pub fn try_push_bind<'t, T: Encode<'t, DB> + SqlType<DB>>(
         &mut self,
         alloc: Global,
         value: T,
     ) -> Result<(), Fault>
         requires { self.old.built ≡ Bool.false }
-        ensures ok { OnOk result ((placeholder : _)
-            × IsPlaceholder DB.Arguments.buffered DB.Arguments.placeholder self.new.arguments placeholder
-            × Gains DB.ArgumentBuffer.count DB.ArgumentBuffer.first self.old (Piece.Bound placeholder (T.encoded value) ∷ []) self.new) }
+        ensures ok { OnOk result (GainsBound DB.Arguments.placeholder DB.ArgumentBuffer.count DB.ArgumentBuffer.first
+            alone (T.encoded value) self.old self.new) }
         ensures err { OnErr result (self.new ≡ self.old) }
         ensures refused { IfErr result (OrWantOfMemory (T.refuses value)) }
     {
@@ -133,10 +197,14 @@ impl<DB: Database> QueryBuilder<DB> {
         ensures ok { OnOk result (self.new ≡ record self.old { arguments = self.new.arguments; built = Bool.true }) }
         ensures err { OnErr result (self.new ≡ self.old) }
     {
-        let sql = self.sql(alloc)?;
-        let arguments = mem::replace(&mut self.arguments, DB::Arguments::new(alloc));
-        self.built = true;
-        Ok(Query::new(Either::Left(sql), Ok(arguments)))
+        match self.sql(alloc) {
+            Ok(sql) => {
+                let arguments = mem::replace(&mut self.arguments, DB::Arguments::new(alloc));
+                self.built = true;
+                Ok(Query::new(Either::Left(sql), Ok(arguments)))
+            }
+            Err(want) => Err(want),
+        }
     }
 
     /// A query of what was built, whose rows become values, as [`QueryBuilder::build`] gives it.
@@ -152,7 +220,10 @@ impl<DB: Database> QueryBuilder<DB> {
         ensures ok { OnOk result (self.new ≡ record self.old { arguments = self.new.arguments; built = Bool.true }) }
         ensures err { OnErr result (self.new ≡ self.old) }
     {
-        Ok(QueryAs::new(self.build(alloc)?))
+        match self.build(alloc) {
+            Ok(query) => Ok(ReadQuery::new(query)),
+            Err(want) => Err(want),
+        }
     }
 
     /// A query of what was built, of one value a row, as [`QueryBuilder::build`] gives it.
@@ -168,7 +239,10 @@ impl<DB: Database> QueryBuilder<DB> {
         ensures ok { OnOk result (self.new ≡ record self.old { arguments = self.new.arguments; built = Bool.true }) }
         ensures err { OnErr result (self.new ≡ self.old) }
     {
-        Ok(QueryScalar::new(self.build(alloc)?))
+        match self.build(alloc) {
+            Ok(query) => Ok(ReadQuery::new(query)),
+            Err(want) => Err(want),
+        }
     }
 
     /// Cuts the statement back to what it began with, with no arguments; queries can be made of it again.
@@ -231,30 +305,38 @@ impl<DB: Database> QueryBuilder<DB> {
         alloc: Global,
         value: T,
     ) -> Result<(), Fault>
-        ensures ok { OnOk result ((placeholder : _)
-            × IsPlaceholder DB.Arguments.buffered DB.Arguments.placeholder self.new.arguments placeholder
-            × (self.new ≡ with_piece self.old (Piece.Bound placeholder (T.encoded value)))) }
+        ensures ok { OnOk result (self.new ≡ with_piece self.old
+            (Piece.Bound (DB.Arguments.placeholder (DB.ArgumentBuffer.count self.new.arguments)) (T.encoded value))) }
         ensures one { OnOk result (AddsOne DB.ArgumentBuffer.count DB.ArgumentBuffer.first self.old.arguments self.new.arguments) }
         ensures err { OnErr result (self.new ≡ self.old) }
         ensures refused { IfErr result (OrWantOfMemory (T.refuses value)) }
     {
         let before = self.arguments.len();
-        add::<DB, T>(alloc, &mut self.arguments, value)?;
+        match self.arguments.add(alloc, value) {
+            Ok(()) => match self.append_placeholder(alloc) {
+                Ok(()) => Ok(()),
+                Err(_want) => {
+                    self.arguments.truncate(before);
+                    Err(Fault::OutOfMemory)
+                }
+            },
+            Err(fault) => Err(fault),
+        }
+    }
+
+    // The placeholder of the last argument that was added.
+    fn append_placeholder(&mut self, alloc: Global) -> Result<(), OutOfMemory>
+        ensures ok { OnOk result (self.new ≡ with_piece self.old
+            (Piece.Text (DB.Arguments.placeholder (DB.ArgumentBuffer.count self.old.arguments)))) }
+        ensures err { OnErr result (self.new ≡ self.old) }
+    {
         let mut placeholder = String::new(alloc);
-        match self.arguments.format_placeholder(alloc, &mut placeholder) {
-            Ok(()) => {}
-            Err(_want) => {
-                self.arguments.truncate(before);
-                return Err(Fault::OutOfMemory);
-            }
-        }
-        match self.text.push_str(placeholder.as_str()) {
-            Ok(()) => Ok(()),
-            Err(_want) => {
-                self.arguments.truncate(before);
-                Err(Fault::OutOfMemory)
-            }
-        }
+        let appended = match self.arguments.format_placeholder(alloc, &mut placeholder) {
+            Ok(()) => self.text.push_str(placeholder.as_str()),
+            Err(want) => Err(want),
+        };
+        drop(placeholder);
+        appended
     }
 
     pub(crate) fn mark(&self) -> Mark

@@ -2,7 +2,7 @@
 ghost use Rattle.std.specs.Prelude.{◌≡◌, ◌∷◌, [], Bool, IfErr, OnErr, OnOk};
 ghost use Rattle.sqlx_text.specs.declared.fault.Fault.{Fault};
 ghost use Rattle.sqlx_query.specs.Binding.{OrWantOfMemory};
-ghost use Rattle.sqlx_query.specs.Builder.{Gains, IsPlaceholder, Piece, entry, with_piece};
+ghost use Rattle.sqlx_query.specs.Builder.{Gains, GainsBound, Piece, alone, entry, with_piece};
 
 use crate::QueryBuilder;
 use sqlx_text::{Fault, OutOfMemory};
@@ -21,21 +21,24 @@ impl<'qb, DB: Database> Separated<'qb, DB> {
     /// Appends a text as the next entry. Want of memory leaves the builder as it was.
     pub fn push(&mut self, _alloc: Global, sql: &str) -> Result<(), OutOfMemory>
         ensures same { (self.new.builder.ghost_name ≡ self.old.builder.ghost_name) × (self.new.separator ≡ self.old.separator) }
-        ensures ok { OnOk result ((self.new.has_piece ≡ Bool.true)
-            × Gains DB.ArgumentBuffer.count DB.ArgumentBuffer.first self.old.builder.now (entry self.old.has_piece self.old.separator.now (Piece.Text sql.now)) self.new.builder.now) }
+        ensures begun { OnOk result (self.new.has_piece ≡ Bool.true) }
+        ensures ok { OnOk result (Gains DB.ArgumentBuffer.count DB.ArgumentBuffer.first self.old.builder.now
+            (entry self.old.has_piece self.old.separator.now (Piece.Text sql.now)) self.new.builder.now) }
         ensures err { OnErr result ((self.new.has_piece ≡ self.old.has_piece) × (self.new.builder.now ≡ self.old.builder.now)) }
     {
         let mark = self.builder.mark();
-        self.begin_entry()?;
-        match self.builder.append(sql) {
-            Ok(()) => {
-                self.has_piece = true;
-                Ok(())
-            }
-            Err(want) => {
-                self.builder.cut_back(mark);
-                Err(want)
-            }
+        match self.begin_entry() {
+            Ok(()) => match self.builder.append(sql) {
+                Ok(()) => {
+                    self.has_piece = true;
+                    Ok(())
+                }
+                Err(want) => {
+                    self.builder.cut_back(mark);
+                    Err(want)
+                }
+            },
+            Err(want) => Err(want),
         }
     }
 
@@ -56,23 +59,27 @@ impl<'qb, DB: Database> Separated<'qb, DB> {
         value: T,
     ) -> Result<(), Fault>
         ensures same { (self.new.builder.ghost_name ≡ self.old.builder.ghost_name) × (self.new.separator ≡ self.old.separator) }
-        ensures ok { OnOk result ((self.new.has_piece ≡ Bool.true)
-            × ((placeholder : _)
-            × IsPlaceholder DB.Arguments.buffered DB.Arguments.placeholder self.new.builder.now.arguments placeholder
-            × Gains DB.ArgumentBuffer.count DB.ArgumentBuffer.first self.old.builder.now (entry self.old.has_piece self.old.separator.now (Piece.Bound placeholder (T.encoded value))) self.new.builder.now)) }
+        ensures begun { OnOk result (self.new.has_piece ≡ Bool.true) }
+        ensures ok { OnOk result (GainsBound DB.Arguments.placeholder DB.ArgumentBuffer.count DB.ArgumentBuffer.first
+            (entry self.old.has_piece self.old.separator.now) (T.encoded value) self.old.builder.now self.new.builder.now) }
         ensures err { OnErr result ((self.new.has_piece ≡ self.old.has_piece) × (self.new.builder.now ≡ self.old.builder.now)) }
         ensures refused { IfErr result (OrWantOfMemory (T.refuses value)) }
     {
         let mark = self.builder.mark();
-        self.begin_entry()?;
-        match self.builder.bind(alloc, value) {
-            Ok(()) => {
-                self.has_piece = true;
-                Ok(())
-            }
-            Err(fault) => {
-                self.builder.cut_back(mark);
-                Err(fault)
+        match self.begin_entry() {
+            Ok(()) => match self.builder.bind(alloc, value) {
+                Ok(()) => {
+                    self.has_piece = true;
+                    Ok(())
+                }
+                Err(fault) => {
+                    self.builder.cut_back(mark);
+                    Err(fault)
+                }
+            },
+            Err(_want) => {
+                drop(value);
+                Err(Fault::OutOfMemory)
             }
         }
     }
@@ -85,9 +92,8 @@ impl<'qb, DB: Database> Separated<'qb, DB> {
     ) -> Result<(), Fault>
         ensures same { (self.new.builder.ghost_name ≡ self.old.builder.ghost_name) × (self.new.separator ≡ self.old.separator) }
         ensures list { self.new.has_piece ≡ self.old.has_piece }
-        ensures ok { OnOk result ((placeholder : _)
-            × IsPlaceholder DB.Arguments.buffered DB.Arguments.placeholder self.new.builder.now.arguments placeholder
-            × Gains DB.ArgumentBuffer.count DB.ArgumentBuffer.first self.old.builder.now (Piece.Bound placeholder (T.encoded value) ∷ []) self.new.builder.now) }
+        ensures ok { OnOk result (GainsBound DB.Arguments.placeholder DB.ArgumentBuffer.count DB.ArgumentBuffer.first
+            alone (T.encoded value) self.old.builder.now self.new.builder.now) }
         ensures err { OnErr result (self.new.builder.now ≡ self.old.builder.now) }
         ensures refused { IfErr result (OrWantOfMemory (T.refuses value)) }
     {

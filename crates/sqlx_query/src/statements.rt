@@ -2,8 +2,7 @@
 ghost use Rattle.std.specs.Prelude.{◌≡◌, Ok, Some};
 ghost use Rattle.sqlx_query.specs.Query.{BeginsEmpty, begun};
 
-use crate::{Query, QueryAs, QueryScalar};
-use sqlx_any::{Any, AnyConnectionBackend, AnyStatement};
+use crate::{Query, QueryAs, QueryScalar, ReadQuery};
 use sqlx_traits::{ArgumentList, Arguments, Database, Either, IntoArguments, Statement};
 use std::alloc::Global;
 
@@ -34,7 +33,7 @@ pub fn query_statement_as<'q, DB: Database, O>(
 ) -> QueryAs<'q, DB, O, DB::Arguments>
     ensures { BeginsEmpty (λ args. DB.ArgumentBuffer.count (DB.Arguments.buffered args)) (DB.Statement.text statement.entry.now) (Some statement.entry.now) result.query }
 {
-    QueryAs::new(query_statement::<DB>(alloc, statement))
+    ReadQuery::new(query_statement::<DB>(alloc, statement))
 }
 
 /// A query of a prepared statement for values that are made of its rows, with these arguments.
@@ -44,7 +43,7 @@ pub fn query_statement_as_with<'q, DB: Database, O, A: IntoArguments<DB> + Drop>
 ) -> QueryAs<'q, DB, O, A>
     ensures { result.query ≡ begun (DB.Statement.text statement.entry.now) (Some statement.entry.now) (Ok arguments) }
 {
-    QueryAs::new(query_statement_with::<DB, A>(statement, arguments))
+    ReadQuery::new(query_statement_with::<DB, A>(statement, arguments))
 }
 
 /// A query of a prepared statement for the first column of its rows, to which arguments are still to be bound.
@@ -54,7 +53,7 @@ pub fn query_statement_scalar<'q, DB: Database, O>(
 ) -> QueryScalar<'q, DB, O, DB::Arguments>
     ensures { BeginsEmpty (λ args. DB.ArgumentBuffer.count (DB.Arguments.buffered args)) (DB.Statement.text statement.entry.now) (Some statement.entry.now) result.query }
 {
-    QueryScalar::new(query_statement::<DB>(alloc, statement))
+    ReadQuery::new(query_statement::<DB>(alloc, statement))
 }
 
 /// A query of a prepared statement for the first column of its rows, with these arguments.
@@ -64,10 +63,11 @@ pub fn query_statement_scalar_with<'q, DB: Database, O, A: IntoArguments<DB> + D
 ) -> QueryScalar<'q, DB, O, A>
     ensures { result.query ≡ begun (DB.Statement.text statement.entry.now) (Some statement.entry.now) (Ok arguments) }
 {
-    QueryScalar::new(query_statement_with::<DB, A>(statement, arguments))
+    ReadQuery::new(query_statement_with::<DB, A>(statement, arguments))
 }
 
-/// The queries of a statement, as calls. A driver implements it for its statement.
+/// The queries of a statement, as calls. The statement of each database has them, and a call names the database:
+/// `StatementQuery::<DB>::query(&statement, alloc)`.
 pub trait StatementQuery<DB: Database>: Sized {
     /// The statement itself, as one of the database.
     ghost itself: { Self → DB.Statement };
@@ -125,10 +125,10 @@ pub trait StatementQuery<DB: Database>: Sized {
     }
 }
 
-impl<B: AnyConnectionBackend> StatementQuery<Any<B>> for AnyStatement {
+impl<DB: Database> StatementQuery<DB> for DB::Statement {
     ghost itself = { λ statement. statement };
 
-    fn as_statement(&self) -> &AnyStatement {
+    fn as_statement(&self) -> &DB::Statement {
         self
     }
 }

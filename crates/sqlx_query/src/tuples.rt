@@ -1,5 +1,5 @@
 //! Lists of tuples in parentheses, for `VALUES` and `IN`, written by a `PushTuple`.
-ghost use Rattle.std.specs.Prelude.{◌≡◌, ◌∷◌, ◌++◌, [], Bool, IfErr, List, OnErr, OnOk, codes};
+ghost use Rattle.std.specs.Prelude.{◌≡◌, ◌∷◌, ◌++◌, [], Bool, IfErr, IfOk, List, OnErr, OnOk, codes};
 ghost use Rattle.std.specs.Iterator.{Drains, IsFinite};
 ghost use Rattle.sqlx_query.specs.Binding.{OrWantOfMemory};
 ghost use Rattle.sqlx_query.specs.Builder.{Extends, Gains, GainsTuples, Piece, RefusesTuple, entry, tuple, with_pieces};
@@ -10,10 +10,35 @@ use sqlx_traits::{ArgumentList, Arguments, Database};
 use std::alloc::Global;
 
 impl<DB: Database> QueryBuilder<DB> {
-    /// Appends `VALUES ` and the tuples in parentheses, with `, ` between them. A refusal leaves the builder as it was.
+    /// Appends `VALUES ` and the tuples in parentheses, with `, ` between them, and gives the builder back.
+    /// [`QueryBuilder::try_push_values`] says what a refusal leaves.
     ///
     /// Over no tuples it appends `VALUES ` alone.
     pub fn push_values<T: Drop, I: Iterator<Item = T> + Drop, F: PushTuple<DB, T> + Drop>(
+        &mut self,
+        alloc: Global,
+        tuples: I,
+        push_tuple: F,
+    ) -> Result<&mut Self, Fault>
+        requires unbuilt { self.old.built ≡ Bool.false }
+        requires can { I.can_next tuples }
+        requires ends { IsFinite (I.remaining tuples) }
+        ensures same { IfOk result (λ b. b.ghost_name ≡ self.entry.ghost_name) }
+        ensures ok { IfOk result (λ b. GainsTuples DB.ArgumentBuffer.count DB.ArgumentBuffer.first (Drains I.next_gives tuples) F.writes push_tuple
+            (λ list. Piece.Text (codes "VALUES ") ∷ list) self.old b.now) }
+        ensures unbuilt { IfOk result (λ b. b.now.built ≡ Bool.false) }
+        ensures refused { IfErr result (OrWantOfMemory (RefusesTuple F.refuses)) }
+    {
+        match self.try_push_values(alloc, tuples, push_tuple) {
+            Ok(()) => Ok(self),
+            Err(fault) => Err(fault),
+        }
+    }
+
+    /// Appends `VALUES ` and the tuples in parentheses, with `, ` between them. A refusal leaves the builder as it was.
+    ///
+    /// Over no tuples it appends `VALUES ` alone.
+    pub fn try_push_values<T: Drop, I: Iterator<Item = T> + Drop, F: PushTuple<DB, T> + Drop>(
         &mut self,
         alloc: Global,
         tuples: I,
@@ -37,8 +62,31 @@ impl<DB: Database> QueryBuilder<DB> {
         }
     }
 
-    /// Appends the tuples in parentheses, with `, ` between them, and ` (` and `) ` around all. A refusal leaves the builder as it was.
+    /// Appends the tuples in parentheses, with `, ` between them, and ` (` and `) ` around all, and gives the builder back.
+    /// [`QueryBuilder::try_push_tuples`] says what a refusal leaves.
     pub fn push_tuples<T: Drop, I: Iterator<Item = T> + Drop, F: PushTuple<DB, T> + Drop>(
+        &mut self,
+        alloc: Global,
+        tuples: I,
+        push_tuple: F,
+    ) -> Result<&mut Self, Fault>
+        requires unbuilt { self.old.built ≡ Bool.false }
+        requires can { I.can_next tuples }
+        requires ends { IsFinite (I.remaining tuples) }
+        ensures same { IfOk result (λ b. b.ghost_name ≡ self.entry.ghost_name) }
+        ensures ok { IfOk result (λ b. GainsTuples DB.ArgumentBuffer.count DB.ArgumentBuffer.first (Drains I.next_gives tuples) F.writes push_tuple
+            (λ list. Piece.Text (codes " (") ∷ (list ++ Piece.Text (codes ") ") ∷ [])) self.old b.now) }
+        ensures unbuilt { IfOk result (λ b. b.now.built ≡ Bool.false) }
+        ensures refused { IfErr result (OrWantOfMemory (RefusesTuple F.refuses)) }
+    {
+        match self.try_push_tuples(alloc, tuples, push_tuple) {
+            Ok(()) => Ok(self),
+            Err(fault) => Err(fault),
+        }
+    }
+
+    /// Appends the tuples in parentheses, with `, ` between them, and ` (` and `) ` around all. A refusal leaves the builder as it was.
+    pub fn try_push_tuples<T: Drop, I: Iterator<Item = T> + Drop, F: PushTuple<DB, T> + Drop>(
         &mut self,
         alloc: Global,
         tuples: I,

@@ -49,8 +49,5 @@ pub fn rollback_ansi_transaction_sql(alloc: Global, depth: usize) -> Result<SqlS
 fn statement(alloc: Global, level: LevelText) -> Result<SqlStr, OutOfMemory>
     ensures { IfOk result (λ text. text ≡ text_of level) }
 {
-    match level.to_string(alloc) {
-        Ok(text) => AssertSqlSafe(text).into_sql_str(alloc),
-        Err(_) => Err(OutOfMemory),
-    }
+    AssertSqlSafe(level.to_string(alloc)?).into_sql_str(alloc)
 }

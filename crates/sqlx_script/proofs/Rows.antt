@@ -16,3 +16,8 @@ pub reads : {A R : Type 0} (p : List ℕ → Option A) (f : A → List (List ℕ
 unfolding word
 reads p f [] = refl
 reads p f (w ∷ ws) = again (p w) f ws
+
+-- what was made of a value was made of one that is there
+pub bound : {A B : Type 0} (o : Option A) (f : A → Option B) (y : B) → (o >>= f) ≡ Some y → (x : A) × (o ≡ Some x) × (f x ≡ Some y)
+bound (Some x) f y h = (x, refl, h)
+bound None f y h = cc

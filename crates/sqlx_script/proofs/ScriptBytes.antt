@@ -8,11 +8,12 @@ use Rattle.std.proofs.lemmas.Bool.{cases_Bool, cond-true, cond-false, and_parts,
 use Rattle.std.proofs.lemmas.Bool.Decides.{nat_tests}
 use Rattle.std.proofs.lemmas.Slice.Eq.{bytes_eq-Decides}
 use Rattle.sqlx_script.specs.Words.{is_blank, words_of, ends_well, lines_of, longer}
-use Rattle.sqlx_script.specs.Numbers.{◌>>=◌, is_number, has_leading_zero, number_in, value, plain_value, minus_value, limit_nanos, millis, nanos, exactly}
+use Rattle.sqlx_script.specs.Numbers.{◌>>=◌, is_number, has_leading_zero, number_in, value, plain_value, minus_value, limit_nanos, millis, nanos, name_number, opens, key, exactly}
 use Rattle.sqlx_script.specs.Letters.{plus_or_minus, hook_letter, after_connect_letter, connect_letter, statement_letter, sign, statement, poll_answers, give_answers, switches}
 use Rattle.sqlx_script.specs.Rows.{row, ended, words0, words1, words2, words3, words4, words5}
+use Rattle.sqlx_script.proofs.Rows.{bound}
 use Rattle.sqlx_script.specs.Laws.{is_plain, is_script_byte}
-use Rattle.sqlx_script.specs.Grammar.{step_of, event_words, pool_words, event_of, pool_of, whole, Reading, reading_at, reading_from, Script, script_after, script_lines, IsScript}
+use Rattle.sqlx_script.specs.Grammar.{statement_of, step_of, limits_after, event_words, pool_words, event_of, pool_of, whole, Reading, reading_at, reading_from, Script, script_after, script_lines, IsScript}
 use Rattle.sqlx_script.specs.declared.answers.HookAnswer.{HookAnswer}
 use Rattle.sqlx_script.specs.declared.answers.AfterConnectAnswer.{AfterConnectAnswer}
 use Rattle.sqlx_script.specs.declared.answers.ConnectAnswer.{ConnectAnswer}
@@ -53,13 +54,6 @@ text_plain (b ∷ text) h = elim (cases_Bool (is_blank b)) [
       and_from (is_plain b) (plain text) parts.0 (text_plain text parts.1)
 ]
 
--- ---- steps
-
--- what was made of a value was made of one that is there
-bound : {A B : Type 0} (o : Option A) (f : A → Option B) (y : B) → (o >>= f) ≡ Some y → (x : A) × (o ≡ Some x) × (f x ≡ Some y)
-bound (Some x) f y h = (x, refl, h)
-bound None f y h = cc
-
 -- ---- the kinds of words
 
 -- a word of this kind is plain
@@ -86,6 +80,15 @@ number_plain low high w x h =
     let first = (and_parts (is_number w && nat_le low (digits_value 10 w)) (nat_lt (digits_value 10 w) high) all).0 in
     let number = (and_parts (is_number w) (nat_le low (digits_value 10 w)) first).0 in
     digits_plain w (and_parts (not (length w == 0) && not (has_leading_zero w)) (all_ascii_digits w) number).1
+
+name_plain : IsPlainKind name_number
+name_plain = number_plain 0 (2 ^ 32)
+
+opens_plain : IsPlainKind opens
+opens_plain = number_plain 0 65536
+
+key_plain : IsPlainKind key
+key_plain = number_plain 0 1000
 
 value_plain : IsPlainKind value
 unfolding value
@@ -253,30 +256,35 @@ pick name text fields f others step h t tame rest = elim (cases_Bool (bytes_eq n
   | inr no' ↦ rest (sym (cond-false (bytes_eq name text) (f fields) others no') ∙ h)
 ]
 
+statement_step_plain : (name : List ℕ) (fields : List (List ℕ)) (step : Step) → statement_of name fields ≡ Some step → (plain name ≡ true) × (all_plain fields ≡ true)
+unfolding statement_of
+statement_step_plain name fields step h =
+    pick name (codes "begin") fields _ _ step h refl (tame3 name_plain name_plain statement_plain Begin) (λ h1.
+    pick name (codes "custom") fields _ _ step h1 refl (tame4 name_plain name_plain sign_plain statement_plain Custom) (λ h2.
+    pick name (codes "put") fields _ _ step h2 refl (tame5 name_plain name_plain key_plain value_plain statement_plain Put) (λ h3.
+    pick name (codes "del") fields _ _ step h3 refl (tame4 name_plain name_plain key_plain statement_plain Del) (λ h4.
+    pick name (codes "get") fields _ _ step h4 refl (tame4 name_plain name_plain key_plain statement_plain Get) (λ h5.
+    pick name (codes "commit") fields _ _ step h5 refl (tame3 name_plain name_plain statement_plain Commit) (λ h6.
+    pick name (codes "rollback") fields _ _ step h6 refl (tame3 name_plain name_plain statement_plain Rollback) (λ h7.
+    pick name (codes "giveup") fields _ _ step h7 refl (tame2 name_plain name_plain GiveUp) (λ h8.
+    cc))))))))
+
 step_plain : (name : List ℕ) (fields : List (List ℕ)) (step : Step) → step_of name fields ≡ Some step → (plain name ≡ true) × (all_plain fields ≡ true)
 unfolding step_of
 step_plain name fields step h =
-    pick name (codes "ask") fields _ _ step h refl (tame1 (number_plain 0 (2 ^ 32)) Ask) (λ h1.
-    pick name (codes "poll") fields _ _ step h1 refl (tame3 (number_plain 0 (2 ^ 32)) (number_plain 0 (2 ^ 32)) poll_answers_plain Poll) (λ h2.
-    pick name (codes "cancel") fields _ _ step h2 refl (tame2 (number_plain 0 (2 ^ 32)) (number_plain 0 (2 ^ 32)) Cancel) (λ h3.
-    pick name (codes "try") fields _ _ step h3 refl (tame1 (number_plain 0 (2 ^ 32)) Try) (λ h4.
-    pick name (codes "give") fields _ _ step h4 refl (tame4 (number_plain 0 (2 ^ 32)) (number_plain 0 (2 ^ 32)) give_answers_plain (number_plain 0 65536) Give) (λ h5.
-    pick name (codes "end") fields _ _ step h5 refl (tame3 (number_plain 0 (2 ^ 32)) (number_plain 0 (2 ^ 32)) (number_plain 0 65536) End) (λ h6.
-    pick name (codes "detach") fields _ _ step h6 refl (tame3 (number_plain 0 (2 ^ 32)) (number_plain 0 (2 ^ 32)) (number_plain 0 65536) Detach) (λ h7.
-    pick name (codes "leak") fields _ _ step h7 refl (tame3 (number_plain 0 (2 ^ 32)) (number_plain 0 (2 ^ 32)) (number_plain 0 65536) Leak) (λ h8.
-    pick name (codes "reap") fields _ _ step h8 refl (tame1 (number_plain 0 65536) Reap) (λ h9.
-    pick name (codes "min") fields _ _ step h9 refl (tame1 (number_plain 0 65536) Min) (λ h10.
+    pick name (codes "ask") fields _ _ step h refl (tame1 name_plain Ask) (λ h1.
+    pick name (codes "poll") fields _ _ step h1 refl (tame3 name_plain name_plain poll_answers_plain Poll) (λ h2.
+    pick name (codes "cancel") fields _ _ step h2 refl (tame2 name_plain name_plain Cancel) (λ h3.
+    pick name (codes "try") fields _ _ step h3 refl (tame1 name_plain Try) (λ h4.
+    pick name (codes "give") fields _ _ step h4 refl (tame4 name_plain name_plain give_answers_plain opens_plain Give) (λ h5.
+    pick name (codes "end") fields _ _ step h5 refl (tame3 name_plain name_plain opens_plain End) (λ h6.
+    pick name (codes "detach") fields _ _ step h6 refl (tame3 name_plain name_plain opens_plain Detach) (λ h7.
+    pick name (codes "leak") fields _ _ step h7 refl (tame3 name_plain name_plain opens_plain Leak) (λ h8.
+    pick name (codes "reap") fields _ _ step h8 refl (tame1 opens_plain Reap) (λ h9.
+    pick name (codes "min") fields _ _ step h9 refl (tame1 opens_plain Min) (λ h10.
     pick name (codes "closed") fields _ _ step h10 refl (tame0 CloseState) (λ h11.
-    pick name (codes "begin") fields _ _ step h11 refl (tame3 (number_plain 0 (2 ^ 32)) (number_plain 0 (2 ^ 32)) statement_plain Begin) (λ h12.
-    pick name (codes "custom") fields _ _ step h12 refl (tame4 (number_plain 0 (2 ^ 32)) (number_plain 0 (2 ^ 32)) sign_plain statement_plain Custom) (λ h13.
-    pick name (codes "put") fields _ _ step h13 refl (tame5 (number_plain 0 (2 ^ 32)) (number_plain 0 (2 ^ 32)) (number_plain 0 1000) value_plain statement_plain Put) (λ h14.
-    pick name (codes "del") fields _ _ step h14 refl (tame4 (number_plain 0 (2 ^ 32)) (number_plain 0 (2 ^ 32)) (number_plain 0 1000) statement_plain Del) (λ h15.
-    pick name (codes "get") fields _ _ step h15 refl (tame4 (number_plain 0 (2 ^ 32)) (number_plain 0 (2 ^ 32)) (number_plain 0 1000) statement_plain Get) (λ h16.
-    pick name (codes "commit") fields _ _ step h16 refl (tame3 (number_plain 0 (2 ^ 32)) (number_plain 0 (2 ^ 32)) statement_plain Commit) (λ h17.
-    pick name (codes "rollback") fields _ _ step h17 refl (tame3 (number_plain 0 (2 ^ 32)) (number_plain 0 (2 ^ 32)) statement_plain Rollback) (λ h18.
-    pick name (codes "giveup") fields _ _ step h18 refl (tame2 (number_plain 0 (2 ^ 32)) (number_plain 0 (2 ^ 32)) GiveUp) (λ h19.
-    pick name (codes "close") fields _ _ step h19 refl (tame0 Close) (λ h20.
-    cc))))))))))))))))))))
+    pick name (codes "close") fields _ _ step h11 refl (tame0 Close) (λ h12.
+    statement_step_plain name fields step h12))))))))))))
 
 event_plain : Tame event_words
 unfolding event_words
@@ -288,17 +296,22 @@ event_plain (name ∷ w ∷ fields) r h =
     let both = step_plain name fields step.0 step.1 in
     and_from (plain name) (all_plain (w ∷ fields)) both.0 (and_from (plain w) (all_plain fields) (number_plain 0 (2 ^ 40) w now.0 now.1) both.1)
 
+limits_plain : (max min timeout : ℕ) → Tame (limits_after max min timeout)
+unfolding limits_after
+limits_plain max min timeout =
+    row_tame _ _ limit_nanos_plain (λ lifetime.
+    row_tame _ _ limit_nanos_plain (λ idle.
+    row_tame _ _ switches_plain (λ on.
+    ended_tame _)))
+
 pool_plain : Tame pool_words
 unfolding pool_words
 pool_plain =
     row_tame _ _ (exactly_plain (codes "pool") refl) (λ _.
     row_tame _ _ (number_plain 1 65536) (λ max.
-    row_tame _ _ (number_plain 0 65536) (λ min.
+    row_tame _ _ opens_plain (λ min.
     row_tame _ _ (number_plain 0 (2 ^ 40)) (λ timeout.
-    row_tame _ _ limit_nanos_plain (λ lifetime.
-    row_tame _ _ limit_nanos_plain (λ idle.
-    row_tame _ _ switches_plain (λ on.
-    ended_tame _)))))))
+    limits_plain max min (nanos timeout)))))
 
 -- the bytes of a line may stand in a script
 abbrev ok : List ℕ → Bool
@@ -330,7 +343,7 @@ whole_ok f line r tame h = elim (cases_Bool (ends_well line)) [
 
 event_ok : (line : List ℕ) (e : Event) → event_of line ≡ Some e → ok line ≡ true
 unfolding event_of
-event_ok line e h = let read = bound (whole event_words line) _ e h in whole_ok event_words line read.0 event_plain read.1
+event_ok line e h = whole_ok event_words line e event_plain h
 
 pool_ok : (line : List ℕ) (p : PoolLine) → pool_of line ≡ Some p → ok line ≡ true
 unfolding pool_of

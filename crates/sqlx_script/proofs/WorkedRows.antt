@@ -4,7 +4,7 @@ use Rattle.sqlx_script.specs.Numbers.{number_in, exactly, limit_nanos, value}
 use Rattle.sqlx_script.specs.Letters.{plus_or_minus, statement_letter, statement, switches}
 use Rattle.sqlx_script.specs.Rows.{words1, words5}
 use Rattle.sqlx_script.specs.Texts.{line_of}
-use Rattle.sqlx_script.specs.Grammar.{step_of, event_words, pool_words, event_of, pool_of, reading_from, script_lines, first_bad, whole}
+use Rattle.sqlx_script.specs.Grammar.{statement_of, step_of, limits_after, event_words, pool_words, event_of, pool_of, reading_from, script_lines, first_bad, whole}
 use Rattle.sqlx_script.specs.declared.answers.StatementAnswer.TheVariants.{Runs}
 use Rattle.sqlx_script.specs.declared.step.Step.TheVariants.{Ask, Put}
 
@@ -44,23 +44,23 @@ unfolding event_of event_words step_of words1 number_in
 moment_too_large = refl
 
 unknown_name : event_of (line_of (codes "asks 5 7")) ≡ None
-unfolding event_of event_words step_of number_in
+unfolding event_of event_words step_of statement_of number_in
 unknown_name = refl
 
 put : whole event_words (line_of (codes "put 5 7 1 999 -9223372036854775808 +")) ≡ Some (record { moment = record { 0 = 5000000 }; step = Put 7 1 999 (negsuc 9223372036854775807) Runs })
-unfolding event_words step_of words5 number_in value statement statement_letter
+unfolding event_words step_of statement_of words5 number_in value statement statement_letter
 put = refl
 
 key_too_large : whole event_words (line_of (codes "put 5 7 1 1000 4 +")) ≡ None
-unfolding event_words step_of words5 number_in value statement statement_letter
+unfolding event_words step_of statement_of words5 number_in value statement statement_letter
 key_too_large = refl
 
 minus_zero : whole event_words (line_of (codes "put 5 7 1 9 -0 +")) ≡ None
-unfolding event_words step_of words5 number_in value statement statement_letter
+unfolding event_words step_of statement_of words5 number_in value statement statement_letter
 minus_zero = refl
 
 value_too_large : whole event_words (line_of (codes "put 5 7 1 9 9223372036854775808 +")) ≡ None
-unfolding event_words step_of words5 number_in value statement statement_letter
+unfolding event_words step_of statement_of words5 number_in value statement statement_letter
 value_too_large = refl
 
 -- ---- first lines
@@ -76,7 +76,7 @@ pool : pool_of (line_of (codes "pool 2 0 5000 - - ----")) ≡ Some (record {
   before_acquire = false;
   after_release = false;
 })
-unfolding pool_of pool_words number_in exactly limit_nanos switches plus_or_minus
+unfolding pool_of pool_words limits_after number_in exactly limit_nanos switches plus_or_minus
 pool = refl
 
 pool_with_limits : whole pool_words (line_of (codes "pool 65535 3 0 60000 - +-+-")) ≡ Some (record {
@@ -90,11 +90,11 @@ pool_with_limits : whole pool_words (line_of (codes "pool 65535 3 0 60000 - +-+-
   before_acquire = true;
   after_release = false;
 })
-unfolding pool_words number_in exactly limit_nanos switches plus_or_minus
+unfolding pool_words limits_after number_in exactly limit_nanos switches plus_or_minus
 pool_with_limits = refl
 
 pool_of_none : whole pool_words (line_of (codes "pool 0 0 5000 - - ----")) ≡ None
-unfolding pool_words number_in exactly limit_nanos switches plus_or_minus
+unfolding pool_words limits_after number_in exactly limit_nanos switches plus_or_minus
 pool_of_none = refl
 
 -- ---- scripts
@@ -108,13 +108,13 @@ unfolding script_lines pool_of pool_words number_in exactly
 first_line_is_bad = refl
 
 pool_line_alone : first_bad (line_of (codes "pool 2 0 5000 - - ----")) ≡ None
-unfolding script_lines reading_from pool_of pool_words number_in exactly limit_nanos switches plus_or_minus
+unfolding script_lines reading_from pool_of pool_words limits_after number_in exactly limit_nanos switches plus_or_minus
 pool_line_alone = refl
 
 moments_rise : first_bad (line_of (codes "pool 2 0 5000 - - ----") ++ line_of (codes "ask 5 7") ++ line_of (codes "ask 5 8")) ≡ None
-unfolding script_lines reading_from pool_of pool_words number_in exactly limit_nanos switches plus_or_minus event_of event_words step_of words1
+unfolding script_lines reading_from pool_of pool_words limits_after number_in exactly limit_nanos switches plus_or_minus event_of event_words step_of words1
 moments_rise = refl
 
 moment_falls : first_bad (line_of (codes "pool 2 0 5000 - - ----") ++ line_of (codes "ask 5 7") ++ line_of (codes "ask 4 8")) ≡ Some 3
-unfolding script_lines reading_from pool_of pool_words number_in exactly limit_nanos switches plus_or_minus event_of event_words step_of words1
+unfolding script_lines reading_from pool_of pool_words limits_after number_in exactly limit_nanos switches plus_or_minus event_of event_words step_of words1
 moment_falls = refl

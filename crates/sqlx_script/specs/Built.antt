@@ -1,4 +1,4 @@
--- Which events are played; the reading refuses the others.
+-- What a hook's answer comes to, and how many connects an event may tell of.
 use Rattle.std.specs.Prelude.{ℕ, nat_le, Bool, true, false}
 use Rattle.sqlx_script.specs.declared.answers.HookAnswer.{HookAnswer}
 use Rattle.sqlx_script.specs.declared.answers.HookAnswer.TheVariants.{Accepts, Refuses, Fails, LeavesOpen}
@@ -24,7 +24,7 @@ sets_up SetUpLeavesOpen = false
 abbrev pub is_few : ℕ → Bool
 is_few opens = nat_le opens 65536
 
--- whether an event is played
+-- whether an event tells of so many connects at most; one that tells of none does
 abbrev pub is_built : Step → Bool
 is_built (Ask client) = true
 is_built (Poll client ticket answers) = true

@@ -5,13 +5,25 @@ use Rattle.sqlx_script.specs.Words.{lines_of, ends_well, words_of}
 use Rattle.sqlx_script.specs.Numbers.{◌>>=◌, number_in, millis, nanos, name_number, key, opens, value, limit_nanos, any, exactly}
 use Rattle.sqlx_script.specs.Letters.{sign, statement, poll_answers, give_answers, switches}
 use Rattle.sqlx_script.specs.Rows.{row, ended, words0, words1, words2, words3, words4, words5}
-use Rattle.sqlx_script.specs.Built.{is_built}
 use Rattle.sqlx_script.specs.declared.pool_line.PoolLine.{PoolLine}
 use Rattle.sqlx_script.specs.declared.step.Event.{Event}
 use Rattle.sqlx_script.specs.declared.step.Step.{Step}
 use Rattle.sqlx_script.specs.declared.step.Step.TheVariants.{Ask, Poll, Cancel, Try, Give, End, Detach, Leak, Reap, Min, CloseState, Begin, Custom, Put, Del, Get, Commit, Rollback, GiveUp, Close}
 
 -- ---- lines
+
+-- what follows the moment, for the name of a statement
+unfoldable pub statement_of : List ℕ → List (List ℕ) → Option Step
+statement_of name fields =
+    if bytes_eq name (codes "begin") then words3 name_number name_number statement Begin fields else
+    if bytes_eq name (codes "custom") then words4 name_number name_number sign statement Custom fields else
+    if bytes_eq name (codes "put") then words5 name_number name_number key value statement Put fields else
+    if bytes_eq name (codes "del") then words4 name_number name_number key statement Del fields else
+    if bytes_eq name (codes "get") then words4 name_number name_number key statement Get fields else
+    if bytes_eq name (codes "commit") then words3 name_number name_number statement Commit fields else
+    if bytes_eq name (codes "rollback") then words3 name_number name_number statement Rollback fields else
+    if bytes_eq name (codes "giveup") then words2 name_number name_number GiveUp fields else
+    None
 
 -- what follows the moment, for each name
 unfoldable pub step_of : List ℕ → List (List ℕ) → Option Step
@@ -27,20 +39,30 @@ step_of name fields =
     if bytes_eq name (codes "reap") then words1 opens Reap fields else
     if bytes_eq name (codes "min") then words1 opens Min fields else
     if bytes_eq name (codes "closed") then words0 CloseState fields else
-    if bytes_eq name (codes "begin") then words3 name_number name_number statement Begin fields else
-    if bytes_eq name (codes "custom") then words4 name_number name_number sign statement Custom fields else
-    if bytes_eq name (codes "put") then words5 name_number name_number key value statement Put fields else
-    if bytes_eq name (codes "del") then words4 name_number name_number key statement Del fields else
-    if bytes_eq name (codes "get") then words4 name_number name_number key statement Get fields else
-    if bytes_eq name (codes "commit") then words3 name_number name_number statement Commit fields else
-    if bytes_eq name (codes "rollback") then words3 name_number name_number statement Rollback fields else
-    if bytes_eq name (codes "giveup") then words2 name_number name_number GiveUp fields else
     if bytes_eq name (codes "close") then words0 Close fields else
-    None
+    statement_of name fields
 
 -- a line after the first: a name, a moment, and the fields of the name
 unfoldable pub event_words : List (List ℕ) → Option Event
 event_words = row any (λ name. row millis (λ ms fields. step_of name fields >>= λ step. Some (record { moment = record { 0 = nanos ms }; step = step })))
+
+-- the last words of the first line, `lifetime idle switches`, after these maximum, minimum and nanoseconds to wait
+unfoldable pub limits_after : ℕ → ℕ → ℕ → List (List ℕ) → Option PoolLine
+limits_after max min timeout =
+    row limit_nanos (λ lifetime.
+    row limit_nanos (λ idle.
+    row switches (λ on.
+    ended (record {
+      max = max;
+      min = min;
+      timeout = timeout;
+      lifetime = lifetime;
+      idle = idle;
+      test_before_acquire = on.test_before_acquire;
+      after_connect = on.after_connect;
+      before_acquire = on.before_acquire;
+      after_release = on.after_release;
+    }))))
 
 -- the first line, `pool max min timeout lifetime idle switches`
 unfoldable pub pool_words : List (List ℕ) → Option PoolLine
@@ -49,28 +71,15 @@ pool_words =
     row (number_in 1 65536) (λ max.
     row opens (λ min.
     row millis (λ timeout.
-    row limit_nanos (λ lifetime.
-    row limit_nanos (λ idle.
-    row switches (λ on.
-    ended (record {
-      max = max;
-      min = min;
-      timeout = nanos timeout;
-      lifetime = lifetime;
-      idle = idle;
-      test_before_acquire = on.test_before_acquire;
-      after_connect = on.after_connect;
-      before_acquire = on.before_acquire;
-      after_release = on.after_release;
-    }))))))))
+    limits_after max min (nanos timeout)))))
 
 -- what a line says by its words, if it ends with its newline
 abbrev pub whole : {R : Type 0} → (List (List ℕ) → Option R) → List ℕ → Option R
 whole f line = if ends_well line then f (words_of line) else None
 
--- the event of a line, if it is one that is played
+-- the event of a line after the first
 unfoldable pub event_of : List ℕ → Option Event
-event_of line = whole event_words line >>= λ event. if is_built event.step then Some event else None
+event_of line = whole event_words line
 
 -- what a first line says
 unfoldable pub pool_of : List ℕ → Option PoolLine

@@ -29,11 +29,13 @@ unfoldable pub words3 : {A B C R : Type 0} → (List ℕ → Option A) → (List
 words3 p q r make = row p (λ x. row q (λ y. row r (λ z. ended (make x y z))))
 
 -- four words
-unfoldable pub words4 : {A B C D R : Type 0} → (List ℕ → Option A) → (List ℕ → Option B) → (List ℕ → Option C) → (List ℕ → Option D) → (A → B → C → D → R) → List (List ℕ) → Option R
+unfoldable pub words4 : {A B C D R : Type 0} → (List ℕ → Option A) → (List ℕ → Option B) → (List ℕ → Option C) → (List ℕ → Option D)
+    → (A → B → C → D → R) → List (List ℕ) → Option R
 words4 p q r s make = row p (λ x. row q (λ y. row r (λ z. row s (λ u. ended (make x y z u)))))
 
 -- five words
-unfoldable pub words5 : {A B C D E R : Type 0} → (List ℕ → Option A) → (List ℕ → Option B) → (List ℕ → Option C) → (List ℕ → Option D) → (List ℕ → Option E) → (A → B → C → D → E → R) → List (List ℕ) → Option R
+unfoldable pub words5 : {A B C D E R : Type 0} → (List ℕ → Option A) → (List ℕ → Option B) → (List ℕ → Option C) → (List ℕ → Option D) → (List ℕ → Option E)
+    → (A → B → C → D → E → R) → List (List ℕ) → Option R
 words5 p q r s t make = row p (λ x. row q (λ y. row r (λ z. row s (λ u. row t (λ v. ended (make x y z u v))))))
 
 -- a word of this kind from the front, and the others

@@ -1,7 +1,7 @@
 //! What the outside of the pool answers to the calls of one event, as the letters of its line say.
 
 /// The answer of a `before_acquire` or an `after_release` hook.
-#[derive(Clone, Copy, Debug, PartialEq, Eq)]
+#[derive(Clone, Copy)]
 pub enum HookAnswer {
     /// `+`: the connection is good.
     Accepts,
@@ -14,7 +14,7 @@ pub enum HookAnswer {
 }
 
 /// The answer of an `after_connect` hook, which can't refuse without an error.
-#[derive(Clone, Copy, Debug, PartialEq, Eq)]
+#[derive(Clone, Copy)]
 pub enum AfterConnectAnswer {
     /// `+`: the connection is set up.
     SetUp,
@@ -25,7 +25,7 @@ pub enum AfterConnectAnswer {
 }
 
 /// The answer of a connect.
-#[derive(Clone, Copy, Debug, PartialEq, Eq)]
+#[derive(Clone, Copy)]
 pub enum ConnectAnswer {
     /// `+`: there is a new connection.
     Connected,
@@ -49,7 +49,7 @@ pub enum StatementAnswer {
 }
 
 /// The four letters of a `poll`.
-#[derive(Clone, Copy, Debug, PartialEq, Eq)]
+#[derive(Clone, Copy)]
 pub struct PollAnswers {
     /// Whether a ping of an idle connection is answered.
     pub ping: bool,
@@ -59,7 +59,7 @@ pub struct PollAnswers {
 }
 
 /// The two letters of a `give`.
-#[derive(Clone, Copy, Debug, PartialEq, Eq)]
+#[derive(Clone, Copy)]
 pub struct GiveAnswers {
     pub after_release: HookAnswer,
     /// Whether a ping of the connection is answered.

@@ -3,7 +3,6 @@
 #![tactic(auto)]
 
 mod answers;
-mod built;
 mod fields;
 pub mod laws;
 mod letters;

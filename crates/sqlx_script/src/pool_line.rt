@@ -1,7 +1,7 @@
 //! The first line of a script, which says how the pool is set up.
 
 /// `pool max min timeout lifetime idle switches`. Durations are in nanoseconds.
-#[derive(Clone, Copy, Debug, PartialEq, Eq)]
+#[derive(Clone, Copy)]
 pub struct PoolLine {
     /// At most so many connections, from 1 to 65,535.
     pub max: u32,

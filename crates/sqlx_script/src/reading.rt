@@ -2,9 +2,8 @@
 ghost use Rattle.std.specs.Prelude.{◌≡◌, ◌≤◌, IfSome, true};
 ghost use Rattle.sqlx_script.specs.Built.{is_built};
 ghost use Rattle.std.specs.Str.{bytes_eq};
-ghost use Rattle.sqlx_script.specs.Grammar.{step_of, event_of, pool_of, event_words, pool_words, whole};
+ghost use Rattle.sqlx_script.specs.Grammar.{statement_of, step_of, event_of, limits_after, pool_of};
 
-use crate::built::is_built;
 use crate::fields;
 use crate::numbers::NANOS;
 use crate::pool_line::PoolLine;
@@ -17,6 +16,32 @@ fn is(word: &[u8], text: &[u8]) -> bool
     ensures { result ≡ bytes_eq word.now text.now }
 {
     word == text
+}
+
+// What follows the moment, for the name of a statement.
+#[tactic(auto, unfolding(crate::specs::Grammar::statement_of))]
+fn statement(name: &[u8], words: &mut Words<'_>) -> Option<Step>
+    ensures { result ≡ statement_of name.now words.old }
+{
+    if is(name, b"begin") {
+        fields::begin(words)
+    } else if is(name, b"custom") {
+        fields::custom(words)
+    } else if is(name, b"put") {
+        fields::put(words)
+    } else if is(name, b"del") {
+        fields::del(words)
+    } else if is(name, b"get") {
+        fields::get(words)
+    } else if is(name, b"commit") {
+        fields::commit(words)
+    } else if is(name, b"rollback") {
+        fields::rollback(words)
+    } else if is(name, b"giveup") {
+        fields::give_up(words)
+    } else {
+        None
+    }
 }
 
 // What follows the moment.
@@ -46,33 +71,18 @@ fn step(name: &[u8], words: &mut Words<'_>) -> Option<Step>
         fields::min(words)
     } else if is(name, b"closed") {
         fields::close_state(words)
-    } else if is(name, b"begin") {
-        fields::begin(words)
-    } else if is(name, b"custom") {
-        fields::custom(words)
-    } else if is(name, b"put") {
-        fields::put(words)
-    } else if is(name, b"del") {
-        fields::del(words)
-    } else if is(name, b"get") {
-        fields::get(words)
-    } else if is(name, b"commit") {
-        fields::commit(words)
-    } else if is(name, b"rollback") {
-        fields::rollback(words)
-    } else if is(name, b"giveup") {
-        fields::give_up(words)
     } else if is(name, b"close") {
         fields::close(words)
     } else {
-        None
+        statement(name, words)
     }
 }
 
-// The event of a line, played or not.
-#[tactic(auto, using(crate::proofs::Rows::reads), unfolding(crate::specs::Grammar::event_words))]
-fn whole_event(line: &[u8]) -> Option<Event>
-    ensures { result ≡ whole event_words line.now }
+/// What a line after the first says, if it is an event.
+#[tactic(auto, using(crate::proofs::Rows::reads, crate::proofs::FewOpens::step_few), unfolding(crate::specs::Grammar::event_of, crate::specs::Grammar::event_words))]
+pub fn read_event(line: &[u8]) -> Option<Event>
+    ensures says { result ≡ event_of line.now }
+    ensures built { IfSome result (λ event. is_built event.step ≡ true) }
 {
     let mut words = Words::of_line(line)?;
     let name = words.next()?;
@@ -84,38 +94,19 @@ fn whole_event(line: &[u8]) -> Option<Event>
     })
 }
 
-/// What a line after the first says, if it is an event that is played.
-#[tactic(auto, unfolding(crate::specs::Grammar::event_of))]
-pub fn read_event(line: &[u8]) -> Option<Event>
-    ensures says { result ≡ event_of line.now }
-    ensures built { IfSome result (λ event. is_built event.step ≡ true) }
+// How old connections may grow, what is asked of them, and these maximum, minimum and nanoseconds to wait.
+#[tactic(auto, using(crate::proofs::Rows::reads), unfolding(crate::specs::Grammar::limits_after))]
+fn limits(words: &mut Words<'_>, max: u32, min: u32, timeout: u64) -> Option<PoolLine>
+    ensures says { result ≡ limits_after max min timeout words.old }
+    ensures max { IfSome result (λ pool. pool.max ≡ max) }
 {
-    let event = whole_event(line)?;
-    if is_built(&event.step) {
-        Some(event)
-    } else {
-        None
-    }
-}
-
-// What a first line says, played or not.
-#[tactic(auto, using(crate::proofs::Rows::reads), unfolding(crate::specs::Grammar::pool_words))]
-fn whole_pool_line(line: &[u8]) -> Option<PoolLine>
-    ensures says { result ≡ whole pool_words line.now }
-    ensures some { IfSome result (λ pool. 1 ≤ pool.max) }
-{
-    let mut words = Words::of_line(line)?;
-    words.exactly(b"pool")?;
-    let max = words.number(1, 65_536)?;
-    let min = words.opens()?;
-    let timeout = words.millis()?;
     let lifetime = words.limit_nanos()?;
     let idle = words.limit_nanos()?;
     let on = words.switches()?;
     words.finish(PoolLine {
-        max: max as u32,
+        max,
         min,
-        timeout: timeout * NANOS,
+        timeout,
         lifetime,
         idle,
         test_before_acquire: on.test_before_acquire,
@@ -126,10 +117,15 @@ fn whole_pool_line(line: &[u8]) -> Option<PoolLine>
 }
 
 /// What a first line says.
-#[tactic(auto, unfolding(crate::specs::Grammar::pool_of))]
+#[tactic(auto, using(crate::proofs::Rows::reads), unfolding(crate::specs::Grammar::pool_of, crate::specs::Grammar::pool_words))]
 pub fn read_pool_line(line: &[u8]) -> Option<PoolLine>
     ensures says { result ≡ pool_of line.now }
     ensures some { IfSome result (λ pool. 1 ≤ pool.max) }
 {
-    whole_pool_line(line)
+    let mut words = Words::of_line(line)?;
+    words.exactly(b"pool")?;
+    let max = words.number(1, 65_536)?;
+    let min = words.opens()?;
+    let timeout = words.millis()?;
+    limits(&mut words, max as u32, min, timeout * NANOS)
 }

@@ -1,9 +1,12 @@
 //! The replies to the events of a script.
+ghost use Rattle.std.specs.Prelude.{◌≡◌, ◌++◌};
+ghost use Rattle.sqlx_script.specs.Texts.{reply_text, reply_numbers};
+
 use sqlx_savepoints::LevelText;
 use std::fmt;
 
 /// What is written for an event, without its newline.
-#[derive(Clone, Copy, Debug, PartialEq, Eq)]
+#[derive(Clone, Copy)]
 pub enum Reply {
     /// `ticket N`
     Ticket(u64),
@@ -65,43 +68,66 @@ pub enum Reply {
     RowNotFound,
 }
 
+impl Reply {
+    // The text, or what stands of it before the first number.
+    fn words(&self) -> &'static str
+        ensures { reply_text self.now ≡ result.now ++ reply_numbers self.now }
+    {
+        match self {
+            Reply::Ticket(_) => "ticket ",
+            Reply::PoolClosed => "PoolClosed",
+            Reply::PoolTimedOut => "PoolTimedOut",
+            Reply::NotHeld => "NotHeld",
+            Reply::Waiting => "waiting",
+            Reply::Backoff(_) => "backoff ",
+            Reply::Ready(_) => "ready ",
+            Reply::Io => "Io",
+            Reply::DatabaseRefused => "Database refused",
+            Reply::Cancelled => "cancelled",
+            Reply::NothingToLend => "none",
+            Reply::Kept => "kept",
+            Reply::Closed(_) => "closed ",
+            Reply::Detached(_) => "detached ",
+            Reply::Leaked(_) => "leaked ",
+            Reply::Reaped { .. } => "reaped ",
+            Reply::Opened(_) => "opened ",
+            Reply::Closing(_) => "closing ",
+            Reply::StateOpen => "Open",
+            Reply::StateClosing => "Closing",
+            Reply::StateClosed => "Closed",
+            Reply::Level { .. } => "level ",
+            Reply::DatabaseDeep => "Database deep",
+            Reply::DatabaseBusy => "Database busy",
+            Reply::InvalidSavePointStatement => "InvalidSavePointStatement",
+            Reply::BeginFailed => "BeginFailed",
+            Reply::Written(_) => "ok ",
+            Reply::Value(_) => "value ",
+            Reply::RowNotFound => "RowNotFound",
+        }
+    }
+}
+
 impl fmt::Display for Reply {
     ghost use Rattle.std.specs.Prelude.{Some};
-    ghost use Rattle.sqlx_script.specs.Texts.{reply_text};
 
     ghost output = { λ reply. Some (reply_text reply) };
 
     fn fmt<W: fmt::Write>(&self, f: &mut fmt::Formatter<W>) -> fmt::Result {
-        match self {
-            Reply::Ticket(number) => write!(f, "ticket {number}"),
-            Reply::PoolClosed => f.write_str("PoolClosed"),
-            Reply::PoolTimedOut => f.write_str("PoolTimedOut"),
-            Reply::NotHeld => f.write_str("NotHeld"),
-            Reply::Waiting => f.write_str("waiting"),
-            Reply::Backoff(until) => write!(f, "backoff {until}"),
-            Reply::Ready(connection) => write!(f, "ready {connection}"),
-            Reply::Io => f.write_str("Io"),
-            Reply::DatabaseRefused => f.write_str("Database refused"),
-            Reply::Cancelled => f.write_str("cancelled"),
-            Reply::NothingToLend => f.write_str("none"),
-            Reply::Kept => f.write_str("kept"),
-            Reply::Closed(opened) => write!(f, "closed {opened}"),
-            Reply::Detached(opened) => write!(f, "detached {opened}"),
-            Reply::Leaked(opened) => write!(f, "leaked {opened}"),
-            Reply::Reaped { reaped, opened } => write!(f, "reaped {reaped} opened {opened}"),
-            Reply::Opened(opened) => write!(f, "opened {opened}"),
-            Reply::Closing(closed) => write!(f, "closing {closed}"),
-            Reply::StateOpen => f.write_str("Open"),
-            Reply::StateClosing => f.write_str("Closing"),
-            Reply::StateClosed => f.write_str("Closed"),
-            Reply::Level { depth, text } => write!(f, "level {depth} {text}"),
-            Reply::DatabaseDeep => f.write_str("Database deep"),
-            Reply::DatabaseBusy => f.write_str("Database busy"),
-            Reply::InvalidSavePointStatement => f.write_str("InvalidSavePointStatement"),
-            Reply::BeginFailed => f.write_str("BeginFailed"),
-            Reply::Written(rows) => write!(f, "ok {rows}"),
-            Reply::Value(value) => write!(f, "value {value}"),
-            Reply::RowNotFound => f.write_str("RowNotFound"),
+        f.write_str(self.words())?;
+        match *self {
+            Reply::Ticket(n)
+            | Reply::Ready(n)
+            | Reply::Closed(n)
+            | Reply::Detached(n)
+            | Reply::Leaked(n)
+            | Reply::Opened(n)
+            | Reply::Closing(n)
+            | Reply::Written(n) => write!(f, "{n}"),
+            Reply::Backoff(until) => write!(f, "{until}"),
+            Reply::Reaped { reaped, opened } => write!(f, "{reaped} opened {opened}"),
+            Reply::Level { depth, text } => write!(f, "{depth} {text}"),
+            Reply::Value(value) => write!(f, "{value}"),
+            _ => Ok(()),
         }
     }
 }

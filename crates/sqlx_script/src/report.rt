@@ -2,7 +2,7 @@
 use std::fmt;
 
 /// What the pool holds after the last event.
-#[derive(Clone, Copy, Debug, PartialEq, Eq)]
+#[derive(Clone, Copy)]
 pub struct Report {
     /// Connections with an owner.
     pub held: u64,

@@ -3,7 +3,7 @@ use crate::answers::{GiveAnswers, PollAnswers, StatementAnswer};
 use sqlx_text::Moment;
 
 /// What is done, and when.
-#[derive(Clone, Copy, Debug, PartialEq, Eq)]
+#[derive(Clone, Copy)]
 pub struct Event {
     /// A whole number of milliseconds, below 2^40 of them.
     pub moment: Moment,
@@ -11,7 +11,7 @@ pub struct Event {
 }
 
 /// What is done. Clients, tickets and connections go by their numbers; `opens` is how many connects for the minimum succeed.
-#[derive(Clone, Copy, Debug, PartialEq, Eq)]
+#[derive(Clone, Copy)]
 pub enum Step {
     /// `ask`: a client asks for a connection, and gets a ticket.
     Ask {

@@ -13,6 +13,11 @@ use Rattle.sqlx_traits.specs.Faults.{FaultCause}
 abbrev pub Steps : Type 0 → Type 0 → Type 0 → Type 0
 Steps Q R E = List (Result (Either Q R) E)
 
+-- the result that follows the other items of a list, if there is one
+abbrev pub result_step : {Q R E : Type 0} → Option Q → Steps Q R E
+result_step None = []
+result_step (Some result) = Ok (Left result) ∷ []
+
 -- the end of a list: its error, if there is one
 abbrev pub ended : {A E : Type 0} → Option E → List (Result A E)
 ended None = []
@@ -77,6 +82,10 @@ Ran {L = L} runs old query new answer = (list : L) × runs old query list new ×
 abbrev pub StepCause : {A : Type 0} → ℕ → ℕ → Result A Fault → Error → Type 0
 StepCause before now (Ok arguments) e = FaultCause before now e
 StepCause before now (Err fault) e = (e ≡ error_of error.Encode fault) ⊎ FaultCause before now e
+
+-- where the arguments can't be had, for this fault, nothing runs, and the answer is one of its error
+abbrev pub RunsNothing : {S : Type 0} → S → S → (Error → Type 0) → Fault → Type 0
+RunsNothing old new answers fault = answers (error_of error.Encode fault) × (new ≡ old)
 
 -- each error of a list has its cause
 abbrev pub StepCauses : {T A : Type 0} → ℕ → ℕ → Result A Fault → List (Result T Error) → Type 0

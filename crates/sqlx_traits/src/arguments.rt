@@ -34,8 +34,25 @@ pub trait Arguments<DB: Database>: Sized {
     /// The same with another list of arguments.
     ghost with_buffer: { Self → DB.ArgumentBuffer → Self };
 
-    /// What stands in a statement's text for the next argument.
-    ghost placeholder: { Self → List ℕ } = { λ _. 63 ∷ [] };
+    /// What stands in a statement's text for the argument of this number, from 1.
+    ghost placeholder: { ℕ → List ℕ } = { λ _. 63 ∷ [] };
+
+    /// Adds an argument behind those that are there. A refusal leaves them as they were.
+    final fn add<'t, T: Encode<'t, DB> + SqlType<DB>>(
+        &mut self,
+        alloc: Global,
+        value: T,
+    ) -> Result<(), Fault>
+        ensures ok { OnOk result (buffered self.new ≡ T.encoded value (buffered self.old)) }
+        ensures one { OnOk result (AddsOne DB.ArgumentBuffer.count DB.ArgumentBuffer.first (buffered self.old) (buffered self.new)) }
+        ensures err { OnErr result (self.new ≡ self.old) }
+        ensures refused { IfErr result (T.refuses value) }
+    {
+        match value.encode(alloc, self.buffer()) {
+            Ok(_is_null) => Ok(()),
+            Err(fault) => Err(fault),
+        }
+    }
 
     /// No arguments. In sqlx: `default`.
     fn new(alloc: Global) -> Self
@@ -58,9 +75,9 @@ pub trait Arguments<DB: Database>: Sized {
     fn truncate(&mut self, len: usize)
         ensures { self.new ≡ with_buffer self.old (DB.ArgumentBuffer.first len (buffered self.old)) };
 
-    /// Writes what stands in a statement's text for the next argument; mostly `?`, by [`question_mark`].
+    /// Writes what stands in a statement's text for the argument that was added last; mostly `?`, by [`question_mark`].
     fn format_placeholder(&self, alloc: Global, out: &mut String) -> Result<(), OutOfMemory>
-        ensures ok { OnOk result (string_bytes out.new ≡ string_bytes out.old ++ placeholder self.now) }
+        ensures ok { OnOk result (string_bytes out.new ≡ string_bytes out.old ++ placeholder (DB.ArgumentBuffer.count (buffered self.now))) }
         ensures err { OnErr result (string_bytes out.new ≡ string_bytes out.old) };
 
     /// A list that is put in is the one that is there.
@@ -68,25 +85,6 @@ pub trait Arguments<DB: Database>: Sized {
 
     /// Putting back what was there changes nothing.
     ghost keeps: { (args : Self) → with_buffer args (buffered args) ≡ args };
-}
-
-/// Adds an argument behind those that are there. A refusal leaves them as they were.
-///
-/// In sqlx: `Arguments::add`.
-pub fn add<'t, DB: Database, T: Encode<'t, DB> + SqlType<DB>>(
-    alloc: Global,
-    args: &mut DB::Arguments,
-    value: T,
-) -> Result<(), Fault>
-    ensures ok { OnOk result (DB.Arguments.buffered args.new ≡ T.encoded value (DB.Arguments.buffered args.old)) }
-    ensures one { OnOk result (AddsOne DB.ArgumentBuffer.count DB.ArgumentBuffer.first (DB.Arguments.buffered args.old) (DB.Arguments.buffered args.new)) }
-    ensures err { OnErr result (args.new ≡ args.old) }
-    ensures refused { IfErr result (T.refuses value) }
-{
-    match value.encode(alloc, args.buffer()) {
-        Ok(_is_null) => Ok(()),
-        Err(fault) => Err(fault),
-    }
 }
 
 /// Writes a question mark, the placeholder of most databases.

@@ -1,9 +1,10 @@
 //! A column of a row or of a statement.
-ghost use Rattle.std.specs.Prelude.{◌≡◌, ℕ, List};
+ghost use Rattle.std.specs.Prelude.{◌≡◌, ℕ, IfOk, List};
 ghost use Rattle.std.specs.Option.{option_copied};
 
 use crate::Database;
-use sqlx_text::UStr;
+use sqlx_text::{OutOfMemory, UStr};
+use std::alloc::Global;
 
 /// A column.
 pub trait Column<DB: Database>: Sized {
@@ -57,6 +58,22 @@ pub enum ColumnOrigin {
     Unknown,
 }
 
+impl TableColumn {
+    /// The same column. In sqlx: `clone`.
+    pub fn try_clone(&self, alloc: Global) -> Result<TableColumn, OutOfMemory>
+        ensures { IfOk result (λ copy. copy ≡ self.now) }
+    {
+        let table = self.table.try_clone(alloc)?;
+        match self.name.try_clone(alloc) {
+            Ok(name) => Ok(TableColumn { table, name }),
+            Err(refused) => {
+                drop(table);
+                Err(refused)
+            }
+        }
+    }
+}
+
 impl ColumnOrigin {
     ghost use Rattle.sqlx_traits.specs.Origin.{table_of};
 
@@ -67,6 +84,20 @@ impl ColumnOrigin {
         match self {
             ColumnOrigin::Table(column) => Some(column),
             _ => None,
+        }
+    }
+
+    /// The same origin. In sqlx: `clone`.
+    pub fn try_clone(&self, alloc: Global) -> Result<ColumnOrigin, OutOfMemory>
+        ensures { IfOk result (λ copy. copy ≡ self.now) }
+    {
+        match self {
+            ColumnOrigin::Table(column) => match column.try_clone(alloc) {
+                Ok(column) => Ok(ColumnOrigin::Table(column)),
+                Err(refused) => Err(refused),
+            },
+            ColumnOrigin::Expression => Ok(ColumnOrigin::Expression),
+            ColumnOrigin::Unknown => Ok(ColumnOrigin::Unknown),
         }
     }
 }

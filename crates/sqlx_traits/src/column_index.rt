@@ -1,7 +1,7 @@
 //! What names a column of a row or of a statement: a position, or a name.
-ghost use Rattle.std.specs.Prelude.{◌≡◌, ℕ, IfOk, List, Result, decimal};
+ghost use Rattle.std.specs.Prelude.{◌≡◌, ℕ, IfOk, List, Ok, Result, decimal};
 ghost use Rattle.sqlx_text.specs.declared.error.Error.{Error};
-ghost use Rattle.sqlx_traits.specs.Places.{in_quotes, place_of_name, place_of_position};
+ghost use Rattle.sqlx_traits.specs.Places.{at_place, in_quotes, place_of_name, place_of_position};
 ghost use Rattle.sqlx_traits.specs.Reads.{Answers};
 
 use sqlx_text::{Error, OutOfMemory, UStr};
@@ -46,6 +46,19 @@ pub fn index_of_position(index: usize, len: usize) -> Result<usize, Error>
         Ok(index)
     } else {
         Err(Error::ColumnIndexOutOfBounds { index, len })
+    }
+}
+
+/// The item at a position, and `ColumnIndexOutOfBounds` exactly where there is none.
+pub fn item_at<T>(items: &[T], index: usize) -> Result<&T, Error>
+    ensures { Answers (λ item. item.now) Error.OutOfMemory (at_place items.now (Ok index)) result }
+{
+    match items.get(index) {
+        Some(item) => Ok(item),
+        None => Err(Error::ColumnIndexOutOfBounds {
+            index,
+            len: items.len(),
+        }),
     }
 }
 

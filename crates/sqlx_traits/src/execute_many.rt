@@ -1,5 +1,5 @@
 //! The results of statements, handed out one by one.
-ghost use Rattle.std.specs.Prelude.{◌≡◌, ◌∷◌, [], MatchOption};
+ghost use Rattle.std.specs.Prelude.{◌≡◌};
 ghost use Rattle.sqlx_traits.specs.StepList.{combined, results_of};
 
 use crate::{Database, QueryResult, StepList};
@@ -33,11 +33,19 @@ impl<Q, R: Drop> ResultList<Q, R> {
     {
         ResultList { list }
     }
+}
+
+impl<Q: Drop, R: Drop> Iterator for ResultList<Q, R> {
+    type Item = Result<Q, Error>;
+
+    ghost use Rattle.std.specs.Iterator.{YieldsFirst, item_count};
+
+    ghost next_gives = { YieldsFirst (λ items. items) };
+
+    ghost remaining = { item_count (λ items. items) };
 
     /// The next result, or the error behind them, and `None` at the end.
-    pub fn next(&mut self) -> Option<Result<Q, Error>>
-        ensures { MatchOption result ((self.old ≡ []) × (self.new ≡ [])) (λ item. self.old ≡ item ∷ self.new) }
-    {
+    fn next(&mut self) -> Option<Result<Q, Error>> {
         while let Some(item) = self.list.next() {
             match item {
                 Ok(Either::Left(result)) => return Some(Ok(result)),
@@ -58,7 +66,11 @@ pub(crate) fn combine<Q: QueryResult + Drop, R: Drop>(results: ResultList<Q, R>)
     while let Some(item) = results.next() {
         match item {
             Ok(next) => all.extend(next),
-            Err(error) => return Err(error),
+            Err(error) => {
+                drop(results);
+                drop(all);
+                return Err(error);
+            }
         }
     }
     Ok(all)

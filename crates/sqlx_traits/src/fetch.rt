@@ -1,5 +1,5 @@
 //! The rows of a statement, handed out one by one.
-ghost use Rattle.std.specs.Prelude.{◌≡◌, ◌∷◌, [], MatchOption};
+ghost use Rattle.std.specs.Prelude.{◌≡◌};
 ghost use Rattle.sqlx_text.specs.declared.error.Error.{Error};
 ghost use Rattle.sqlx_traits.specs.Reads.{Answers};
 ghost use Rattle.sqlx_traits.specs.StepList.{all_of, first_of, rows_of};
@@ -36,11 +36,19 @@ impl<Q: Drop, R> RowList<Q, R> {
     {
         RowList { list }
     }
+}
+
+impl<Q: Drop, R: Drop> Iterator for RowList<Q, R> {
+    type Item = Result<R, Error>;
+
+    ghost use Rattle.std.specs.Iterator.{YieldsFirst, item_count};
+
+    ghost next_gives = { YieldsFirst (λ items. items) };
+
+    ghost remaining = { item_count (λ items. items) };
 
     /// The next row, or the error behind them, and `None` at the end.
-    pub fn next(&mut self) -> Option<Result<R, Error>>
-        ensures { MatchOption result ((self.old ≡ []) × (self.new ≡ [])) (λ item. self.old ≡ item ∷ self.new) }
-    {
+    fn next(&mut self) -> Option<Result<R, Error>> {
         while let Some(item) = self.list.next() {
             match item {
                 Ok(Either::Left(result)) => drop(result),
@@ -57,7 +65,9 @@ pub(crate) fn first<Q: Drop, R: Drop>(rows: RowList<Q, R>) -> Result<Option<R>, 
     ensures { result ≡ first_of rows }
 {
     let mut rows = rows;
-    match rows.next() {
+    let item = rows.next();
+    drop(rows);
+    match item {
         Some(Ok(row)) => Ok(Some(row)),
         Some(Err(error)) => Err(error),
         None => Ok(None),
@@ -74,10 +84,16 @@ pub(crate) fn all<Q: Drop, R: Drop>(alloc: Global, rows: RowList<Q, R>) -> Resul
         match item {
             Ok(row) => {
                 if all.push(row).is_err() {
+                    drop(rows);
+                    drop(all);
                     return Err(Error::OutOfMemory);
                 }
             }
-            Err(error) => return Err(error),
+            Err(error) => {
+                drop(rows);
+                drop(all);
+                return Err(error);
+            }
         }
     }
     Ok(all)

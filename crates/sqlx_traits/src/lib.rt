@@ -26,12 +26,10 @@ mod transaction_manager;
 mod type_info;
 mod value;
 
-pub use arguments::{
-    ArgumentList, Arguments, ImmutableArguments, IntoArguments, add, question_mark,
-};
+pub use arguments::{ArgumentList, Arguments, ImmutableArguments, IntoArguments, question_mark};
 pub use column::{Column, ColumnOrigin, TableColumn};
 pub use column_index::{
-    ColumnIndex, index_of_name, index_of_position, label_of_name, label_of_position,
+    ColumnIndex, index_of_name, index_of_position, item_at, label_of_name, label_of_position,
 };
 pub use connect_options::{Connect, ConnectOptions};
 pub use connection::Connection;

@@ -1,9 +1,9 @@
 //! Typed reads that may borrow from what they read: the calls of sqlx's `Row` and `Value` of the same
 //! names, as functions. A type that owns what it reads is read by the methods of `Row` and `Value`.
-ghost use Rattle.std.specs.Prelude.{◌≡◌, ◌⊎◌, ◌||◌, Some, None, Ok, Err, IfOk, MatchOption, Result, false, true};
+ghost use Rattle.std.specs.Prelude.{◌≡◌, ◌⊎◌, ◌||◌, Err, IfOk, Ok, true};
 ghost use Rattle.sqlx_text.specs.declared.error.Error.{Error};
 ghost use Rattle.sqlx_traits.specs.Places.{IsGiven};
-ghost use Rattle.sqlx_traits.specs.Reads.{Checked, RowRead, ValueRead, column_error, fits, told};
+ghost use Rattle.sqlx_traits.specs.Reads.{Checked, GivesValue, Misfit, NeverRefuses, RowRead, ValueRead, column_error, fits, mismatch_of, with_error};
 
 use crate::sql_type::mismatched;
 use crate::{ColumnIndex, Database, Decode, DecodeOwned, Row, SqlType, TypeInfo, Value};
@@ -15,7 +15,7 @@ pub fn try_decode<'r, DB: Database, T: Decode<'r, DB> + SqlType<DB>>(
     alloc: Global,
     value: &'r DB::Value,
 ) -> Result<T, Error>
-    ensures { ValueRead (Checked DB.Value.null DB.Value.type_of DB.TypeInfo.null_type DB.TypeInfo.named T.called (told true (DB.TypeInfo.named T.own_type)) T.reads_type T.reads value.now) result }
+    ensures { ValueRead (Checked DB.Value.null DB.Value.type_of DB.TypeInfo.null_type DB.TypeInfo.named true T.called T.own_type T.reads_type T.reads value.now) result }
 {
     match checked::<DB, T>(alloc, value, true) {
         Ok(read) => Ok(read),
@@ -41,8 +41,8 @@ pub fn decode<'r, DB: Database, T: Decode<'r, DB> + SqlType<DB>>(
     alloc: Global,
     value: &'r DB::Value,
 ) -> Result<T, OutOfMemory>
-    requires { (r : Result T Error) → ValueRead (Checked DB.Value.null DB.Value.type_of DB.TypeInfo.null_type DB.TypeInfo.named T.called (told true (DB.TypeInfo.named T.own_type)) T.reads_type T.reads value.now) r → IsGiven r }
-    ensures { IfOk result (λ read. ValueRead (Checked DB.Value.null DB.Value.type_of DB.TypeInfo.null_type DB.TypeInfo.named T.called (told true (DB.TypeInfo.named T.own_type)) T.reads_type T.reads value.now) (Ok read)) }
+    requires { NeverRefuses (ValueRead (Checked DB.Value.null DB.Value.type_of DB.TypeInfo.null_type DB.TypeInfo.named true T.called T.own_type T.reads_type T.reads value.now)) }
+    ensures { GivesValue (ValueRead (Checked DB.Value.null DB.Value.type_of DB.TypeInfo.null_type DB.TypeInfo.named true T.called T.own_type T.reads_type T.reads value.now)) result }
 {
     given(try_decode::<DB, T>(alloc, value))
 }
@@ -52,8 +52,8 @@ pub fn decode_unchecked<'r, DB: Database, T: Decode<'r, DB>>(
     alloc: Global,
     value: &'r DB::Value,
 ) -> Result<T, OutOfMemory>
-    requires { (r : Result T Error) → ValueRead (T.reads value.now) r → IsGiven r }
-    ensures { IfOk result (λ read. ValueRead (T.reads value.now) (Ok read)) }
+    requires { NeverRefuses (ValueRead (T.reads value.now)) }
+    ensures { GivesValue (ValueRead (T.reads value.now)) result }
 {
     given(try_decode_unchecked::<DB, T>(alloc, value))
 }
@@ -68,12 +68,15 @@ pub fn try_get<'r, DB: Database, T: Decode<'r, DB> + SqlType<DB>, I: ColumnIndex
 ) -> Result<T, Error>
 where
     DB::Value: 'r,
-    ensures { RowRead (DB.Row.values row.now) (I.place index row.now) (Checked DB.Value.null DB.Value.type_of DB.TypeInfo.null_type DB.TypeInfo.named T.called (told DB.Row.NAMES_OWN (DB.TypeInfo.named T.own_type)) T.reads_type T.reads) (I.shown index) result }
+    ensures { RowRead DB.Row.values I.place I.shown row.now index (Checked DB.Value.null DB.Value.type_of DB.TypeInfo.null_type DB.TypeInfo.named DB.Row.NAMES_OWN T.called T.own_type T.reads_type T.reads) result }
 {
-    let value = row.try_get_raw(alloc, &index)?;
-    match checked::<DB, T>(alloc, value, DB::Row::NAMES_OWN) {
-        Ok(read) => Ok(read),
-        Err(fault) => Err(refused::<DB::Row, I>(alloc, &index, fault)),
+    match row.try_get_raw(alloc, &index) {
+        Ok(value) => labelled::<DB::Row, I, T>(
+            alloc,
+            &index,
+            checked::<DB, T>(alloc, value, DB::Row::NAMES_OWN),
+        ),
+        Err(error) => Err(error),
     }
 }
 
@@ -85,12 +88,11 @@ pub fn try_get_unchecked<'r, DB: Database, T: Decode<'r, DB>, I: ColumnIndex<DB:
 ) -> Result<T, Error>
 where
     DB::Value: 'r,
-    ensures { RowRead (DB.Row.values row.now) (I.place index row.now) T.reads (I.shown index) result }
+    ensures { RowRead DB.Row.values I.place I.shown row.now index T.reads result }
 {
-    let value = row.try_get_raw(alloc, &index)?;
-    match T::decode(alloc, value) {
-        Ok(read) => Ok(read),
-        Err(fault) => Err(refused::<DB::Row, I>(alloc, &index, fault)),
+    match row.try_get_raw(alloc, &index) {
+        Ok(value) => labelled::<DB::Row, I, T>(alloc, &index, T::decode(alloc, value)),
+        Err(error) => Err(error),
     }
 }
 
@@ -102,8 +104,8 @@ pub fn get<'r, DB: Database, T: Decode<'r, DB> + SqlType<DB>, I: ColumnIndex<DB:
 ) -> Result<T, OutOfMemory>
 where
     DB::Value: 'r,
-    requires { (r : Result T Error) → RowRead (DB.Row.values row.now) (I.place index row.now) (Checked DB.Value.null DB.Value.type_of DB.TypeInfo.null_type DB.TypeInfo.named T.called (told DB.Row.NAMES_OWN (DB.TypeInfo.named T.own_type)) T.reads_type T.reads) (I.shown index) r → IsGiven r }
-    ensures { IfOk result (λ read. RowRead (DB.Row.values row.now) (I.place index row.now) (Checked DB.Value.null DB.Value.type_of DB.TypeInfo.null_type DB.TypeInfo.named T.called (told DB.Row.NAMES_OWN (DB.TypeInfo.named T.own_type)) T.reads_type T.reads) (I.shown index) (Ok read)) }
+    requires { NeverRefuses (RowRead DB.Row.values I.place I.shown row.now index (Checked DB.Value.null DB.Value.type_of DB.TypeInfo.null_type DB.TypeInfo.named DB.Row.NAMES_OWN T.called T.own_type T.reads_type T.reads)) }
+    ensures { GivesValue (RowRead DB.Row.values I.place I.shown row.now index (Checked DB.Value.null DB.Value.type_of DB.TypeInfo.null_type DB.TypeInfo.named DB.Row.NAMES_OWN T.called T.own_type T.reads_type T.reads)) result }
 {
     given(try_get::<DB, T, I>(alloc, row, index))
 }
@@ -116,8 +118,8 @@ pub fn get_unchecked<'r, DB: Database, T: Decode<'r, DB>, I: ColumnIndex<DB::Row
 ) -> Result<T, OutOfMemory>
 where
     DB::Value: 'r,
-    requires { (r : Result T Error) → RowRead (DB.Row.values row.now) (I.place index row.now) T.reads (I.shown index) r → IsGiven r }
-    ensures { IfOk result (λ read. RowRead (DB.Row.values row.now) (I.place index row.now) T.reads (I.shown index) (Ok read)) }
+    requires { NeverRefuses (RowRead DB.Row.values I.place I.shown row.now index T.reads) }
+    ensures { GivesValue (RowRead DB.Row.values I.place I.shown row.now index T.reads) result }
 {
     given(try_get_unchecked::<DB, T, I>(alloc, row, index))
 }
@@ -128,23 +130,23 @@ fn mismatch<DB: Database, T: SqlType<DB>>(
     value: &DB::Value,
     names_own: bool,
 ) -> Option<Fault>
-    ensures { MatchOption result
-        (fits DB.Value.null DB.Value.type_of DB.TypeInfo.null_type T.reads_type value.now ≡ true)
-        (λ f. (fits DB.Value.null DB.Value.type_of DB.TypeInfo.null_type T.reads_type value.now ≡ false)
-        × ((f ≡ Fault.Mismatched T.called (told names_own (DB.TypeInfo.named T.own_type)) (DB.TypeInfo.named (DB.Value.type_of value.now))) ⊎ (f ≡ Fault.OutOfMemory))) }
+    ensures { Misfit (fits DB.Value.null DB.Value.type_of DB.TypeInfo.null_type T.reads_type value.now)
+        (mismatch_of DB.TypeInfo.named names_own T.called T.own_type (DB.Value.type_of value.now)) result }
 {
     if value.is_null() {
         return None;
     }
     let ty = value.type_info();
-    if ty.is_null() || T::compatible(&ty) {
-        return None;
-    }
-    if names_own {
+    let fits = ty.is_null() || T::compatible(&ty);
+    let mismatch = if fits {
+        None
+    } else if names_own {
         Some(crate::mismatched_types::<DB, T>(alloc, &ty))
     } else {
         Some(mismatched::<DB, T>(alloc, &ty, None))
-    }
+    };
+    drop(ty);
+    mismatch
 }
 
 // A read that looks at the value's type first.
@@ -153,7 +155,7 @@ fn checked<'r, DB: Database, T: Decode<'r, DB> + SqlType<DB>>(
     value: &'r DB::Value,
     names_own: bool,
 ) -> Result<T, Fault>
-    ensures { Checked DB.Value.null DB.Value.type_of DB.TypeInfo.null_type DB.TypeInfo.named T.called (told names_own (DB.TypeInfo.named T.own_type)) T.reads_type T.reads value.now result }
+    ensures { Checked DB.Value.null DB.Value.type_of DB.TypeInfo.null_type DB.TypeInfo.named names_own T.called T.own_type T.reads_type T.reads value.now result }
 {
     match mismatch::<DB, T>(alloc, value, names_own) {
         Some(fault) => Err(fault),
@@ -167,7 +169,7 @@ pub(crate) fn owned_checked<DB: Database, T: DecodeOwned<DB> + SqlType<DB>>(
     value: &DB::Value,
     names_own: bool,
 ) -> Result<T, Fault>
-    ensures { Checked DB.Value.null DB.Value.type_of DB.TypeInfo.null_type DB.TypeInfo.named T.called (told names_own (DB.TypeInfo.named T.own_type)) T.reads_type T.reads value.now result }
+    ensures { Checked DB.Value.null DB.Value.type_of DB.TypeInfo.null_type DB.TypeInfo.named names_own T.called T.own_type T.reads_type T.reads value.now result }
 {
     match mismatch::<DB, T>(alloc, value, names_own) {
         Some(fault) => Err(fault),
@@ -175,8 +177,22 @@ pub(crate) fn owned_checked<DB: Database, T: DecodeOwned<DB> + SqlType<DB>>(
     }
 }
 
+/// What was read of a column, whose label stands in the error of one that can't be read. For a driver's own rows.
+pub fn labelled<R, I: ColumnIndex<R>, T>(
+    alloc: Global,
+    index: &I,
+    read: Result<T, Fault>,
+) -> Result<T, Error>
+    ensures { (result ≡ with_error (column_error (I.shown index.now)) read) ⊎ (result ≡ Err Error.OutOfMemory) }
+{
+    match read {
+        Ok(read) => Ok(read),
+        Err(fault) => Err(refused::<R, I>(alloc, index, fault)),
+    }
+}
+
 // The error of a column that can't be read.
-pub(crate) fn refused<R, I: ColumnIndex<R>>(alloc: Global, index: &I, fault: Fault) -> Error
+fn refused<R, I: ColumnIndex<R>>(alloc: Global, index: &I, fault: Fault) -> Error
     ensures { (result ≡ column_error (I.shown index.now) fault) ⊎ (result ≡ Error.OutOfMemory) }
 {
     match fault {
@@ -191,8 +207,8 @@ pub(crate) fn refused<R, I: ColumnIndex<R>>(alloc: Global, index: &I, fault: Fau
     }
 }
 
-// A value that is known to be given, where there is memory.
-pub(crate) fn given<T>(answer: Result<T, Error>) -> Result<T, OutOfMemory>
+/// A value that is known to be given, where there is memory.
+pub fn given<T>(answer: Result<T, Error>) -> Result<T, OutOfMemory>
     requires { IsGiven answer }
     ensures { IfOk result (λ x. answer ≡ Ok x) }
 {

@@ -1,10 +1,11 @@
 //! A row, and the reads of its columns into types that own what they read.
-ghost use Rattle.std.specs.Prelude.{◌≡◌, ◌<◌, ◌==◌, Bool, IfOk, List, Ok, Result, Some, length, slice_get};
+ghost use Rattle.std.specs.Prelude.{◌≡◌, ◌<◌, ◌==◌, Bool, IfOk, List, Ok, Some, length, slice_get};
 ghost use Rattle.sqlx_text.specs.declared.error.Error.{Error};
 ghost use Rattle.sqlx_traits.specs.Places.{IsGiven, at_place};
-ghost use Rattle.sqlx_traits.specs.Reads.{Answers, Checked, RowRead, told};
+ghost use Rattle.sqlx_traits.specs.Reads.{Answers, Checked, GivesValue, NeverRefuses, RowRead};
 
-use crate::reads::{given, owned_checked, refused};
+use crate::column_index::item_at;
+use crate::reads::{given, labelled, owned_checked};
 use crate::{ColumnIndex, Database, DecodeOwned, SqlType, TypeInfo, Value};
 use sqlx_text::{Error, OutOfMemory};
 use std::alloc::Global;
@@ -55,13 +56,9 @@ pub trait Row<DB: Database>: Sized {
     ) -> Result<&DB::Column, Error>
         ensures { Answers (λ column. column.now) Error.OutOfMemory (at_place (described self.now) (I.place index self.now)) result }
     {
-        let index = index.index(alloc, self)?;
-        match self.columns().get(index) {
-            Some(column) => Ok(column),
-            None => Err(Error::ColumnIndexOutOfBounds {
-                index,
-                len: self.len(),
-            }),
+        match index.index(alloc, self) {
+            Ok(at) => item_at(self.columns(), at),
+            Err(error) => Err(error),
         }
     }
 
@@ -91,12 +88,16 @@ pub trait Row<DB: Database>: Sized {
     ) -> Result<&DB::Value, Error>
         ensures { Answers (λ value. value.now) Error.OutOfMemory (at_place (values self.now) (I.place index self.now)) result }
     {
-        let index = index.index(alloc, self)?;
-        let len = self.len();
-        if index < len {
-            Ok(self.value(index))
-        } else {
-            Err(Error::ColumnIndexOutOfBounds { index, len })
+        match index.index(alloc, self) {
+            Ok(at) => {
+                let len = self.len();
+                if at < len {
+                    Ok(self.value(at))
+                } else {
+                    Err(Error::ColumnIndexOutOfBounds { index: at, len })
+                }
+            }
+            Err(error) => Err(error),
         }
     }
 
@@ -108,12 +109,15 @@ pub trait Row<DB: Database>: Sized {
         alloc: Global,
         index: I,
     ) -> Result<T, Error>
-        ensures { RowRead (values self.now) (I.place index self.now) (Checked DB.Value.null DB.Value.type_of DB.TypeInfo.null_type DB.TypeInfo.named T.called (told NAMES_OWN (DB.TypeInfo.named T.own_type)) T.reads_type T.reads) (I.shown index) result }
+        ensures { RowRead values I.place I.shown self.now index (Checked DB.Value.null DB.Value.type_of DB.TypeInfo.null_type DB.TypeInfo.named NAMES_OWN T.called T.own_type T.reads_type T.reads) result }
     {
-        let value = self.try_get_raw(alloc, &index)?;
-        match owned_checked::<DB, T>(alloc, value, Self::NAMES_OWN) {
-            Ok(read) => Ok(read),
-            Err(fault) => Err(refused::<Self, I>(alloc, &index, fault)),
+        match self.try_get_raw(alloc, &index) {
+            Ok(value) => labelled::<Self, I, T>(
+                alloc,
+                &index,
+                owned_checked::<DB, T>(alloc, value, Self::NAMES_OWN),
+            ),
+            Err(error) => Err(error),
         }
     }
 
@@ -123,12 +127,11 @@ pub trait Row<DB: Database>: Sized {
         alloc: Global,
         index: I,
     ) -> Result<T, Error>
-        ensures { RowRead (values self.now) (I.place index self.now) T.reads (I.shown index) result }
+        ensures { RowRead values I.place I.shown self.now index T.reads result }
     {
-        let value = self.try_get_raw(alloc, &index)?;
-        match T::decode_owned(alloc, value) {
-            Ok(read) => Ok(read),
-            Err(fault) => Err(refused::<Self, I>(alloc, &index, fault)),
+        match self.try_get_raw(alloc, &index) {
+            Ok(value) => { labelled::<Self, I, T>(alloc, &index, T::decode_owned(alloc, value)) }
+            Err(error) => Err(error),
         }
     }
 
@@ -138,8 +141,8 @@ pub trait Row<DB: Database>: Sized {
         alloc: Global,
         index: I,
     ) -> Result<T, OutOfMemory>
-        requires { (r : Result T Error) → RowRead (values self.now) (I.place index self.now) (Checked DB.Value.null DB.Value.type_of DB.TypeInfo.null_type DB.TypeInfo.named T.called (told NAMES_OWN (DB.TypeInfo.named T.own_type)) T.reads_type T.reads) (I.shown index) r → IsGiven r }
-        ensures { IfOk result (λ read. RowRead (values self.now) (I.place index self.now) (Checked DB.Value.null DB.Value.type_of DB.TypeInfo.null_type DB.TypeInfo.named T.called (told NAMES_OWN (DB.TypeInfo.named T.own_type)) T.reads_type T.reads) (I.shown index) (Ok read)) }
+        requires { NeverRefuses (RowRead values I.place I.shown self.now index (Checked DB.Value.null DB.Value.type_of DB.TypeInfo.null_type DB.TypeInfo.named NAMES_OWN T.called T.own_type T.reads_type T.reads)) }
+        ensures { GivesValue (RowRead values I.place I.shown self.now index (Checked DB.Value.null DB.Value.type_of DB.TypeInfo.null_type DB.TypeInfo.named NAMES_OWN T.called T.own_type T.reads_type T.reads)) result }
     {
         given(self.try_get::<T, I>(alloc, index))
     }
@@ -150,8 +153,8 @@ pub trait Row<DB: Database>: Sized {
         alloc: Global,
         index: I,
     ) -> Result<T, OutOfMemory>
-        requires { (r : Result T Error) → RowRead (values self.now) (I.place index self.now) T.reads (I.shown index) r → IsGiven r }
-        ensures { IfOk result (λ read. RowRead (values self.now) (I.place index self.now) T.reads (I.shown index) (Ok read)) }
+        requires { NeverRefuses (RowRead values I.place I.shown self.now index T.reads) }
+        ensures { GivesValue (RowRead values I.place I.shown self.now index T.reads) result }
     {
         given(self.try_get_unchecked::<T, I>(alloc, index))
     }

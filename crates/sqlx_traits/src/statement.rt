@@ -4,6 +4,7 @@ ghost use Rattle.sqlx_traits.specs.Parameters.{Parameters, parameters_seen};
 ghost use Rattle.sqlx_traits.specs.Places.{IsGiven, at_place};
 ghost use Rattle.sqlx_traits.specs.Reads.{Answers};
 
+use crate::column_index::item_at;
 use crate::{ColumnIndex, Database, Either};
 use sqlx_text::{Error, OutOfMemory, SqlStr};
 use std::alloc::Global;
@@ -43,14 +44,9 @@ pub trait Statement<DB: Database>: Sized {
     ) -> Result<&DB::Column, Error>
         ensures { Answers (λ column. column.now) Error.OutOfMemory (at_place (described self.now) (I.place index self.now)) result }
     {
-        let index = index.index(alloc, self)?;
-        let columns = self.columns();
-        match columns.get(index) {
-            Some(column) => Ok(column),
-            None => Err(Error::ColumnIndexOutOfBounds {
-                index,
-                len: columns.len(),
-            }),
+        match index.index(alloc, self) {
+            Ok(at) => item_at(self.columns(), at),
+            Err(error) => Err(error),
         }
     }
 

@@ -1,5 +1,6 @@
 //! Step lists: the results and rows of a statement, handed out one by one.
-ghost use Rattle.std.specs.Prelude.{◌≡◌, ◌++◌, ◌∷◌, [], Err, MatchOption, Ok, map};
+ghost use Rattle.std.specs.Prelude.{◌≡◌, ◌++◌, ◌∷◌, [], Err, Ok, map};
+ghost use Rattle.either.specs.declared.Either.TheVariants.{Left};
 ghost use Rattle.sqlx_text.specs.Errors.{error_of};
 ghost use Rattle.sqlx_traits.specs.StepList.{ended};
 
@@ -35,17 +36,18 @@ impl LastError {
 #[derive(Drop)]
 pub struct StepList<Q, R> {
     items: VecDeque<Either<Q, R>>,
+    result: Option<Q>,
     last: Option<LastError>,
 }
 
 impl<Q, R> Model for StepList<Q, R> {
     ghost use Rattle.std.specs.Prelude.{◌++◌, Ok, map, option_map};
     ghost use Rattle.sqlx_text.specs.declared.error.Error.{Error};
-    ghost use Rattle.sqlx_traits.specs.StepList.{Steps, ended};
+    ghost use Rattle.sqlx_traits.specs.StepList.{Steps, ended, result_step};
 
     ghost Value = { Steps Q R Error };
 
-    ghost view = { λ list. map Ok list.items.items ++ ended (option_map (λ last. last.error) list.last) };
+    ghost view = { λ list. map Ok list.items.items ++ result_step list.result ++ ended (option_map (λ last. last.error) list.last) };
 }
 
 /// What [`crate::Executor::fetch_many`] gives.
@@ -60,7 +62,11 @@ impl<Q, R> StepList<Q, R> {
             Some(error) => Some(LastError { error }),
             None => None,
         };
-        StepList { items, last }
+        StepList {
+            items,
+            result: None,
+            last,
+        }
     }
 
     /// An error and nothing before it. It takes no memory.
@@ -69,7 +75,19 @@ impl<Q, R> StepList<Q, R> {
     {
         StepList {
             items: VecDeque::new(alloc),
+            result: None,
             last: Some(LastError { error }),
+        }
+    }
+
+    /// A result and nothing else. It takes no memory.
+    pub fn of_result(alloc: Global, only: Q) -> Self
+        ensures { result ≡ Ok (Left only) ∷ [] }
+    {
+        StepList {
+            items: VecDeque::new(alloc),
+            result: Some(only),
+            last: None,
         }
     }
 
@@ -82,16 +100,27 @@ impl<Q, R> StepList<Q, R> {
             fault => StepList::refused(alloc, Error::Encode(fault)),
         }
     }
+}
+
+impl<Q: Drop, R: Drop> Iterator for StepList<Q, R> {
+    type Item = Result<Either<Q, R>, Error>;
+
+    ghost use Rattle.std.specs.Iterator.{YieldsFirst, item_count};
+
+    ghost next_gives = { YieldsFirst (λ steps. steps) };
+
+    ghost remaining = { item_count (λ steps. steps) };
 
     /// The next result or row, or the error behind them, and `None` at the end.
-    pub fn next(&mut self) -> Option<Result<Either<Q, R>, Error>>
-        ensures { MatchOption result ((self.old ≡ []) × (self.new ≡ [])) (λ item. self.old ≡ item ∷ self.new) }
-    {
+    fn next(&mut self) -> Option<Result<Either<Q, R>, Error>> {
         match self.items.pop_front() {
             Some(item) => Some(Ok(item)),
-            None => match self.last.take() {
-                Some(last) => Some(Err(last.into_error())),
-                None => None,
+            None => match self.result.take() {
+                Some(result) => Some(Ok(Either::Left(result))),
+                None => match self.last.take() {
+                    Some(last) => Some(Err(last.into_error())),
+                    None => None,
+                },
             },
         }
     }

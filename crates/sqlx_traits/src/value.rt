@@ -1,8 +1,6 @@
 //! A value of a row, and its reads into types that own what they read.
-ghost use Rattle.std.specs.Prelude.{◌≡◌, Bool, IfOk, Ok, Result, true};
-ghost use Rattle.sqlx_text.specs.declared.error.Error.{Error};
-ghost use Rattle.sqlx_traits.specs.Places.{IsGiven};
-ghost use Rattle.sqlx_traits.specs.Reads.{Checked, ValueRead, told};
+ghost use Rattle.std.specs.Prelude.{◌≡◌, Bool, true};
+ghost use Rattle.sqlx_traits.specs.Reads.{Checked, GivesValue, NeverRefuses, ValueRead};
 
 use crate::reads::{given, owned_checked};
 use crate::{Database, DecodeOwned, SqlType, TypeInfo};
@@ -34,7 +32,7 @@ pub trait Value<DB: Database>: Sized {
 
     /// Reads the value, whose type has to fit; an error is `Decode` or want of memory.
     final fn try_decode<T: DecodeOwned<DB> + SqlType<DB>>(&self, alloc: Global) -> Result<T, Error>
-        ensures { ValueRead (Checked DB.Value.null DB.Value.type_of DB.TypeInfo.null_type DB.TypeInfo.named T.called (told true (DB.TypeInfo.named T.own_type)) T.reads_type T.reads (itself self.now)) result }
+        ensures { ValueRead (Checked DB.Value.null DB.Value.type_of DB.TypeInfo.null_type DB.TypeInfo.named true T.called T.own_type T.reads_type T.reads (itself self.now)) result }
     {
         match owned_checked::<DB, T>(alloc, self.as_value(), true) {
             Ok(read) => Ok(read),
@@ -57,16 +55,16 @@ pub trait Value<DB: Database>: Sized {
         &self,
         alloc: Global,
     ) -> Result<T, OutOfMemory>
-        requires { (r : Result T Error) → ValueRead (Checked DB.Value.null DB.Value.type_of DB.TypeInfo.null_type DB.TypeInfo.named T.called (told true (DB.TypeInfo.named T.own_type)) T.reads_type T.reads (itself self.now)) r → IsGiven r }
-        ensures { IfOk result (λ read. ValueRead (Checked DB.Value.null DB.Value.type_of DB.TypeInfo.null_type DB.TypeInfo.named T.called (told true (DB.TypeInfo.named T.own_type)) T.reads_type T.reads (itself self.now)) (Ok read)) }
+        requires { NeverRefuses (ValueRead (Checked DB.Value.null DB.Value.type_of DB.TypeInfo.null_type DB.TypeInfo.named true T.called T.own_type T.reads_type T.reads (itself self.now))) }
+        ensures { GivesValue (ValueRead (Checked DB.Value.null DB.Value.type_of DB.TypeInfo.null_type DB.TypeInfo.named true T.called T.own_type T.reads_type T.reads (itself self.now))) result }
     {
         given(self.try_decode::<T>(alloc))
     }
 
     /// Reads the value, whatever its type, of which it is known that it can be read.
     final fn decode_unchecked<T: DecodeOwned<DB>>(&self, alloc: Global) -> Result<T, OutOfMemory>
-        requires { (r : Result T Error) → ValueRead (T.reads (itself self.now)) r → IsGiven r }
-        ensures { IfOk result (λ read. ValueRead (T.reads (itself self.now)) (Ok read)) }
+        requires { NeverRefuses (ValueRead (T.reads (itself self.now))) }
+        ensures { GivesValue (ValueRead (T.reads (itself self.now))) result }
     {
         given(self.try_decode_unchecked::<T>(alloc))
     }

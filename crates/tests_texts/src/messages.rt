@@ -153,5 +153,6 @@ fn prints_each_small_fault(rt: HostRuntime) -> Result<(), Fail> {
         UnexpectedNullError,
         "unexpected null; try decoding as an `Option`",
     )?;
-    shows(&rt, OutOfMemory, "out of memory")
+    shows(&rt, OutOfMemory, "out of memory")?;
+    shows(&rt, refusal(ErrorKind::Other), "busy")
 }

@@ -6,20 +6,18 @@ use std::test::*;
 #[test]
 fn hands_back_the_statement_that_goes(rt: HostRuntime) -> Result<(), Fail> {
     let mut cache = StatementCache::new(rt.alloc(), 2)?;
-    for (used, sql, number, gone) in [
-        ("none", "a", 1, None),
-        ("none", "b", 2, None),
-        ("a", "c", 3, Some(2)),
-        ("none", "a", 4, Some(1)),
-        ("b", "d", 5, Some(3)),
+    for (used, found, sql, number, gone) in [
+        ("a", None, "a", 1, None),
+        ("c", None, "b", 2, None),
+        ("a", Some(1), "c", 3, Some(2)),
+        ("b", None, "a", 4, Some(1)),
+        ("b", None, "d", 5, Some(3)),
     ] {
-        cache.get_mut(used);
-        assert_eq!(rt; cache.insert(sql, number), Ok(gone), "at {sql} {number}");
+        let told = (cache.get_mut(used).copied(), cache.insert(sql, number));
+        assert_eq!(rt; told, (found, Ok(gone)), "at {number}");
     }
-    for (sql, there) in [("a", true), ("b", false), ("c", false), ("d", true)] {
-        assert_eq!(rt; cache.contains_key(sql), there, "at {sql}");
-    }
-    assert_eq!(rt; cache.get_mut("a").copied(), Some(4));
+    let there = (cache.contains_key("a"), cache.contains_key("c"));
+    assert_eq!(rt; there, (true, false));
     Ok(())
 }
 
@@ -29,18 +27,18 @@ fn forgets_statements(rt: HostRuntime) -> Result<(), Fail> {
     for sql in ["a", "b", "c"] {
         drop(cache.insert(sql, sql));
     }
-    assert_eq!(rt; cache.remove_lru(), Some("b"));
-    assert_eq!(rt; cache.len(), 1);
+    let told = (cache.remove_lru(), cache.len());
+    assert_eq!(rt; told, (Some("b"), 1));
     cache.clear();
-    assert!(rt; cache.is_empty() && cache.is_enabled());
-    assert_eq!(rt; cache.capacity(), 2);
+    let told = (cache.is_empty(), cache.is_enabled(), cache.capacity());
+    assert_eq!(rt; told, (true, true, 2));
     Ok(())
 }
 
 #[test]
 fn a_cache_of_none_keeps_nothing(rt: HostRuntime) -> Result<(), Fail> {
     let mut cache = StatementCache::new(rt.alloc(), 0)?;
-    assert_eq!(rt; cache.insert("a", 1), Ok(None));
-    assert!(rt; cache.is_empty() && !cache.is_enabled());
+    let told = (cache.insert("a", 1), cache.is_empty(), cache.is_enabled());
+    assert_eq!(rt; told, (Ok(None), true, false));
     Ok(())
 }

@@ -1,14 +1,12 @@
 //! The texts of statements, whatever they are made from.
 
 use sqlx_text::*;
+use std::alloc::Global;
 use std::borrow::CowStr;
 use std::boxed::BoxedStr;
 use std::hash::{DefaultHasher, Hash, Hasher};
+use std::process::Abort;
 use std::test::*;
-
-fn made_of<T: SqlSafeStr>(rt: &HostRuntime, text: T) -> Result<SqlStr, OutOfMemory> {
-    text.into_sql_str(rt.alloc())
-}
 
 fn hash_of<T: Hash>(value: &T) -> u64 {
     let mut hasher = DefaultHasher::new();
@@ -16,48 +14,57 @@ fn hash_of<T: Hash>(value: &T) -> u64 {
     hasher.finish()
 }
 
-#[test]
-fn keeps_each_text(rt: HostRuntime) -> Result<(), Fail> {
-    let alloc = rt.alloc();
+// Stops the test where the statement that is made isn't `a`.
+fn makes_an_a<R: Alloc<A = Global> + Abort, T: SqlSafeStr>(rt: &R, text: T) -> Result<(), Fail> {
     let a = SqlStr::from_static("a");
-    let b = SqlStr::from_static("b");
-    for made in [
-        made_of(&rt, "a"),
-        made_of(&rt, AssertSqlSafe("a")),
-        made_of(&rt, AssertSqlSafe(String::from_str(alloc, "a")?)),
-        made_of(&rt, AssertSqlSafe(BoxedStr::from_str(alloc, "a")?)),
-        made_of(&rt, AssertSqlSafe(CowStr::Borrowed("a"))),
-        made_of(
-            &rt,
-            AssertSqlSafe(CowStr::Owned(String::from_str(alloc, "a")?)),
-        ),
-        made_of(&rt, AssertSqlSafe(UStr::from_static("a"))),
-        made_of(&rt, SqlStr::from_static("a")),
-    ] {
-        let sql = made?;
-        assert_eq!(rt; sql.as_str(), "a");
-        assert!(rt; sql.is("a") && !sql.is("b") && sql == a && sql < b);
-        assert!(rt; hash_of(&sql) == hash_of(&a) && hash_of(&sql) != hash_of(&b));
-        assert_eq!(rt; sql.try_clone(alloc)?, sql);
-    }
+    let sql = text.into_sql_str(rt.alloc())?;
+    let told = (sql.as_str(), sql.is("a"), sql.is("b"), hash_of(&sql));
+    assert_eq!(rt; told, ("a", true, false, hash_of(&a)));
+    assert_eq!(rt; sql.try_clone(rt.alloc())?, a);
+    Ok(())
+}
+
+#[test]
+fn takes_texts_that_stand_there(rt: HostRuntime) -> Result<(), Fail> {
+    makes_an_a(&rt, "a")?;
+    makes_an_a(&rt, SqlStr::from_static("a"))?;
+    makes_an_a(&rt, AssertSqlSafe("a"))?;
+    makes_an_a(&rt, AssertSqlSafe(UStr::from_static("a")))?;
+    makes_an_a(&rt, AssertSqlSafe(CowStr::Borrowed("a")))
+}
+
+#[test]
+fn takes_texts_that_are_owned(rt: HostRuntime) -> Result<(), Fail> {
+    let alloc = rt.alloc();
+    makes_an_a(&rt, AssertSqlSafe(String::from_str(alloc, "a")?))?;
+    makes_an_a(&rt, AssertSqlSafe(BoxedStr::from_str(alloc, "a")?))?;
+    let owned = CowStr::Owned(String::from_str(alloc, "a")?);
+    makes_an_a(&rt, AssertSqlSafe(owned))
+}
+
+// Stops the test where the text isn't `abc`.
+fn is_abc<R: Alloc<A = Global> + Abort>(rt: &R, text: UStr) -> Result<(), Fail> {
+    let abc = UStr::from_static("abc");
+    let shown = format!(in rt.alloc(); "{text:>5} {text:?}")?;
+    let told = (shown.as_str(), hash_of(&text), text == abc);
+    assert_eq!(rt; told, ("  abc \"abc\"", hash_of(&abc), true));
     Ok(())
 }
 
 #[test]
 fn a_text_is_shared_or_owned_alike(rt: HostRuntime) -> Result<(), Fail> {
     let alloc = rt.alloc();
-    let shared = UStr::from_static("abc");
-    for owned in [
-        UStr::new(alloc, "abc")?,
-        UStr::from_string(String::from_str(alloc, "abc")?),
-        shared.try_clone(alloc)?,
-    ] {
-        let copy = owned.try_clone(alloc)?;
-        assert!(rt; copy == shared && hash_of(&copy) == hash_of(&shared));
-        assert!(rt; copy > UStr::from_static("abb"));
-        let shown = format!(in alloc; "{copy:>5} {copy:?}")?;
-        assert_eq!(rt; shown.as_str(), "  abc \"abc\"");
-    }
+    let owned = UStr::new(alloc, "abc")?;
+    is_abc(&rt, owned.try_clone(alloc)?)?;
+    is_abc(&rt, UStr::from_static("abc").try_clone(alloc)?)?;
+    is_abc(&rt, UStr::from_string(String::from_str(alloc, "abc")?))
+}
+
+#[test]
+fn orders_and_parts_texts(rt: HostRuntime) -> Result<(), Fail> {
+    let (a, b) = (SqlStr::from_static("a"), SqlStr::from_static("b"));
+    let told = (a < b, a == b, hash_of(&a) == hash_of(&b));
+    assert_eq!(rt; told, (true, false, false));
     Ok(())
 }
 
@@ -88,8 +95,7 @@ fn names_each_kind(rt: HostRuntime) -> Result<(), Fail> {
         (AnyTypeInfoKind::Blob, "BLOB", false),
     ] {
         let shown = format!(in rt.alloc(); "{kind}")?;
-        assert_eq!(rt; shown.as_str(), name);
-        assert_eq!(rt; kind.is_integer(), whole);
+        assert_eq!(rt; (shown.as_str(), kind.is_integer()), (name, whole));
     }
     Ok(())
 }

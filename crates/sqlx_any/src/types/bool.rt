@@ -1,9 +1,24 @@
 //! Truth values.
-use super::{put, unexpected};
-use crate::{Any, AnyArgumentBuffer, AnyConnectionBackend, AnyTypeInfo, AnyValue, AnyValueKind};
+ghost use Rattle.std.specs.Prelude.{◌≡◌};
+ghost use Rattle.sqlx_any.specs.TypedRead.{read_bool};
+
+use super::{misfit, put, unexpected};
+use crate::{
+    Any, AnyArgumentBuffer, AnyConnectionBackend, AnyRead, AnyTypeInfo, AnyValue, AnyValueKind,
+};
 use sqlx_text::{AnyTypeInfoKind, Fault};
 use sqlx_traits::{Decode, DecodeOwned, Encode, IsNull, SqlType, TypeInfo};
 use std::alloc::Global;
+
+// The truth value that a value is.
+fn truth(value: &AnyValue) -> Result<bool, Fault>
+    ensures { result ≡ read_bool value.now.kind }
+{
+    match value.kind {
+        AnyValueKind::Bool(b) => Ok(b),
+        _ => Err(unexpected(AnyTypeInfoKind::Bool, value)),
+    }
+}
 
 impl<B: AnyConnectionBackend> SqlType<Any<B>> for bool {
     ghost use Rattle.std.specs.Prelude.{codes};
@@ -70,10 +85,7 @@ impl<'r, B: AnyConnectionBackend> Decode<'r, Any<B>> for bool {
     ghost reads = { λ value r. Reads (λ b. b) (read_bool value.kind) r };
 
     fn decode(_alloc: Global, value: &'r AnyValue) -> Result<bool, Fault> {
-        match value.kind {
-            AnyValueKind::Bool(b) => Ok(b),
-            _ => Err(unexpected(AnyTypeInfoKind::Bool, value)),
-        }
+        truth(value)
     }
 }
 
@@ -85,5 +97,25 @@ impl<B: AnyConnectionBackend> DecodeOwned<Any<B>> for bool {
 
     fn decode_owned(alloc: Global, value: &AnyValue) -> Result<bool, Fault> {
         <bool as Decode<Any<B>>>::decode(alloc, value)
+    }
+}
+
+impl<'r> AnyRead<'r> for bool {
+    ghost use Rattle.sqlx_any.specs.TypedRead.{TypedRead, a_bool};
+
+    ghost reads = { TypedRead (λ b. b) a_bool };
+
+    fn read(
+        _alloc: Global,
+        value: &'r AnyValue,
+        checked: bool,
+        in_row: bool,
+    ) -> Result<bool, Fault> {
+        let kind = value.kind.kind();
+        let takes = matches!(kind, AnyTypeInfoKind::Bool);
+        match misfit("bool", AnyTypeInfoKind::Bool, takes, checked, in_row, kind) {
+            Some(fault) => Err(fault),
+            None => truth(value),
+        }
     }
 }

@@ -1,9 +1,11 @@
 //! Whole numbers: each type reads each kind of them, as far as its range goes.
 ghost use Rattle.std.specs.Prelude.{◌≡◌};
-ghost use Rattle.sqlx_any.specs.TypedRead.{read_whole, within};
+ghost use Rattle.sqlx_any.specs.TypedRead.{read_i16, read_i32, read_i64, read_whole, within};
 
-use super::{put, unexpected};
-use crate::{Any, AnyArgumentBuffer, AnyConnectionBackend, AnyTypeInfo, AnyValue, AnyValueKind};
+use super::{misfit, put, unexpected};
+use crate::{
+    Any, AnyArgumentBuffer, AnyConnectionBackend, AnyRead, AnyTypeInfo, AnyValue, AnyValueKind,
+};
 use sqlx_text::{AnyTypeInfoKind, Fault};
 use sqlx_traits::{Decode, DecodeOwned, Encode, IsNull, SqlType};
 use std::alloc::Global;
@@ -28,6 +30,21 @@ fn whole(own: AnyTypeInfoKind, low: i64, high: i64, value: &AnyValue) -> Result<
         AnyValueKind::Integer(n) => in_range(n as i64, low, high),
         AnyValueKind::BigInt(n) => in_range(n, low, high),
         _ => Err(unexpected(own, value)),
+    }
+}
+
+// The number of 16 bits that a value is.
+fn whole_i16(value: &AnyValue) -> Result<i16, Fault>
+    ensures { result ≡ read_i16 value.now.kind }
+{
+    match whole(
+        AnyTypeInfoKind::SmallInt,
+        i16::MIN as i64,
+        i16::MAX as i64,
+        value,
+    ) {
+        Ok(n) => Ok(n as i16),
+        Err(fault) => Err(fault),
     }
 }
 
@@ -97,15 +114,7 @@ impl<'r, B: AnyConnectionBackend> Decode<'r, Any<B>> for i16 {
     ghost reads = { λ value r. Reads (λ n. n) (read_i16 value.kind) r };
 
     fn decode(_alloc: Global, value: &'r AnyValue) -> Result<i16, Fault> {
-        match whole(
-            AnyTypeInfoKind::SmallInt,
-            i16::MIN as i64,
-            i16::MAX as i64,
-            value,
-        ) {
-            Ok(n) => Ok(n as i16),
-            Err(fault) => Err(fault),
-        }
+        whole_i16(value)
     }
 }
 
@@ -117,6 +126,21 @@ impl<B: AnyConnectionBackend> DecodeOwned<Any<B>> for i16 {
 
     fn decode_owned(alloc: Global, value: &AnyValue) -> Result<i16, Fault> {
         <i16 as Decode<Any<B>>>::decode(alloc, value)
+    }
+}
+
+// The number of 32 bits that a value is.
+fn whole_i32(value: &AnyValue) -> Result<i32, Fault>
+    ensures { result ≡ read_i32 value.now.kind }
+{
+    match whole(
+        AnyTypeInfoKind::Integer,
+        i32::MIN as i64,
+        i32::MAX as i64,
+        value,
+    ) {
+        Ok(n) => Ok(n as i32),
+        Err(fault) => Err(fault),
     }
 }
 
@@ -186,15 +210,7 @@ impl<'r, B: AnyConnectionBackend> Decode<'r, Any<B>> for i32 {
     ghost reads = { λ value r. Reads (λ n. n) (read_i32 value.kind) r };
 
     fn decode(_alloc: Global, value: &'r AnyValue) -> Result<i32, Fault> {
-        match whole(
-            AnyTypeInfoKind::Integer,
-            i32::MIN as i64,
-            i32::MAX as i64,
-            value,
-        ) {
-            Ok(n) => Ok(n as i32),
-            Err(fault) => Err(fault),
-        }
+        whole_i32(value)
     }
 }
 
@@ -207,6 +223,13 @@ impl<B: AnyConnectionBackend> DecodeOwned<Any<B>> for i32 {
     fn decode_owned(alloc: Global, value: &AnyValue) -> Result<i32, Fault> {
         <i32 as Decode<Any<B>>>::decode(alloc, value)
     }
+}
+
+// The number of 64 bits that a value is.
+fn whole_i64(value: &AnyValue) -> Result<i64, Fault>
+    ensures { result ≡ read_i64 value.now.kind }
+{
+    whole(AnyTypeInfoKind::BigInt, i64::MIN, i64::MAX, value)
 }
 
 impl<B: AnyConnectionBackend> SqlType<Any<B>> for i64 {
@@ -275,7 +298,7 @@ impl<'r, B: AnyConnectionBackend> Decode<'r, Any<B>> for i64 {
     ghost reads = { λ value r. Reads (λ n. n) (read_i64 value.kind) r };
 
     fn decode(_alloc: Global, value: &'r AnyValue) -> Result<i64, Fault> {
-        whole(AnyTypeInfoKind::BigInt, i64::MIN, i64::MAX, value)
+        whole_i64(value)
     }
 }
 
@@ -287,5 +310,79 @@ impl<B: AnyConnectionBackend> DecodeOwned<Any<B>> for i64 {
 
     fn decode_owned(alloc: Global, value: &AnyValue) -> Result<i64, Fault> {
         <i64 as Decode<Any<B>>>::decode(alloc, value)
+    }
+}
+
+impl<'r> AnyRead<'r> for i16 {
+    ghost use Rattle.sqlx_any.specs.TypedRead.{TypedRead, an_i16};
+
+    ghost reads = { TypedRead (λ n. n) an_i16 };
+
+    fn read(
+        _alloc: Global,
+        value: &'r AnyValue,
+        checked: bool,
+        in_row: bool,
+    ) -> Result<i16, Fault> {
+        let kind = value.kind.kind();
+        let takes = kind.is_integer();
+        match misfit(
+            "i16",
+            AnyTypeInfoKind::SmallInt,
+            takes,
+            checked,
+            in_row,
+            kind,
+        ) {
+            Some(fault) => Err(fault),
+            None => whole_i16(value),
+        }
+    }
+}
+
+impl<'r> AnyRead<'r> for i32 {
+    ghost use Rattle.sqlx_any.specs.TypedRead.{TypedRead, an_i32};
+
+    ghost reads = { TypedRead (λ n. n) an_i32 };
+
+    fn read(
+        _alloc: Global,
+        value: &'r AnyValue,
+        checked: bool,
+        in_row: bool,
+    ) -> Result<i32, Fault> {
+        let kind = value.kind.kind();
+        let takes = kind.is_integer();
+        match misfit(
+            "i32",
+            AnyTypeInfoKind::Integer,
+            takes,
+            checked,
+            in_row,
+            kind,
+        ) {
+            Some(fault) => Err(fault),
+            None => whole_i32(value),
+        }
+    }
+}
+
+impl<'r> AnyRead<'r> for i64 {
+    ghost use Rattle.sqlx_any.specs.TypedRead.{TypedRead, an_i64};
+
+    ghost reads = { TypedRead (λ n. n) an_i64 };
+
+    fn read(
+        _alloc: Global,
+        value: &'r AnyValue,
+        checked: bool,
+        in_row: bool,
+    ) -> Result<i64, Fault> {
+        let kind = value.kind.kind();
+        let takes = kind.is_integer();
+        match misfit("i64", AnyTypeInfoKind::BigInt, takes, checked, in_row, kind) {
+            Some(fault) => Err(fault),
+            None => whole_i64(value),
+        }
     }
 }

@@ -22,7 +22,7 @@ use std::alloc::Global;
 use std::mem;
 
 /// What is done on a connection.
-#[derive(Clone, Copy, Debug, PartialEq, Eq)]
+#[derive(Clone, Copy)]
 pub enum Act {
     Begin,
     /// A transaction is begun by a statement of the client's own, which begins one or doesn't.
@@ -37,7 +37,7 @@ pub enum Act {
 }
 
 /// What a statement came to.
-#[derive(Clone, Copy, Debug, PartialEq, Eq)]
+#[derive(Clone, Copy)]
 pub enum Outcome {
     Ran(Plain),
     /// Refused, with the reply that tells why.
@@ -117,10 +117,14 @@ fn run_text(session: &mut StoreSession, text: &str, arguments: &[i64]) -> Result
 {
     match session.statement(text, arguments) {
         Ok(plain) => Ok(Outcome::Ran(plain)),
-        Err(error) => match refused_reply(&error) {
-            Some(reply) => Ok(Outcome::Refused(reply)),
-            None => Err(PlayError::OutOfMemory),
-        },
+        Err(error) => {
+            let refused = refused_reply(&error);
+            drop(error);
+            match refused {
+                Some(reply) => Ok(Outcome::Refused(reply)),
+                None => Err(PlayError::OutOfMemory),
+            }
+        }
     }
 }
 
@@ -128,10 +132,9 @@ fn put(session: &mut StoreSession, key: i64, value: i64) -> Result<Reply, PlayEr
     ensures ok { IfOk result (λ reply. (reply ≡ reply_on (Act.Put key value) session.old) × (session.new ≡ left_by (Act.Put key value) session.old)) }
     ensures memory { IfErr result (λ e. e ≡ PlayError.OutOfMemory) }
 {
-    match run_text(session, PUT, &[key, value]) {
-        Ok(Outcome::Ran(plain)) => Ok(Reply::Written(plain.affected)),
-        Ok(Outcome::Refused(reply)) => Ok(reply),
-        Err(error) => Err(error),
+    match run_text(session, PUT, &[key, value])? {
+        Outcome::Ran(plain) => Ok(Reply::Written(plain.affected)),
+        Outcome::Refused(reply) => Ok(reply),
     }
 }
 
@@ -139,10 +142,9 @@ fn delete(session: &mut StoreSession, key: i64) -> Result<Reply, PlayError>
     ensures ok { IfOk result (λ reply. (reply ≡ reply_on (Act.Delete key) session.old) × (session.new ≡ left_by (Act.Delete key) session.old)) }
     ensures memory { IfErr result (λ e. e ≡ PlayError.OutOfMemory) }
 {
-    match run_text(session, DELETE, &[key]) {
-        Ok(Outcome::Ran(plain)) => Ok(Reply::Written(plain.affected)),
-        Ok(Outcome::Refused(reply)) => Ok(reply),
-        Err(error) => Err(error),
+    match run_text(session, DELETE, &[key])? {
+        Outcome::Ran(plain) => Ok(Reply::Written(plain.affected)),
+        Outcome::Refused(reply) => Ok(reply),
     }
 }
 
@@ -159,10 +161,9 @@ fn get(session: &mut StoreSession, key: i64) -> Result<Reply, PlayError>
     ensures ok { IfOk result (λ reply. (reply ≡ reply_on (Act.Get key) session.old) × (session.new ≡ left_by (Act.Get key) session.old)) }
     ensures memory { IfErr result (λ e. e ≡ PlayError.OutOfMemory) }
 {
-    match run_text(session, GET, &[key]) {
-        Ok(Outcome::Ran(plain)) => Ok(found_reply(plain.value)),
-        Ok(Outcome::Refused(reply)) => Ok(reply),
-        Err(error) => Err(error),
+    match run_text(session, GET, &[key])? {
+        Outcome::Ran(plain) => Ok(found_reply(plain.value)),
+        Outcome::Refused(reply) => Ok(reply),
     }
 }
 
@@ -174,13 +175,12 @@ fn begin(session: &mut StoreSession, alloc: Global) -> Result<Reply, PlayError>
     let Ok(text) = begin_ansi_transaction_sql(alloc, depth) else {
         return Err(PlayError::OutOfMemory);
     };
-    match run_text(session, text.as_str(), &[]) {
-        Ok(Outcome::Ran(_)) => Ok(Reply::Level {
+    match run_text(session, text.as_str(), &[])? {
+        Outcome::Ran(_) => Ok(Reply::Level {
             depth: depth as u64 + 1,
             text: begin_at(depth),
         }),
-        Ok(Outcome::Refused(reply)) => Ok(reply),
-        Err(error) => Err(error),
+        Outcome::Refused(reply) => Ok(reply),
     }
 }
 
@@ -189,13 +189,12 @@ fn begin_immediate(session: &mut StoreSession) -> Result<Reply, PlayError>
         × (session.new ≡ spec.left_met (Act.Custom true) session.old (refusal_of (Some (spec.statement_at (Act.Custom true) session.old.link.depth)) session.old))) }
     ensures memory { IfErr result (λ e. e ≡ PlayError.OutOfMemory) }
 {
-    match run_text(session, "BEGIN IMMEDIATE", &[]) {
-        Ok(Outcome::Ran(_)) => Ok(Reply::Level {
+    match run_text(session, "BEGIN IMMEDIATE", &[])? {
+        Outcome::Ran(_) => Ok(Reply::Level {
             depth: 1,
             text: LevelText::BeginImmediate,
         }),
-        Ok(Outcome::Refused(reply)) => Ok(reply),
-        Err(error) => Err(error),
+        Outcome::Refused(reply) => Ok(reply),
     }
 }
 
@@ -204,10 +203,9 @@ fn select_one(session: &mut StoreSession) -> Result<Reply, PlayError>
         × (session.new ≡ spec.left_met (Act.Custom false) session.old (refusal_of (Some (spec.statement_at (Act.Custom false) session.old.link.depth)) session.old))) }
     ensures memory { IfErr result (λ e. e ≡ PlayError.OutOfMemory) }
 {
-    match run_text(session, SELECT_ONE, &[]) {
-        Ok(Outcome::Ran(_)) => Ok(Reply::BeginFailed),
-        Ok(Outcome::Refused(reply)) => Ok(reply),
-        Err(error) => Err(error),
+    match run_text(session, SELECT_ONE, &[])? {
+        Outcome::Ran(_) => Ok(Reply::BeginFailed),
+        Outcome::Refused(reply) => Ok(reply),
     }
 }
 
@@ -235,16 +233,15 @@ fn commit(session: &mut StoreSession, alloc: Global) -> Result<Reply, PlayError>
     let Ok(text) = commit_ansi_transaction_sql(alloc, depth) else {
         return Err(PlayError::OutOfMemory);
     };
-    match run_text(session, text.as_str(), &[]) {
-        Ok(Outcome::Ran(_)) => Ok(Reply::Level {
+    match run_text(session, text.as_str(), &[])? {
+        Outcome::Ran(_) => Ok(Reply::Level {
             depth: depth as u64 - 1,
             text: commit_at(depth),
         }),
-        Ok(Outcome::Refused(reply)) => {
+        Outcome::Refused(reply) => {
             session.start_rollback();
             Ok(reply)
         }
-        Err(error) => Err(error),
     }
 }
 
@@ -257,16 +254,15 @@ fn rollback(session: &mut StoreSession, alloc: Global) -> Result<Reply, PlayErro
     let Ok(text) = rollback_ansi_transaction_sql(alloc, depth) else {
         return Err(PlayError::OutOfMemory);
     };
-    match run_text(session, text.as_str(), &[]) {
-        Ok(Outcome::Ran(_)) => Ok(Reply::Level {
+    match run_text(session, text.as_str(), &[])? {
+        Outcome::Ran(_) => Ok(Reply::Level {
             depth: depth as u64 - 1,
             text: rollback_at(depth),
         }),
-        Ok(Outcome::Refused(reply)) => {
+        Outcome::Refused(reply) => {
             session.start_rollback();
             Ok(reply)
         }
-        Err(error) => Err(error),
     }
 }
 
@@ -324,6 +320,9 @@ pub fn run_on(
             *store = whole;
             Ok((link, reply))
         }
-        Err(error) => Err(error),
+        Err(error) => {
+            drop(session);
+            Err(error)
+        }
     }
 }

@@ -1,5 +1,5 @@
 //! The event `ask`.
-ghost use Rattle.std.specs.Prelude.{◌≡◌, ◌+◌, ◌^◌, ◌≤◌, IfOk, OnOk, IfErr};
+ghost use Rattle.std.specs.Prelude.{◌≡◌, ℕ, ◌+◌, ◌^◌, ◌≤◌, Some, None, Ok, Err, IfOk, OnOk, IfErr};
 ghost use Rattle.sqlx_script.specs.declared.step.Step.{Step};
 ghost use Rattle.sqlx_play.specs.PlaysEvent.{PlaysEvent};
 ghost use Rattle.sqlx_play.specs.StageStands.{last_of, numbers_of};
@@ -10,8 +10,21 @@ use sqlx_script::Reply;
 use sqlx_text::{Error, Moment};
 use std::alloc::Global;
 
+// The reply to an ask, none where memory was wanting.
+fn ask_reply(answer: &Result<u64, Error>) -> Option<Reply>
+    ensures drawn { (number : ℕ) → answer.now ≡ Ok number → result ≡ Some (Reply.Ticket number) }
+    ensures closed { answer.now ≡ Err Error.PoolClosed → result ≡ Some Reply.PoolClosed }
+    ensures memory { answer.now ≡ Err Error.OutOfMemory → result ≡ None }
+{
+    match answer {
+        Ok(number) => Some(Reply::Ticket(*number)),
+        Err(Error::PoolClosed) => Some(Reply::PoolClosed),
+        Err(_) => None,
+    }
+}
+
 /// A client asks for a connection.
-#[tactic(auto, unfolding(crate::specs::Answer::answer))]
+#[tactic(auto, unfolding(sqlx_rules::specs::Answer::answer))]
 pub fn ask(
     stage: &mut Stage,
     alloc: Global,
@@ -27,10 +40,11 @@ pub fn ask(
     ensures used { numbers_of stage.new ≤ numbers_of stage.old + 2 ^ 20 }
     ensures memory { IfErr result (λ e. e ≡ PlayError.OutOfMemory) }
 {
-    match stage.core.ask(alloc, moment, client) {
-        Ok(number) => Ok(Reply::Ticket(number)),
-        Err(Error::PoolClosed) => Ok(Reply::PoolClosed),
-        Err(Error::OutOfMemory) => Err(PlayError::OutOfMemory),
-        Err(_) => unreachable!(),
+    let answer = stage.core.ask(alloc, moment, client);
+    let reply = ask_reply(&answer);
+    drop(answer);
+    match reply {
+        Some(reply) => Ok(reply),
+        None => Err(PlayError::OutOfMemory),
     }
 }

@@ -10,7 +10,7 @@ use sqlx_script::Reply;
 use sqlx_text::Moment;
 
 /// A client gives its ticket up.
-#[tactic(auto, unfolding(crate::specs::Answer::answer))]
+#[tactic(auto, unfolding(sqlx_rules::specs::Answer::answer))]
 pub fn cancel(
     stage: &mut Stage,
     moment: Moment,

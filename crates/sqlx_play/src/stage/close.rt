@@ -23,7 +23,7 @@ fn close_all(store: &mut MemStore, idle: &mut VecDeque<Idle<StoreLink>>)
 }
 
 /// The pool serves nobody from now on, and its idle connections are closed. A second close changes nothing.
-#[tactic(auto, unfolding(crate::specs::Answer::answer))]
+#[tactic(auto, unfolding(sqlx_rules::specs::Answer::answer))]
 pub fn close(stage: &mut Stage, moment: Moment) -> Reply
     ensures ok { PlaysEvent stage.old stage.new (record { moment = moment; step = Step.Close }) result }
     ensures pool { stage.new.pool ≡ stage.old.pool }

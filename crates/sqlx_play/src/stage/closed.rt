@@ -8,7 +8,7 @@ use sqlx_script::Reply;
 use sqlx_text::Moment;
 
 /// How far the close has come. Nothing changes.
-#[tactic(auto, unfolding(crate::specs::Answer::answer))]
+#[tactic(auto, unfolding(sqlx_rules::specs::Answer::answer))]
 pub fn closed(stage: &Stage, moment: Moment) -> Reply
     ensures { PlaysEvent stage.now stage.now (record { moment = moment; step = Step.CloseState }) result }
 {

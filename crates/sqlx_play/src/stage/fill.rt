@@ -1,7 +1,7 @@
 //! Keeping the minimum: connections that are opened before any client asks.
 ghost use Rattle.std.specs.Prelude.{◌≡◌, ◌+◌, ◌^◌, ◌≤◌, true, IfOk, OnOk, IfErr};
 ghost use Rattle.sqlx_script.specs.Built.{sets_up};
-ghost use Rattle.sqlx_play.specs.Fills.{OpensOne, Fills};
+ghost use Rattle.sqlx_play.specs.KeepsMinimum.{OpensOne, KeepsMinimum};
 ghost use Rattle.sqlx_play.specs.StageStands.{last_of, numbers_of};
 
 use super::Stage;
@@ -56,7 +56,7 @@ fn open_accepted(
     requires in_order { last_of stage.old ≤ moment.0 }
     requires accepted { opens ≤ stage.old.out.opens }
     requires hook { sets_up stage.old.out.after_connect.answer ≡ true }
-    ensures ok { IfOk result (Fills stage.old stage.new moment.0 opens) }
+    ensures ok { IfOk result (KeepsMinimum stage.old stage.new moment.0 opens) }
     ensures pool { stage.new.pool ≡ stage.old.pool }
     ensures runs { OnOk result (stage.new.out.store.runs ≡ stage.old.out.store.runs) }
     ensures last { last_of stage.new ≤ moment.0 }
@@ -78,7 +78,7 @@ fn open_accepted(
 pub fn fill(stage: &mut Stage, alloc: Global, moment: Moment, opens: u32) -> Result<u64, PlayError>
     requires numbers { numbers_of stage.old + opens ≤ 2 ^ 63 }
     requires in_order { last_of stage.old ≤ moment.0 }
-    ensures ok { IfOk result (Fills stage.old stage.new moment.0 opens) }
+    ensures ok { IfOk result (KeepsMinimum stage.old stage.new moment.0 opens) }
     ensures pool { stage.new.pool ≡ stage.old.pool }
     ensures runs { OnOk result (stage.new.out.store.runs ≡ stage.old.out.store.runs) }
     ensures last { last_of stage.new ≤ moment.0 }

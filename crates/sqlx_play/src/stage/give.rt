@@ -3,7 +3,7 @@ ghost use Rattle.std.specs.Prelude.{◌≡◌, ◌+◌, ◌^◌, ◌≤◌, None
 ghost use Rattle.sqlx_play.specs.ScriptOutside.{give_letters};
 ghost use Rattle.sqlx_script.specs.declared.step.Step.{Step};
 ghost use Rattle.sqlx_play.specs.PlaysEvent.{PlaysEvent};
-ghost use Rattle.sqlx_play.specs.Returns.{lets_rest, Returns};
+ghost use Rattle.sqlx_play.specs.GivesBack.{lets_rest, GivesBack};
 ghost use Rattle.sqlx_play.specs.StageStands.{last_of, numbers_of};
 
 use super::Stage;
@@ -19,7 +19,7 @@ use sqlx_text::Moment;
 use std::alloc::Global;
 
 /// What became of a connection that was given back.
-#[derive(Clone, Copy, Debug, PartialEq, Eq)]
+#[derive(Clone, Copy)]
 pub enum Returned {
     Kept,
     Closed,
@@ -61,7 +61,7 @@ fn take_back(
     answers: GiveAnswers,
 ) -> Result<Returned, PlayError>
     requires in_order { last_of stage.old ≤ moment.0 }
-    ensures ok { IfOk result (Returns stage.old stage.new answers moment.0 client conn) }
+    ensures ok { IfOk result (GivesBack stage.old stage.new answers moment.0 client conn) }
     ensures pool { stage.new.pool ≡ stage.old.pool }
     ensures runs { OnOk result (stage.new.out.store.runs ≡ stage.old.out.store.runs) }
     ensures last { last_of stage.new ≤ moment.0 }
@@ -96,10 +96,8 @@ fn take_back(
                 created,
                 raw,
             };
-            match put_lent(&mut stage.lent, at, lent) {
-                Ok(()) => Ok(Returned::NotHeld),
-                Err(error) => Err(error),
-            }
+            put_lent(&mut stage.lent, at, lent)?;
+            Ok(Returned::NotHeld)
         }
     }
 }
@@ -124,13 +122,12 @@ pub fn give(
     ensures used { numbers_of stage.new ≤ numbers_of stage.old + 2 ^ 20 }
     ensures memory { IfErr result (λ e. e ≡ PlayError.OutOfMemory) }
 {
-    match take_back(stage, moment, client, u64::from(connection), answers) {
-        Ok(Returned::Kept) => Ok(Reply::Kept),
-        Ok(Returned::NotHeld) => Ok(Reply::NotHeld),
-        Ok(Returned::Closed) => match fill(stage, alloc, moment, opens) {
-            Ok(opened) => Ok(Reply::Closed(opened)),
-            Err(error) => Err(error),
-        },
-        Err(error) => Err(error),
+    match take_back(stage, moment, client, u64::from(connection), answers)? {
+        Returned::Kept => Ok(Reply::Kept),
+        Returned::NotHeld => Ok(Reply::NotHeld),
+        Returned::Closed => {
+            let opened = fill(stage, alloc, moment, opens)?;
+            Ok(Reply::Closed(opened))
+        }
     }
 }

@@ -1,13 +1,13 @@
 //! The events `end`, `detach` and `leak`: a client's connection leaves the pool.
 ghost use Rattle.std.specs.Prelude.{◌≡◌, ◌+◌, ◌^◌, ◌≤◌, find, Some, IfOk, OnOk, IfErr};
-ghost use Rattle.sqlx_pool_core.specs.declared.mark.Mark.{Mark};
+ghost use Rattle.sqlx_log.specs.declared.mark.Mark.{Mark};
 ghost use Rattle.sqlx_pool_core.specs.declared.steps.Lent.{Lent};
 ghost use Rattle.sqlx_pool_core.specs.KeepingSteps.{without_first};
 ghost use Rattle.mem_store.specs.Store.{Link, without};
 ghost use Rattle.sqlx_script.specs.declared.step.Step.{Step};
 ghost use Rattle.sqlx_play.specs.PlaysEvent.{PlaysEvent};
 ghost use Rattle.sqlx_play.specs.LentLinks.{is_lent};
-ghost use Rattle.sqlx_play.specs.Departs.{Departs};
+ghost use Rattle.sqlx_play.specs.LoanEnds.{LoanEnds};
 ghost use Rattle.sqlx_play.specs.StageStands.{last_of, numbers_of};
 
 use super::Stage;
@@ -33,7 +33,7 @@ fn close_lent(stage: &mut Stage, conn: u64)
 
 // Ends a client's connection.
 fn end_loan(stage: &mut Stage, moment: Moment, client: u32, conn: u64) -> bool
-    ensures ok { Departs stage.old stage.new (Mark.Closed conn) client conn result }
+    ensures ok { LoanEnds stage.old stage.new (Mark.Closed conn) client conn result }
     ensures pool { stage.new.pool ≡ stage.old.pool }
     ensures runs { stage.new.out.store.runs ≡ stage.old.out.store.runs }
     ensures last { last_of stage.new ≡ last_of stage.old }
@@ -49,7 +49,7 @@ fn end_loan(stage: &mut Stage, moment: Moment, client: u32, conn: u64) -> bool
 
 // Takes a client's connection out of the pool.
 fn detach_loan(stage: &mut Stage, moment: Moment, client: u32, conn: u64) -> bool
-    ensures ok { Departs stage.old stage.new (Mark.Detached conn) client conn result }
+    ensures ok { LoanEnds stage.old stage.new (Mark.Detached conn) client conn result }
     ensures pool { stage.new.pool ≡ stage.old.pool }
     ensures runs { stage.new.out.store.runs ≡ stage.old.out.store.runs }
     ensures last { last_of stage.new ≡ last_of stage.old }
@@ -65,7 +65,7 @@ fn detach_loan(stage: &mut Stage, moment: Moment, client: u32, conn: u64) -> boo
 
 // Takes a client's connection out of the pool, which keeps its place.
 fn leak_loan(stage: &mut Stage, moment: Moment, client: u32, conn: u64) -> bool
-    ensures ok { Departs stage.old stage.new (Mark.Leaked conn) client conn result }
+    ensures ok { LoanEnds stage.old stage.new (Mark.Leaked conn) client conn result }
     ensures pool { stage.new.pool ≡ stage.old.pool }
     ensures runs { stage.new.out.store.runs ≡ stage.old.out.store.runs }
     ensures last { last_of stage.new ≡ last_of stage.old }
@@ -101,10 +101,8 @@ pub fn end(
     if !end_loan(stage, moment, client, u64::from(connection)) {
         return Ok(Reply::NotHeld);
     }
-    match fill(stage, alloc, moment, opens) {
-        Ok(opened) => Ok(Reply::Closed(opened)),
-        Err(error) => Err(error),
-    }
+    let opened = fill(stage, alloc, moment, opens)?;
+    Ok(Reply::Closed(opened))
 }
 
 /// A client takes its connection out of the pool. The minimum is kept.
@@ -129,10 +127,8 @@ pub fn detach(
     if !detach_loan(stage, moment, client, u64::from(connection)) {
         return Ok(Reply::NotHeld);
     }
-    match fill(stage, alloc, moment, opens) {
-        Ok(opened) => Ok(Reply::Detached(opened)),
-        Err(error) => Err(error),
-    }
+    let opened = fill(stage, alloc, moment, opens)?;
+    Ok(Reply::Detached(opened))
 }
 
 /// A client takes its connection out of the pool, which keeps its place. The minimum is kept.
@@ -157,8 +153,6 @@ pub fn leak(
     if !leak_loan(stage, moment, client, u64::from(connection)) {
         return Ok(Reply::NotHeld);
     }
-    match fill(stage, alloc, moment, opens) {
-        Ok(opened) => Ok(Reply::Leaked(opened)),
-        Err(error) => Err(error),
-    }
+    let opened = fill(stage, alloc, moment, opens)?;
+    Ok(Reply::Leaked(opened))
 }

@@ -23,8 +23,6 @@ pub fn min(stage: &mut Stage, alloc: Global, moment: Moment, opens: u32) -> Resu
     ensures used { numbers_of stage.new ≤ numbers_of stage.old + 2 ^ 20 }
     ensures memory { IfErr result (λ e. e ≡ PlayError.OutOfMemory) }
 {
-    match fill(stage, alloc, moment, opens) {
-        Ok(opened) => Ok(Reply::Opened(opened)),
-        Err(error) => Err(error),
-    }
+    let opened = fill(stage, alloc, moment, opens)?;
+    Ok(Reply::Opened(opened))
 }

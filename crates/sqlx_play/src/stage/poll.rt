@@ -1,7 +1,7 @@
 //! The event `poll`.
 ghost use Rattle.std.specs.Prelude.{◌≡◌, ℕ, ◌+◌, ◌^◌, ◌≤◌, List, [], ◌∷◌, ◌++◌, Some, None, Err, false, IfOk, OnOk, IfErr, IfSome, is_ok};
 ghost use Rattle.sqlx_script.specs.declared.step.Step.{Step};
-ghost use Rattle.sqlx_pool_core.specs.declared.mark.Mark.{Mark};
+ghost use Rattle.sqlx_log.specs.declared.mark.Mark.{Mark};
 ghost use Rattle.sqlx_pool_core.specs.declared.ticket.Ticket.{Ticket};
 ghost use Rattle.sqlx_pool_core.specs.declared.ticket.Phase.TheVariants.{Connecting};
 ghost use Rattle.sqlx_pool_core.specs.Core.{ticket_of};
@@ -10,11 +10,11 @@ ghost use Rattle.sqlx_pool_core.specs.Makes.{Makes};
 ghost use Rattle.sqlx_pool_core.specs.PollSteps.{phase_for, tested_at, wait_of};
 ghost use Rattle.sqlx_pool_core.specs.StandsFor.{StandsFor};
 ghost use Rattle.mem_store.specs.Store.{without};
-ghost use Rattle.sqlx_play.specs.Answer.{passes_test, connect_reply};
+ghost use Rattle.sqlx_rules.specs.Answer.{passes_test, connect_reply};
 ghost use Rattle.sqlx_play.specs.ScriptOutside.{depth_of, poll_letters};
 ghost use Rattle.sqlx_play.specs.PlaysEvent.{PlaysEvent};
 ghost use Rattle.sqlx_play.specs.LinksStand.{LinksStand};
-ghost use Rattle.sqlx_play.specs.Polling.{connect_marks, backing_off, after_connect};
+ghost use Rattle.sqlx_play.specs.ConnectByReply.{connect_marks, backing_off, after_connect};
 ghost use Rattle.sqlx_brackets.specs.Changes.{History};
 ghost use Rattle.sqlx_script.specs.declared.reply.Reply.{Reply};
 ghost use Rattle.sqlx_play.specs.StageStands.{last_of, numbers_of};
@@ -111,9 +111,8 @@ fn refuse(stage: &mut Stage, client: u32, ticket: u64, lent: Lent<StoreLink>)
 {
     let verdict = Verdict::Refused(lent.id);
     stage.out.close(lent.raw);
-    let AfterTest::Connect = stage.core.finish_test(client, ticket, verdict) else {
-        unreachable!();
-    };
+    let after = stage.core.finish_test(client, ticket, verdict);
+    drop(after);
 }
 
 // The new connection is set up: the client has it.
@@ -177,9 +176,8 @@ fn fail(stage: &mut Stage, moment: Moment, client: u32, ticket: u64)
     ensures pool { stage.new.pool ≡ stage.old.pool }
 {
     let tried = Tried::Fatal;
-    let AfterConnect::Ended = stage.core.finish_connect(client, ticket, moment, tried) else {
-        unreachable!();
-    };
+    let after = stage.core.finish_connect(client, ticket, moment, tried);
+    drop(after);
 }
 
 // The connect was refused by this letter, or for want of memory.
@@ -259,7 +257,7 @@ fn connect(
 }
 
 /// A client asks how its ticket stands.
-#[tactic(auto, unfolding(crate::specs::Answer::answer))]
+#[tactic(auto, unfolding(sqlx_rules::specs::Answer::answer))]
 pub fn poll(
     stage: &mut Stage,
     alloc: Global,

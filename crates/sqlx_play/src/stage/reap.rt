@@ -64,8 +64,6 @@ pub fn reap(
     ensures memory { IfErr result (λ e. e ≡ PlayError.OutOfMemory) }
 {
     let reaped = reap_all(stage, moment);
-    match fill(stage, alloc, moment, opens) {
-        Ok(opened) => Ok(Reply::Reaped { reaped, opened }),
-        Err(error) => Err(error),
-    }
+    let opened = fill(stage, alloc, moment, opens)?;
+    Ok(Reply::Reaped { reaped, opened })
 }

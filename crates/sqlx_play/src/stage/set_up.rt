@@ -1,6 +1,6 @@
 //! The hook of a new connection.
 ghost use Rattle.std.specs.Prelude.{◌≡◌};
-ghost use Rattle.sqlx_play.specs.Answer.{is_set_up};
+ghost use Rattle.sqlx_rules.specs.Answer.{is_set_up};
 ghost use Rattle.sqlx_play.specs.ScriptOutside.{depth_of, poll_letters};
 
 use crate::outside::ScriptOutside;

@@ -1,26 +1,23 @@
 //! The events that are statements on a connection of the client's.
-ghost use Rattle.std.specs.Prelude.{◌≡◌, ◌+◌, ◌^◌, ◌<◌, ◌≤◌, true, false, Some, List, IfOk, OnOk, IfErr, IfSome, IfNone, slice_index_or, length};
-ghost use Rattle.std.specs.List.{insert, list_any};
-ghost use Rattle.mem_store.specs.Store.{Link};
+ghost use Rattle.std.specs.Prelude.{◌≡◌, ◌+◌, ◌^◌, ◌≤◌, true, false, Some, IfOk, IfErr, IfSome, IfNone};
 ghost use Rattle.sqlx_pool_core.specs.Sound.{IsSound};
-ghost use Rattle.sqlx_pool_core.specs.declared.steps.Lent.{Lent as LentLink};
-ghost use Rattle.sqlx_play.specs.ScriptLevels as levels;
+ghost use Rattle.sqlx_rules.specs.ScriptLevels as levels;
 ghost use Rattle.sqlx_play.specs.LinkActs.{IsMet};
-ghost use Rattle.sqlx_play.specs.StatementRuns.{said, acts, done_by, is_lent_id, IsTakenOut, Runs};
+ghost use Rattle.sqlx_play.specs.StatementRuns.{said, acts, done_by, Runs};
 ghost use Rattle.sqlx_play.specs.PlaysEvent.{PlaysEvent};
 ghost use Rattle.sqlx_play.specs.ScriptRuns.{runs_after};
 ghost use Rattle.sqlx_play.specs.StageStands.{last_of, numbers_of};
 
 use super::Stage;
 use super::acts::{Act, run_on};
+use super::lent::{place_of, put_lent};
 use crate::error::PlayError;
-use mem_store::StoreLink;
 use sqlx_pool_core::Lent;
 use sqlx_script::{Event, Reply, StatementAnswer, Step};
 use std::alloc::Global;
 
 /// Who does what on which connection, and what the statement meets.
-#[derive(Clone, Copy, Debug, PartialEq, Eq)]
+#[derive(Clone, Copy)]
 pub struct Statement {
     pub client: u32,
     pub connection: u32,
@@ -89,41 +86,6 @@ fn statement_of(step: &Step) -> Option<Statement>
     })
 }
 
-/// Where the connection of this number stands.
-fn place_of(lent: &[Lent<StoreLink>], id: u64) -> Option<usize>
-    ensures some { IfSome result (λ at. (at < length lent.now) × ((d : LentLink Link) → (slice_index_or lent.now at d).id ≡ id)) }
-    ensures none { IfNone result (list_any (is_lent_id id) lent.now ≡ false) }
-{
-    for at in 0..lent.len() {
-        if id == lent[at].id {
-            return Some(at);
-        }
-    }
-    None
-}
-
-/// Takes the connection of this number out, with the place where it stood.
-fn take_out(lent: &mut Vec<Lent<StoreLink>>, id: u64) -> Option<(usize, Lent<StoreLink>)>
-    ensures some { IfSome result (λ r. IsTakenOut id r.0 r.1 lent.old.items lent.new.items) }
-    ensures none { IfNone result ((lent.new.items ≡ lent.old.items) × (list_any (is_lent_id id) lent.old.items ≡ false)) }
-{
-    let at = place_of(lent, id)?;
-    let found = lent.remove(at);
-    Some((at, found))
-}
-
-/// Puts a connection in at the place where it stood.
-fn put_in(lent: &mut Vec<Lent<StoreLink>>, at: usize, own: Lent<StoreLink>) -> Result<(), PlayError>
-    requires { at ≤ length lent.old.items }
-    ensures ok { OnOk result (lent.new.items ≡ insert lent.old.items at own) }
-    ensures memory { IfErr result (λ e. e ≡ PlayError.OutOfMemory) }
-{
-    match lent.insert(at, own) {
-        Ok(()) => Ok(()),
-        Err(_) => Err(PlayError::OutOfMemory),
-    }
-}
-
 /// Does the statement, and answers `NotHeld` where the client doesn't own the connection.
 fn run(stage: &mut Stage, alloc: Global, statement: Statement) -> Result<Reply, PlayError>
     ensures ok { IfOk result (Runs stage.old stage.new statement) }
@@ -136,24 +98,19 @@ fn run(stage: &mut Stage, alloc: Global, statement: Statement) -> Result<Reply, 
     if !stage.core.owns(statement.client, id) {
         return Ok(Reply::NotHeld);
     }
-    let Some((at, lent)) = take_out(&mut stage.lent, id) else {
+    let Some(at) = place_of(&stage.lent, id) else {
         return Ok(Reply::NotHeld);
     };
-    let Lent { id, created, raw } = lent;
-    let (raw, reply) = match run_on(
+    let Lent { id, created, raw } = stage.lent.remove(at);
+    let (raw, reply) = run_on(
         &mut stage.out.store,
         alloc,
         raw,
         statement.act,
         statement.answer,
-    ) {
-        Ok(done) => done,
-        Err(error) => return Err(error),
-    };
-    match put_in(&mut stage.lent, at, Lent { id, created, raw }) {
-        Ok(()) => Ok(reply),
-        Err(error) => Err(error),
-    }
+    )?;
+    put_lent(&mut stage.lent, at, Lent { id, created, raw })?;
+    Ok(reply)
 }
 
 /// One statement.

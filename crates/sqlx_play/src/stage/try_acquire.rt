@@ -11,7 +11,7 @@ use sqlx_script::Reply;
 use sqlx_text::Moment;
 
 /// A client asks for an idle connection, and doesn't wait.
-#[tactic(auto, unfolding(crate::specs::Answer::answer))]
+#[tactic(auto, unfolding(sqlx_rules::specs::Answer::answer))]
 pub fn try_acquire(stage: &mut Stage, moment: Moment, client: u32) -> Result<Reply, PlayError>
     requires numbers { numbers_of stage.old ≤ 2 ^ 62 }
     requires in_order { last_of stage.old ≤ moment.0 }

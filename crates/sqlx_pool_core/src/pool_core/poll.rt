@@ -1,13 +1,13 @@
 //! A poll in its three steps. Tests and connects run between them, outside the core.
 
-ghost use Rattle.std.specs.Prelude.{◌≡◌, ℕ, ◌+◌, ◌<◌, ◌≤◌, max, List, [], ◌∷◌, Option, Some, None, IfSome, length, if◌then◌else◌, not, nat_le};
+ghost use Rattle.std.specs.Prelude.{◌≡◌, ℕ, ◌+◌, ◌<◌, ◌≤◌, max, List, [], ◌∷◌, Option, Some, None, IfSome, length, if◌then◌else◌, not, nat_lt, true};
 ghost use Rattle.sqlx_pool_core.specs.Core.{ticket_of, free};
-ghost use Rattle.sqlx_pool_core.specs.OwnTurn.{own_turn, own_turn_at, before};
+ghost use Rattle.sqlx_pool_core.specs.OwnTurn.{is_first_in_line, turn_of, own_turn};
 ghost use Rattle.sqlx_pool_core.specs.PollSteps.{start_answer, start_marks, started, phase_for};
 ghost use Rattle.sqlx_pool_core.specs.Edits.{at_moment, ended, to_try};
 ghost use Rattle.sqlx_pool_core.specs.declared.steps.Start.TheVariants as start;
 ghost use Rattle.sqlx_log.specs.PollTable.{numbered, first_idle};
-ghost use Rattle.sqlx_pool_core.specs.PollTable.{turn};
+ghost use Rattle.sqlx_pool_core.specs.PollTable.{phase_turn};
 ghost use Rattle.sqlx_log.specs.declared.mark.Mark.{Mark};
 ghost use Rattle.sqlx_pool_core.specs.Makes.{Makes};
 ghost use Rattle.sqlx_pool_core.specs.Moves.{Moves};
@@ -35,10 +35,10 @@ impl<C> PoolCore<C> {
     }
 
     // The turn of a ticket that waits, in time and in an open pool.
-    fn turn_in_line(&self, number: u64) -> Turn
-        ensures { result ≡ (if nat_le (free self.now) (before number self.now.tickets) then Turn.Waiting else numbered self.now.next_conn (first_idle self.now.idle)) }
+    fn turn_in_line(&self, entitled: bool) -> Turn
+        ensures { result ≡ (if entitled then numbered self.now.next_conn (first_idle self.now.idle) else Turn.Waiting) }
     {
-        if self.free() as usize <= lists::before_of(&self.tickets, number) {
+        if !entitled {
             Turn::Waiting
         } else if self.idle.is_empty() {
             self.numbered(Turn::Connect)
@@ -47,9 +47,16 @@ impl<C> PoolCore<C> {
         }
     }
 
-    // What the poll of a ticket comes to at a moment.
-    fn turn(&self, ticket: &Ticket, moment: Moment) -> Turn
-        ensures { result ≡ own_turn_at self.now moment.0 (Some ticket.now) }
+    // Fewer waiting tickets precede this one than permits are free.
+    fn is_first(&self, number: u64) -> bool
+        ensures { result ≡ is_first_in_line number self.now }
+    {
+        lists::before_of(&self.tickets, number) < self.free() as usize
+    }
+
+    // What the poll of a ticket comes to at a moment, entitled or not.
+    fn turn(&self, ticket: &Ticket, moment: Moment, entitled: bool) -> Turn
+        ensures { result ≡ turn_of entitled moment.0 self.now (Some ticket.now) }
     {
         if matches!(ticket.phase, Phase::Testing { .. } | Phase::Connecting) {
             return Turn::NotHeld;
@@ -63,7 +70,7 @@ impl<C> PoolCore<C> {
         match ticket.phase {
             Phase::Backoff { until } if u128::from(moment.0) < until => Turn::Backoff(until),
             Phase::Backoff { .. } => self.numbered(Turn::Connect),
-            _ => self.turn_in_line(ticket.number),
+            _ => self.turn_in_line(entitled),
         }
     }
 
@@ -89,25 +96,27 @@ impl<C> PoolCore<C> {
     /// Begins a poll. `now` below the last moment counts as the last one.
     pub fn start(&mut self, client: u32, ticket: u64, now: Moment) -> Start<C>
         // The answer is the poll table's, by the tickets, permits and idle connections of the marks and the ticket's own phase.
-        ensures answer { (marks : List Mark) → StandsFor self.old marks → result ≡ start_answer (turn self.old.options.max_connections self.old.places marks client ticket (max self.old.last now.0) (phase_for client ticket self.old.tickets)) self.old.idle }
+        ensures answer { (marks : List Mark) → StandsFor self.old marks → result ≡ start_answer (phase_turn self.old.options.max_connections self.old.places marks client ticket (max self.old.last now.0) (phase_for client ticket self.old.tickets)) self.old.idle }
         ensures makes { (marks : List Mark) → StandsFor self.old marks → Makes self.old.options.max_connections marks (start_marks ticket (phase_for client ticket self.old.tickets) result) self.new }
         ensures moves { Moves self.old self.new (start_marks ticket (phase_for client ticket self.old.tickets) result) 0 0 }
         ensures own { result ≡ start_answer (own_turn self.old client ticket (max self.old.last now.0)) self.old.idle }
         ensures becomes { self.new ≡ started ticket (max self.old.last now.0) result self.old }
     {
         let moment = self.moment(now);
-        self.start_at(client, ticket, moment)
+        let entitled = self.is_first(ticket);
+        self.start_at(client, ticket, moment, entitled)
     }
 
-    // Begins a poll at a moment.
-    fn start_at(&mut self, client: u32, ticket: u64, moment: Moment) -> Start<C>
-        ensures answer { result ≡ start_answer (own_turn self.old client ticket moment.0) self.old.idle }
+    // Begins a poll at a moment. A ticket that waits leaves the line only where it is entitled.
+    fn start_at(&mut self, client: u32, ticket: u64, moment: Moment, entitled: bool) -> Start<C>
+        requires permit { entitled ≡ true → 0 < free self.old }
+        ensures answer { result ≡ start_answer (turn_of entitled moment.0 self.old (ticket_of client ticket self.old.tickets)) self.old.idle }
         ensures becomes { self.new ≡ started ticket moment.0 result self.old }
     {
         let Some(found) = self.find(client, ticket) else {
             return Start::NotHeld;
         };
-        match self.turn(&found, moment) {
+        match self.turn(&found, moment, entitled) {
             Turn::NotHeld => Start::NotHeld,
             Turn::Waiting => Start::Waiting,
             Turn::Backoff(until) => Start::Backoff(until),
@@ -123,17 +132,18 @@ impl<C> PoolCore<C> {
                 self.end_at(ticket, moment);
                 Start::Exhausted
             }
-            Turn::Test => Start::Test(self.begin_test(found, moment)),
+            Turn::Test => Start::Test(self.begin_test(found, moment, entitled)),
             Turn::Connect => {
-                self.begin_connect(found, moment);
+                self.begin_connect(found, moment, entitled);
                 Start::Connect
             }
         }
     }
 
     // The ticket leaves the line with the first idle connection, which is to be tested.
-    fn begin_test(&mut self, found: Ticket, moment: Moment) -> Idle<C>
-        requires turn { own_turn_at self.old moment.0 (Some found) ≡ Turn.Test }
+    fn begin_test(&mut self, found: Ticket, moment: Moment, _entitled: bool) -> Idle<C>
+        requires turn { turn_of _entitled moment.0 self.old (Some found) ≡ Turn.Test }
+        requires permit { _entitled ≡ true → 0 < free self.old }
         requires found { ticket_of found.client found.number self.old.tickets ≡ Some found }
         ensures first { self.old.idle ≡ result ∷ self.new.idle }
         ensures becomes { self.new ≡ started found.number moment.0 (start.Test result) self.old }
@@ -157,8 +167,9 @@ impl<C> PoolCore<C> {
     }
 
     // The ticket connects: one that waited leaves the line.
-    fn begin_connect(&mut self, found: Ticket, moment: Moment)
-        requires turn { own_turn_at self.old moment.0 (Some found) ≡ Turn.Connect }
+    fn begin_connect(&mut self, found: Ticket, moment: Moment, _entitled: bool)
+        requires turn { turn_of _entitled moment.0 self.old (Some found) ≡ Turn.Connect }
+        requires permit { _entitled ≡ true → 0 < free self.old }
         requires found { ticket_of found.client found.number self.old.tickets ≡ Some found }
         ensures becomes { self.new ≡ started found.number moment.0 start.Connect self.old }
     {

@@ -8,7 +8,7 @@ ghost use Rattle.sqlx_pool_core.specs.Makes.{Makes};
 ghost use Rattle.sqlx_pool_core.specs.StandsFor.{StandsFor};
 ghost use Rattle.sqlx_pool_core.specs.Outside.{HasRisen, Told, Reach};
 ghost use Rattle.sqlx_pool_core.specs.OwnTurn.{own_turn};
-ghost use Rattle.sqlx_pool_core.specs.PollTable.{turn};
+ghost use Rattle.sqlx_pool_core.specs.PollTable.{phase_turn};
 ghost use Rattle.sqlx_pool_core.specs.PollSteps.{phase_for, judged, test_marks, after_test, connect_marks, after_connect};
 ghost use Rattle.sqlx_pool_core.specs.PollWith.{Outcome, Again, Fails, says, told_passes, told_try, try_says, try_made, after_try, IsWant, first_depth, IsOutcome, Polls};
 ghost use Rattle.sqlx_pool_core.specs.PollParts.{is_accepted, IfAccepted, KeepsConnects, IsForGood, after_check, check_made, due, tried_answer, polled_of, try_of, try_shown, IfReady, IfRefused, IsAnswer, answered, IsTested, judged_answer};
@@ -212,7 +212,7 @@ impl<C> PoolCore<C> {
             × IsOutcome self.old.options (own_turn self.old client ticket (max self.old.last now.0)) (first_depth (X.depth out.old) self.old.idle) (X.told out.old) (X.faults out.old) (X.faults out.new) (X.refusals out.old) (X.refusals out.new) result outcome
             × Polls self.old self.new client ticket (max self.old.last now.0) (own_turn self.old client ticket (max self.old.last now.0)) result outcome }
         // The turn is the poll table's, by the marks that the core stands for.
-        ensures turn { (marks : List Mark) → StandsFor self.old marks → own_turn self.old client ticket (max self.old.last now.0) ≡ turn self.old.options.max_connections self.old.places marks client ticket (max self.old.last now.0) (phase_for client ticket self.old.tickets) }
+        ensures turn { (marks : List Mark) → StandsFor self.old marks → own_turn self.old client ticket (max self.old.last now.0) ≡ phase_turn self.old.options.max_connections self.old.places marks client ticket (max self.old.last now.0) (phase_for client ticket self.old.tickets) }
         ensures depth { first_depth (X.depth out.old) self.old.idle ≡ 0 → IfReady result (λ lent. X.depth out.new lent.raw ≡ 0) }
         ensures cause { IfRefused result (λ e. IsForGood (X.faults out.old) (X.faults out.new) e) }
         ensures faults { X.faults out.old ≤ X.faults out.new }

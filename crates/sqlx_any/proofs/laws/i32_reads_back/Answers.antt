@@ -1,14 +1,15 @@
 use Rattle.std.proofs.Common.{refl}
 use Rattle.sqlx_text.specs.declared.kind.AnyTypeInfoKind.TheVariants as kind
+use Rattle.sqlx_any.specs.TypedRead.{an_i32}
 use Rattle.sqlx_any.specs.declared.value.AnyValueKind.TheVariants as value
-use Rattle.sqlx_any.proofs.ReadBack.{fits_i32, read_as_some}
+use Rattle.sqlx_any.proofs.ReadBack.{fits_i32, read_back, read_back_as_some}
 use Rattle.sqlx_any.proofs.laws.i32_reads_back.Goals as goal
 
 pub returns-clause-alone : goal.returns-clause-alone
-returns-clause-alone g c = (value.Integer c.args.x, λ list. refl, λ r read. simp (fits_i32 c.args.x c.ranges.x) at read)
+returns-clause-alone g c = (value.Integer c.args.x, λ list. refl, read_back (λ n. n) an_i32 (value.Integer c.args.x) c.args.x refl (fits_i32 c.args.x c.ranges.x))
 
 pub returns-clause-some : goal.returns-clause-some
-returns-clause-some g c = (value.Integer c.args.x, λ list. refl, λ r read. read_as_some (λ n. n) c.args.x r (simp (fits_i32 c.args.x c.ranges.x) at read))
+returns-clause-some g c = (value.Integer c.args.x, λ list. refl, read_back_as_some (λ n. n) an_i32 (value.Integer c.args.x) c.args.x refl (fits_i32 c.args.x c.ranges.x))
 
 pub returns-clause-none : goal.returns-clause-none
-returns-clause-none g c = (value.Null kind.Integer, λ list. refl, λ r read. rw read refl)
+returns-clause-none g c = (value.Null kind.Integer, λ list. refl, λ is_checked in_row r read. rw read refl)

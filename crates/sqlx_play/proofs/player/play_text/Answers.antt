@@ -1,6 +1,7 @@
 use Rattle.std.proofs.Common.{sym, ap, subst, ◌∙◌, Some}
-use Rattle.mem_store.specs.Store.{Store}
-use Rattle.sqlx_play.specs.Headline.{Plays}
+use Rattle.sqlx_pool_core.specs.Core.{Core}
+use Rattle.mem_store.specs.Store.{Store, Link}
+use Rattle.sqlx_play.specs.Plays.{Plays}
 use Rattle.sqlx_play.proofs.Lines.{no_element}
 use Rattle.sqlx_play.proofs.Causes.{cause_of, cause_at_first}
 use Rattle.sqlx_play.proofs.Scripts.{script_is, no_script, empty_script, stops_at_first, stops_later, part_of_replies, part_of_report, plays_text}
@@ -13,19 +14,20 @@ pub returns-in_default-clause-cause : goal.returns-in_default-clause-cause
 returns-in_default-clause-cause g c =
     stops_at_first c.args.text.now _ (no_script c.args.text.now c.cut_line.result.0.now c.cut_line.result.1.now c.cut_line.ensures.line (sym c.read_pool_line.ensures.says ∙ c.in_default.is))
 
-pub returns-in-Err-play_lines-clause-cause : goal.returns-in-Err-play_lines-clause-cause
-returns-in-Err-play_lines-clause-cause g c =
-    let is = script_is c.args.text.now c.cut_line.result.0.now c.cut_line.result.1.now c.in-Ok.stage.pool c.cut_line.ensures.line (sym c.read_pool_line.ensures.says ∙ c.in-Some.is ∙ ap Some (sym c.in-Ok.ensures.pool)) in
-    cause_at_first _ _ _ _ _ _ c.in-Err-play_lines.error (λ n. stops_later c.args.text.now c.cut_line.result.1.now _ _ _ n is) (part_of_replies c.args.text.now c.cut_line.result.1.now _ _ _ is) c.in-Err-play_lines.ensures.cause
+pub returns-in-Err-clause-cause : goal.returns-in-Err-clause-cause
+returns-in-Err-clause-cause g c =
+    let is = script_is c.args.text.now c.cut_line.result.0.now c.cut_line.result.1.now c.in_ok-stage.stage.pool c.cut_line.ensures.line (sym c.read_pool_line.ensures.says ∙ c.in-Some.is ∙ ap Some (sym c.in_ok-stage.ensures.pool)) in
+    cause_at_first _ _ _ _ _ _ c.in-Err.error (λ n. stops_later c.args.text.now c.cut_line.result.1.now _ _ _ n is) (part_of_replies c.args.text.now c.cut_line.result.1.now _ _ _ is) c.in-Err.ensures.cause
 
 pub returns-in-Err-write_line-clause-cause : goal.returns-in-Err-write_line-clause-cause
 returns-in-Err-write_line-clause-cause g c =
-    let is = script_is c.args.text.now c.cut_line.result.0.now c.cut_line.result.1.now c.in-Ok.stage.pool c.cut_line.ensures.line (sym c.read_pool_line.ensures.says ∙ c.in-Some.is ∙ ap Some (sym c.in-Ok.ensures.pool)) in
+    let is = script_is c.args.text.now c.cut_line.result.0.now c.cut_line.result.1.now c.in_ok-stage.stage.pool c.cut_line.ensures.line (sym c.read_pool_line.ensures.says ∙ c.in-Some.is ∙ ap Some (sym c.in_ok-stage.ensures.pool)) in
     cause_of _ _ _ _ _ _ _ c.in-Err-write_line.error (λ n stops. absurd stops)
     (part_of_report c.args.text.now c.cut_line.result.1.now _ _ _ _ _ _ is c.play_lines.ensures.pool c.in_default-play_lines.ensures.ok c.report.ensures) c.play_lines.ensures.rises c.in-Err-write_line.ensures.cause
 
 pub returns-clause-ok : goal.returns-clause-ok
 returns-clause-ok g c =
-    let is = script_is c.args.text.now c.cut_line.result.0.now c.cut_line.result.1.now c.in-Ok.stage.pool c.cut_line.ensures.line (sym c.read_pool_line.ensures.says ∙ c.in-Some.is ∙ ap Some (sym c.in-Ok.ensures.pool)) in
-    subst (λ (store : Store). Plays c.args.text.now (g.K.Sink.written c.args.sink.now) (g.K.Sink.written c.write_line.new.sink) c.play_lines.new.stage.core store) (sym c.into_store.ensures)
-    (plays_text c.args.text.now c.cut_line.result.1.now _ _ _ _ _ _ c.requires is c.play_lines.ensures.pool c.in_default-play_lines.ensures.ok c.report.ensures c.in_default-write_line.ensures.ok)
+    let is = script_is c.args.text.now c.cut_line.result.0.now c.cut_line.result.1.now c.in_ok-stage.stage.pool c.cut_line.ensures.line (sym c.read_pool_line.ensures.says ∙ c.in-Some.is ∙ ap Some (sym c.in_ok-stage.ensures.pool)) in
+    subst (λ (core : Core Link). Plays c.args.text.now (g.K.Sink.written c.args.sink.now) (g.K.Sink.written c.write_line.new.sink) core c.played_on.result.store) (sym c.played_on.ensures.core)
+    (subst (λ (store : Store). Plays c.args.text.now (g.K.Sink.written c.args.sink.now) (g.K.Sink.written c.write_line.new.sink) c.play_lines.new.stage.core store) (sym c.played_on.ensures.store)
+    (plays_text c.args.text.now c.cut_line.result.1.now _ _ _ _ _ _ c.requires is c.play_lines.ensures.pool c.in_default-play_lines.ensures.ok c.report.ensures c.in_default-write_line.ensures.ok))

@@ -1,12 +1,11 @@
 use Rattle.std.proofs.Common.{sym, subst, [], ◌∙◌}
 use Rattle.std.proofs.lemmas.List.Elements.{All-nil, All-same}
 use Rattle.sqlx_pool_core.specs.StandsFor.{StandsFor}
-use Rattle.sqlx_pool_core.specs.FairLog.{IsFair}
 use Rattle.mem_store.specs.Store.{Store}
 use Rattle.sqlx_play.specs.StageStands.{IsSetUp, IsTried}
 use Rattle.sqlx_play.specs.LinksStand.{LinksStand}
-use Rattle.sqlx_play.proofs.Stages.{marks_of-nil, tickets-nil, held-nil, idle-nil}
-use Rattle.sqlx_play.proofs.Pairs.{history_of-nil, tries_of-nil}
+use Rattle.sqlx_rules.proofs.Pairs.{marks_of-nil, history_of-nil, tries_of-nil}
+use Rattle.sqlx_play.proofs.Stages.{tickets-nil, held-nil, idle-nil}
 use Rattle.sqlx_play.proofs.LinksSame.{links-none}
 use Rattle.sqlx_play.proofs.stage.new_stage.Goals as goal
 
@@ -16,7 +15,6 @@ returns-in-Ok-clause-stands c =
     let stands = c.in-Ok.ensures.stands in
     record {
       stands = subst (StandsFor core) (sym (marks_of-nil c.args.pool)) stands;
-      fair = subst (IsFair c.args.pool.max []) (sym (marks_of-nil c.args.pool)) tt;
       set_up = subst (IsSetUp c.args.pool) (sym c.in-Ok.ensures.options) c.options_of.ensures;
       places = c.in-Ok.ensures.places;
       tried = All-same (IsTried []) core.tickets [] (tickets-nil core stands) (All-nil (IsTried []));

@@ -10,13 +10,13 @@ use Rattle.sqlx_play.specs.declared.stage.acts.Act.TheVariants.{Commit}
 use Rattle.sqlx_play.proofs.LinkOutcomes.{met-ran, met-refused, commit-held, within-reply, within-left, pred-less}
 use Rattle.sqlx_play.proofs.stage.acts.commit.Goals as goal
 
-pub returns-in-Ok-Ran-clause-ok : goal.returns-in-Ok-Ran-clause-ok
-returns-in-Ok-Ran-clause-ok c =
+pub returns-in-Ran-clause-ok : goal.returns-in-Ran-clause-ok
+returns-in-Ran-clause-ok c =
     let s = c.args.session.now in
     let e : c.depth-depth.result ≡ s.link.depth = c.depth-depth.ensures in
     let text : c.as_str.result.now ≡ text_of (commit_at s.link.depth) = c.as_str.ensures ∙ c.in-Ok.ensures ∙ ap (λ d. text_of (commit_at d)) e in
-    let o = rw c.in-Ok-Ran.field-0-is at (c.in-Ok-Ran.ensures.ok (Some (LevelOf (commit_at s.link.depth))) (Doing (commit_at s.link.depth)) (commit-held s.link.depth (omega arith), text) refl) in
-    let m = met-ran Commit s c.run_text.new.session c.in-Ok-Ran.field-0-0 o in
+    let o = rw c.in-Ran.is at (c.in_ok-run_text.ensures.ok (Some (LevelOf (commit_at s.link.depth))) (Doing (commit_at s.link.depth)) (commit-held s.link.depth (omega arith), text) refl) in
+    let m = met-ran Commit s c.run_text.new.session c.in-Ran.field-0 o in
     (ap (λ d. Level (d - 1) c.commit_at.result) e ∙ ap (λ n. Level n c.commit_at.result) (pred-less s.link.depth) ∙ ap (λ (t : LevelText). Level (pred s.link.depth) t) (c.commit_at.ensures ∙ ap commit_at e) ∙ m.0 ∙ within-reply Commit s c.requires, m.1 ∙ within-left Commit s c.requires)
 
 pub start_rollback-requires : goal.start_rollback-requires
@@ -24,14 +24,14 @@ start_rollback-requires c =
     let s = c.args.session.now in
     let e : c.depth-depth.result ≡ s.link.depth = c.depth-depth.ensures in
     let text : c.as_str.result.now ≡ text_of (commit_at s.link.depth) = c.as_str.ensures ∙ c.in-Ok.ensures ∙ ap (λ d. text_of (commit_at d)) e in
-    let o = rw c.in-Ok-Refused.field-0-is at (c.in-Ok-Refused.ensures.ok (Some (LevelOf (commit_at s.link.depth))) (Doing (commit_at s.link.depth)) (commit-held s.link.depth (omega arith), text) refl) in
+    let o = rw c.in-Refused.is at (c.in_ok-run_text.ensures.ok (Some (LevelOf (commit_at s.link.depth))) (Doing (commit_at s.link.depth)) (commit-held s.link.depth (omega arith), text) refl) in
     subst (λ (x : Session). 1 ≤ x.link.depth) (sym o.1) c.requires
 
-pub returns-in-Ok-Refused-clause-ok : goal.returns-in-Ok-Refused-clause-ok
-returns-in-Ok-Refused-clause-ok c =
+pub returns-clause-ok : goal.returns-clause-ok
+returns-clause-ok c =
     let s = c.args.session.now in
     let e : c.depth-depth.result ≡ s.link.depth = c.depth-depth.ensures in
     let text : c.as_str.result.now ≡ text_of (commit_at s.link.depth) = c.as_str.ensures ∙ c.in-Ok.ensures ∙ ap (λ d. text_of (commit_at d)) e in
-    let o = rw c.in-Ok-Refused.field-0-is at (c.in-Ok-Refused.ensures.ok (Some (LevelOf (commit_at s.link.depth))) (Doing (commit_at s.link.depth)) (commit-held s.link.depth (omega arith), text) refl) in
-    let m = met-refused Commit s c.run_text.new.session c.in-Ok-Refused.reply o in
+    let o = rw c.in-Refused.is at (c.in_ok-run_text.ensures.ok (Some (LevelOf (commit_at s.link.depth))) (Doing (commit_at s.link.depth)) (commit-held s.link.depth (omega arith), text) refl) in
+    let m = met-refused Commit s c.run_text.new.session c.in-Refused.reply o in
     (m.0 ∙ within-reply Commit s c.requires, c.start_rollback.ensures ∙ ap after_start_rollback o.1 ∙ m.1 ∙ within-left Commit s c.requires)

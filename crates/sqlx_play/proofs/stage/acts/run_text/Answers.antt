@@ -18,10 +18,10 @@ pub returns-in-Some-clause-ok : goal.returns-in-Some-clause-ok
 returns-in-Some-clause-ok c read act reads is =
     let old = c.args.session.now in
     elim (refusal_of (Some act) old) as (λ (o : Option Refusal). refusal_of (Some act) old ≡ o → IsOutcome act old c.statement.new.self (Refused c.in-Some.reply)) [
-      | None ↦ λ e. let r = c.refused_reply.ensures.memory (c.in-Err.ensures.only read reads (ap (λ a. refusal_of a old) is ∙ e)).0 in absurd (cc)
+      | None ↦ λ e. let r = c.refused_reply-refused.ensures.memory (c.in-Err.ensures.only read reads (ap (λ a. refusal_of a old) is ∙ e)).0 in absurd (cc)
       | Some reason ↦ λ e.
           let r = c.in-Err.ensures.refused read reason reads (ap (λ a. refusal_of a old) is ∙ e) in
           let same : c.in-Err.error ≡ error_of reason = (let w = r.0 in cc) in
-          let told = c.refused_reply.ensures.refused reason same in
+          let told = c.refused_reply-refused.ensures.refused reason same in
           ((reason, e, (cc)), r.1)
     ] refl

@@ -5,13 +5,13 @@ use Rattle.sqlx_play.specs.declared.stage.acts.Act.TheVariants.{Custom}
 use Rattle.sqlx_play.proofs.LinkOutcomes.{met-ran, met-refused}
 use Rattle.sqlx_play.proofs.stage.acts.select_one.Goals as goal
 
-pub returns-in-Ok-Ran-clause-ok : goal.returns-in-Ok-Ran-clause-ok
-returns-in-Ok-Ran-clause-ok c =
-    met-ran (Custom false) c.args.session.now c.run_text.new.session c.in-Ok-Ran.field-0-0
-    (rw c.in-Ok-Ran.field-0-is at (c.in-Ok-Ran.ensures.ok (Some SelectOneText) SelectingOne (tt, refl) refl))
+pub returns-in-Ran-clause-ok : goal.returns-in-Ran-clause-ok
+returns-in-Ran-clause-ok c =
+    met-ran (Custom false) c.args.session.now c.run_text.new.session c.in-Ran.field-0
+    (rw c.in-Ran.is at (c.in_ok-run_text.ensures.ok (Some SelectOneText) SelectingOne (tt, refl) refl))
 
-pub returns-in-Ok-Refused-clause-ok : goal.returns-in-Ok-Refused-clause-ok
-returns-in-Ok-Refused-clause-ok c =
-    let o = rw c.in-Ok-Refused.field-0-is at (c.in-Ok-Refused.ensures.ok (Some SelectOneText) SelectingOne (tt, refl) refl) in
-    let m = met-refused (Custom false) c.args.session.now c.run_text.new.session c.in-Ok-Refused.reply o in
+pub returns-in-Refused-clause-ok : goal.returns-in-Refused-clause-ok
+returns-in-Refused-clause-ok c =
+    let o = rw c.in-Refused.is at (c.in_ok-run_text.ensures.ok (Some SelectOneText) SelectingOne (tt, refl) refl) in
+    let m = met-refused (Custom false) c.args.session.now c.run_text.new.session c.in-Refused.reply o in
     (m.0, o.1 ∙ m.1)

@@ -1,5 +1,5 @@
-use Rattle.sqlx_play.specs.Answer.{answer}
-use Rattle.sqlx_play.proofs.Passing.{cancel-reply, cancelled-stands, uncancelled-stands}
+use Rattle.sqlx_rules.specs.Answer.{answer}
+use Rattle.sqlx_play.proofs.CancelAndTry.{cancel-reply, cancelled-stands, uncancelled-stands}
 use Rattle.sqlx_play.proofs.stage.cancel.cancel.Goals as goal
 
 pub returns-in-true-clause-ok : goal.returns-in-true-clause-ok

@@ -1,7 +1,7 @@
 use Rattle.std.proofs.Common.{refl, ◌∙◌}
 use Rattle.sqlx_play.specs.declared.stage.Stage.{Stage}
-use Rattle.sqlx_play.specs.Answer.{answer}
-use Rattle.sqlx_play.proofs.Closing.{close-told, close-stands}
+use Rattle.sqlx_rules.specs.Answer.{answer}
+use Rattle.sqlx_play.proofs.ClosesLemmas.{close-told, close-stands}
 use Rattle.sqlx_play.proofs.stage.close.close.Goals as goal
 
 pub returns-clause-ok : goal.returns-clause-ok

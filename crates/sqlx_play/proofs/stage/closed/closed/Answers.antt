@@ -1,6 +1,6 @@
 use Rattle.sqlx_pool_core.specs.declared.steps.CloseState.TheVariants.{NotShut, Closing, Closed}
-use Rattle.sqlx_play.specs.Answer.{answer}
-use Rattle.sqlx_play.specs.ScriptMarks.{marks_of}
+use Rattle.sqlx_rules.specs.Answer.{answer}
+use Rattle.sqlx_rules.specs.ScriptMarks.{marks_of}
 use Rattle.sqlx_play.proofs.CloseStates.{state-told, asked-state}
 use Rattle.sqlx_play.proofs.stage.closed.closed.Goals as goal
 

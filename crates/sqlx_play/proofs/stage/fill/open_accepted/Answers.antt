@@ -1,7 +1,7 @@
 use Rattle.std.proofs.Common.{◌≡◌, ℕ, Bool, refl, sym, ap, subst, ◌∙◌, arith}
 use Rattle.sqlx_script.specs.Built.{sets_up}
-use Rattle.sqlx_play.specs.Fills.{OpensOne, Fills}
-use Rattle.sqlx_play.proofs.Filling.{HasOpened, opened-none, opened-more, filled-whole, filled-part}
+use Rattle.sqlx_play.specs.KeepsMinimum.{OpensOne, KeepsMinimum}
+use Rattle.sqlx_play.proofs.KeepsMinimumLemmas.{HasOpened, opened-none, opened-more, filled-whole, filled-part}
 use Rattle.sqlx_play.proofs.stage.fill.open_accepted.Goals as goal
 
 pub loop-init : goal.loop-init
@@ -42,5 +42,5 @@ returns-in-Ok-false-clause-ok c =
 pub returns-clause-ok : goal.returns-clause-ok
 returns-clause-ok c =
     let all : c.loop.opened ≡ c.args.opens = omega arith in
-    subst (λ (n : ℕ). Fills c.args.stage.now c.loop.stage c.args.moment.0 c.args.opens n) (sym all)
+    subst (λ (n : ℕ). KeepsMinimum c.args.stage.now c.loop.stage c.args.moment.0 c.args.opens n) (sym all)
     (filled-whole c.args.stage.now c.loop.stage c.args.moment.0 c.args.opens (subst (λ (n : ℕ). HasOpened c.args.stage.now c.loop.stage c.args.moment.0 n) all c.loop.invariant.opened))

@@ -1,7 +1,7 @@
 use Rattle.std.proofs.Common.{◌≡◌, ◌+◌, ◌≤◌, true}
 use Rattle.sqlx_script.specs.Built.{sets_up}
 use Rattle.sqlx_play.specs.StageStands.{last_of, numbers_of}
-use Rattle.sqlx_play.proofs.Filling.{HasOpened}
+use Rattle.sqlx_play.proofs.KeepsMinimumLemmas.{HasOpened}
 use Rattle.sqlx_play.proofs.stage.fill.open_accepted.Given as goal
 
 -- as many were opened as the loop went round

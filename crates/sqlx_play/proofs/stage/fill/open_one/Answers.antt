@@ -1,6 +1,6 @@
 use Rattle.std.proofs.Common.{ap, ◌∙◌}
 use Rattle.sqlx_pool_core.specs.KeepingSteps.{placed}
-use Rattle.sqlx_play.proofs.Opening.{opens-one}
+use Rattle.sqlx_play.proofs.OpensOneLemmas.{opens-one}
 use Rattle.sqlx_play.proofs.stage.fill.open_one.Goals as goal
 
 pub returns-then-sets_up-clause-ok : goal.returns-then-sets_up-clause-ok

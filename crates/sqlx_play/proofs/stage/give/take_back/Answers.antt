@@ -7,10 +7,10 @@ use Rattle.sqlx_pool_core.specs.declared.steps.Given.TheVariants as given
 use Rattle.mem_store.specs.Store.{Link}
 use Rattle.sqlx_script.specs.declared.answers.GiveAnswers.{GiveAnswers}
 use Rattle.sqlx_play.specs.LentLinks.{is_lent}
-use Rattle.sqlx_play.specs.Returns.{lets_rest}
+use Rattle.sqlx_play.specs.GivesBack.{lets_rest}
 use Rattle.sqlx_play.proofs.LinksGone.{closed_in}
 use Rattle.sqlx_play.proofs.LentTaken.{none-there, taken-at, place-below}
-use Rattle.sqlx_play.proofs.Returning.{returns-unlent, returns-kept, returns-closed, returns-not_held}
+use Rattle.sqlx_play.proofs.GivesBackLemmas.{returns-unlent, returns-kept, returns-closed, returns-not_held}
 use Rattle.sqlx_play.proofs.stage.give.take_back.Goals as goal
 
 pub returns-in_default-clause-ok : goal.returns-in_default-clause-ok
@@ -49,8 +49,8 @@ returns-in-Closed-clause-ok c =
     (c.in-Closed.ensures.answer ∙ (λ i. give_answer old.core.options old.core.shut at (rests i) (loan_of c.args.client l.id old.core.held) (same i)))
     c.in-Closed.ensures.makes (c.in-Closed.ensures.becomes ∙ (λ i. gave (loan_of c.args.client l.id old.core.held) (same i) at (given.Closed raw) old.core))
 
-pub returns-in-Ok-clause-ok : goal.returns-in-Ok-clause-ok
-returns-in-Ok-clause-ok c =
+pub returns-in_ok-put_lent-in-NotHeld-clause-ok : goal.returns-in_ok-put_lent-in-NotHeld-clause-ok
+returns-in_ok-put_lent-in-NotHeld-clause-ok c =
     let old = c.args.stage.now in
     let l = c.remove-id.result in
     let raw = c.in-NotHeld.raw in
@@ -61,6 +61,6 @@ returns-in-Ok-clause-ok c =
     let taken = taken-at (is_lent c.args.conn) old.lent.items _ c.in-Some.at l c.remove-id.new.self.items c.deref.ensures.value place c.remove-id.ensures.value c.remove-id.ensures.items in
     returns-not_held old c.args.answers c.args.moment.0 c.args.client c.args.conn c.moment-now.ensures.sound c.give.new.self l c.requires.in_order (sym taken.0)
     _ at raw refl refl (c.lets_rest-accepted.ensures.store ∙ c.begin_give.ensures.store) c.in-Some.at (place-below (is_lent c.args.conn) old.lent.items _ c.in-Some.at c.deref.ensures.value place) c.remove-id.ensures.value
-    (c.in-Ok.ensures.ok ∙ ap (λ (items : _). insert items c.in-Some.at (record { id = c.args.conn; created = l.created; raw = raw })) c.remove-id.ensures.items)
+    (c.in_ok-put_lent-in-NotHeld.ensures.ok ∙ ap (λ (items : _). insert items c.in-Some.at (record { id = c.args.conn; created = l.created; raw = raw })) c.remove-id.ensures.items)
     (c.in-NotHeld.ensures.answer ∙ (λ i. give_answer old.core.options old.core.shut at (rests i) (loan_of c.args.client l.id old.core.held) (same i)))
     (c.in-NotHeld.ensures.becomes ∙ (λ i. gave (loan_of c.args.client l.id old.core.held) (same i) at (given.NotHeld raw) old.core))

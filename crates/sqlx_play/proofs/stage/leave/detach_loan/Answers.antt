@@ -1,10 +1,10 @@
 use Rattle.std.proofs.Common.{Bool, true, sym, ap, subst, ◌∙◌}
-use Rattle.sqlx_pool_core.specs.declared.mark.Mark.TheVariants as mark
+use Rattle.sqlx_log.specs.declared.mark.Mark.TheVariants as mark
 use Rattle.sqlx_pool_core.specs.Core.{Core}
 use Rattle.sqlx_pool_core.specs.Makes.{Makes}
 use Rattle.sqlx_pool_core.specs.ReturnSteps.{detach_marks, released}
 use Rattle.mem_store.specs.Store.{Link}
-use Rattle.sqlx_play.proofs.Departing.{departs-not, departs, ends-loan}
+use Rattle.sqlx_play.proofs.LoanEndsLemmas.{departs-not, departs, ends-loan}
 use Rattle.sqlx_play.proofs.stage.leave.detach_loan.Goals as goal
 
 pub returns-then-not-detach-clause-ok : goal.returns-then-not-detach-clause-ok

@@ -1,16 +1,14 @@
 use Rattle.std.proofs.Common.{◌≡◌, ◌+◌, [], ◌∷◌, ◌++◌, ap, refl, sym, subst, ◌∙◌, Err, Ok, IfOk, OnOk, Result}
 use Rattle.sqlx_pool_core.specs.declared.ticket.Phase.TheVariants.{Connecting}
 use Rattle.sqlx_pool_core.specs.Makes.{Makes}
-use Rattle.sqlx_pool_core.specs.Core.{Core}
 use Rattle.sqlx_pool_core.specs.Edits.{at_moment, ended, lent_to, opened}
 use Rattle.sqlx_pool_core.specs.PollSteps.{wait_of}
 use Rattle.mem_store.specs.Store.{Link, Store, connected, new_link, without}
 use Rattle.sqlx_script.specs.declared.answers.ConnectAnswer.{ConnectAnswer}
 use Rattle.sqlx_script.specs.declared.answers.PollAnswers.{PollAnswers}
 use Rattle.sqlx_script.specs.declared.reply.Reply.{Reply}
-use Rattle.sqlx_script.specs.declared.reply.Reply.TheVariants.{Backoff}
-use Rattle.sqlx_play.specs.Answer.{connect_reply}
-use Rattle.sqlx_play.specs.Polling.{connect_marks, backing_off, after_connect, rejected}
+use Rattle.sqlx_rules.specs.Answer.{connect_reply}
+use Rattle.sqlx_play.specs.ConnectByReply.{connect_marks, backing_off, after_connect}
 use Rattle.sqlx_play.specs.ScriptOutside.{poll_letters, refusal_of}
 use Rattle.sqlx_play.specs.LinksStand.{LinksStand}
 use Rattle.sqlx_play.specs.declared.error.PlayError.{PlayError}

@@ -1,29 +1,28 @@
-use Rattle.std.proofs.Common.{◌≡◌, ℕ, ◌+◌, ◌^◌, ◌≤◌, Bool, false, cond, List, [], ◌∷◌, ◌++◌, max, refl, sym, ap, subst, ◌∙◌, OnOk}
+use Rattle.std.proofs.Common.{◌≡◌, ℕ, ◌+◌, ◌^◌, ◌≤◌, Bool, false, cond, [], ◌∷◌, ◌++◌, max, refl, sym, ap, subst, ◌∙◌, OnOk}
 use Rattle.std.proofs.Math.Nat.{max-eq_right}
 use Rattle.sqlx_pool_core.specs.Core.{Core, ticket_of}
 use Rattle.sqlx_pool_core.specs.Edits.{with_ticket, to_connect}
 use Rattle.sqlx_pool_core.specs.PollSteps.{phase_for, tested_at, start_answer, started, wait_of}
 use Rattle.mem_store.specs.Store.{Link, without}
-use Rattle.sqlx_pool_core.specs.declared.mark.Mark.TheVariants as mark
+use Rattle.sqlx_log.specs.declared.mark.Mark.TheVariants as mark
 use Rattle.sqlx_pool_core.specs.declared.steps.Idle.{Idle}
 use Rattle.sqlx_pool_core.specs.declared.steps.Start.TheVariants as start
 use Rattle.sqlx_pool_core.specs.OwnTurn.{own_turn}
 use Rattle.sqlx_pool_core.specs.Sound.{IsSound}
-use Rattle.sqlx_script.specs.declared.step.Event.{Event}
 use Rattle.sqlx_play.specs.declared.stage.Stage.{Stage}
 use Rattle.sqlx_play.specs.StageStands.{StageStands}
-use Rattle.sqlx_script.specs.declared.reply.Reply.{Reply}
 use Rattle.sqlx_script.specs.declared.reply.Reply.TheVariants.{NotHeld, PoolClosed, PoolTimedOut, Waiting, Ready}
-use Rattle.sqlx_play.specs.Answer.{answer, passes_test}
-use Rattle.sqlx_play.specs.ScriptMarks.{marks_of, leaving, waits}
-use Rattle.sqlx_play.proofs.Pairs.{tries_of-push}
-use Rattle.sqlx_play.proofs.Passing.{stays-standing, ends-standing}
+use Rattle.sqlx_rules.specs.Answer.{answer, passes_test}
+use Rattle.sqlx_rules.specs.ScriptMarks.{marks_of, leaving, waits}
+use Rattle.sqlx_rules.proofs.Pairs.{tries_of-push}
+use Rattle.sqlx_play.proofs.CancelAndTry.{stays-standing, ends-standing}
 use Rattle.sqlx_play.proofs.Asked.{by-letters, depth-rests}
 use Rattle.sqlx_play.proofs.PollTurns.{AtTest, at-test, at-connect, at-backoff, is-tested, is-refused, is-trying}
 use Rattle.sqlx_play.proofs.PollReplies.{connecting, poll-reply}
 use Rattle.sqlx_play.proofs.Polls.{pair_of, at-connect-connects, refused-connects}
 use Rattle.sqlx_play.proofs.PollPlays.{few-conns, own-now, early-stands, first-rests, Calls, connect-event, lend-event}
 use Rattle.sqlx_play.proofs.stage.poll.poll.Goals as goal
+use Rattle.sqlx_rules.specs.Pairs.{Pairs}
 
 pub connect-requires-clause-connecting : goal.connect-requires-clause-connecting
 connect-requires-clause-connecting c =
@@ -136,7 +135,7 @@ returns-in-Connect-clause-ok c =
     own : start.Connect ≡ start_answer (own_turn stage.core k t c.args.moment.0) stage.core.idle
     own = own-now stage.core k t c.args.moment.0 start.Connect c.requires.in_order c.in-Connect.ensures.own
 
-    called : (pairs : List (Event × Reply)) (s : StageStands stage pairs) → Calls stage mid pairs s k t c.args.moment.0 c.args.answers few
+    called : (pairs : Pairs) (s : StageStands stage pairs) → Calls stage mid pairs s k t c.args.moment.0 c.args.answers few
     called pairs s = record {
       made = leaving t (waits k t (marks_of stage.pool pairs));
       connecting_is = at-connect-connects stage mid pairs k t c.args.moment.0 s sound (at-connect stage.core k t c.args.moment.0 own)
@@ -199,12 +198,12 @@ returns-else-good-clause-ok c =
     closed : c.refuse.new.stage.out.store ≡ record stage.out.store { places = without i.lent.raw.number stage.out.store.places }
     closed = c.refuse.ensures.store ∙ (λ j. record (store j) { places = without (c.passes-good.ensures.link j).number (store j).places })
 
-    refuses : (pairs : List (Event × Reply)) → StageStands stage pairs → false ≡ passes_test stage.pool c.args.answers
+    refuses : (pairs : Pairs) → StageStands stage pairs → false ≡ passes_test stage.pool c.args.answers
     refuses pairs s =
         sym c.if-good.false ∙ c.passes-good.ensures.answer (depth-rests c.begin_poll-in-Test.new.self i.lent.raw c.begin_poll-in-Test.ensures.left (first-rests stage pairs s i tested.rest tested.idle))
         ∙ ap (passes_test stage.pool) c.begin_poll-in-Test.ensures.letters
 
-    called : (pairs : List (Event × Reply)) (s : StageStands stage pairs) → Calls stage c.refuse.new.stage pairs s k t c.args.moment.0 c.args.answers few
+    called : (pairs : Pairs) (s : StageStands stage pairs) → Calls stage c.refuse.new.stage pairs s k t c.args.moment.0 c.args.answers few
     called pairs s =
         let marks = marks_of stage.pool pairs in
         let first = c.in-Test.ensures.makes marks s.stands in

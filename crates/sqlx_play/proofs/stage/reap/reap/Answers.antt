@@ -1,7 +1,7 @@
-use Rattle.sqlx_play.specs.Answer.{answer}
-use Rattle.sqlx_play.proofs.Reaping.{plays-reap}
+use Rattle.sqlx_rules.specs.Answer.{answer}
+use Rattle.sqlx_play.proofs.ReapsLemmas.{plays-reap}
 use Rattle.sqlx_play.proofs.stage.reap.reap.Goals as goal
 
-pub returns-in-Ok-clause-ok : goal.returns-in-Ok-clause-ok
+pub returns-clause-ok : goal.returns-clause-ok
 unfolding answer
-returns-in-Ok-clause-ok c pairs s = plays-reap c.args.stage.now _ _ pairs c.args.moment c.args.opens _ _ s c.reap_all-reaped.ensures.pool c.reap_all-reaped.ensures.reaps c.in-Ok.ensures.ok
+returns-clause-ok c pairs s = plays-reap c.args.stage.now _ _ pairs c.args.moment c.args.opens _ _ s c.reap_all-reaped.ensures.pool c.reap_all-reaped.ensures.reaps c.in_ok-opened.ensures.ok

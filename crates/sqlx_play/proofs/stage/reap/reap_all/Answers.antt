@@ -1,6 +1,6 @@
 use Rattle.std.proofs.Common.{◌∷◌, [], ◌++◌, subst, ◌∙◌}
 use Rattle.sqlx_play.specs.Reaps.{ReapsOne}
-use Rattle.sqlx_play.proofs.Reaping.{reaps-then, reaps-whole}
+use Rattle.sqlx_play.proofs.ReapsLemmas.{reaps-then, reaps-whole}
 use Rattle.sqlx_play.proofs.stage.reap.reap_all.Goals as goal
 
 pub loop-moment-preserved : goal.loop-moment-preserved

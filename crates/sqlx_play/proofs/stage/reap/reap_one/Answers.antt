@@ -1,5 +1,5 @@
 use Rattle.std.proofs.Math.Nat.{max-eq_right}
-use Rattle.sqlx_play.proofs.Reaping.{reaps-none, reaps-one}
+use Rattle.sqlx_play.proofs.ReapsLemmas.{reaps-none, reaps-one}
 use Rattle.sqlx_play.proofs.stage.reap.reap_one.Goals as goal
 
 pub returns-in-Some-clause-reaps : goal.returns-in-Some-clause-reaps

@@ -2,10 +2,10 @@ use Rattle.std.proofs.Common.{◌≡◌, [], ◌∷◌, ◌++◌, IfOk, OnOk, Ok
 use Rattle.sqlx_script.specs.declared.step.Step.TheVariants.{Try}
 use Rattle.sqlx_script.specs.declared.reply.Reply.{Reply}
 use Rattle.sqlx_script.specs.declared.reply.Reply.TheVariants.{Ready}
-use Rattle.sqlx_play.specs.Answer.{answer}
+use Rattle.sqlx_rules.specs.Answer.{answer}
 use Rattle.sqlx_play.specs.PlaysEvent.{PlaysEvent}
 use Rattle.sqlx_play.specs.declared.error.PlayError.{PlayError}
-use Rattle.sqlx_play.proofs.Passing.{try-reply, unlent-stands, tried-stands, first-idle}
+use Rattle.sqlx_play.proofs.CancelAndTry.{try-reply, unlent-stands, tried-stands, first-idle}
 use Rattle.sqlx_play.proofs.stage.try_acquire.try_acquire.Goals as goal
 
 pub returns-in-None-clause-ok : goal.returns-in-None-clause-ok

@@ -37,7 +37,10 @@ pub returns-in-Backoff-clause-polls : goal.returns-in-Backoff-clause-polls
 returns-in-Backoff-clause-polls g c = plain-poll c.args.self.now c.start.new.self c.args.client c.args.ticket (max c.args.self.now.last c.args.now.0) _ _ _ _ _ _ _ (start.Backoff c.in-Backoff.until) refl c.in-Backoff.ensures.own c.in-Backoff.ensures.becomes c.in-Backoff.ensures.makes
 
 pub returns-in-Waiting-clause-turn : goal.returns-in-Waiting-clause-turn
-returns-in-Waiting-clause-turn g c = λ marks s. own_turn-stands c.args.self.now marks c.args.client c.args.ticket (max c.args.self.now.last c.args.now.0) s
+returns-in-Waiting-clause-turn g c = λ marks s. own_turn-stands c.args.self.now marks s c.args.client c.args.ticket (max c.args.self.now.last c.args.now.0)
+
+pub returns-in-Backoff-clause-turn : goal.returns-in-Backoff-clause-turn
+returns-in-Backoff-clause-turn g c = λ marks s. own_turn-stands c.args.self.now marks s c.args.client c.args.ticket (max c.args.self.now.last c.args.now.0)
 
 pub returns-in-Some-clause-polls : goal.returns-in-Some-clause-polls
 returns-in-Some-clause-polls g c =

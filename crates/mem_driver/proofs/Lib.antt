@@ -1,0 +1,3 @@
+pub mod AnswersLemmas
+pub mod LevelDepths
+pub mod BeginLemmas

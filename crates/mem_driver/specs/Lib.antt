@@ -1,0 +1,5 @@
+pub mod Session
+pub mod Asked
+pub mod Answers
+pub mod Prepared
+pub mod Backend

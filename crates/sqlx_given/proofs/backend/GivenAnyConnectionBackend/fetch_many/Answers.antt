@@ -1,5 +1,0 @@
-use Rattle.std.proofs.Common.{Ok}
-use Rattle.sqlx_given.proofs.backend.GivenAnyConnectionBackend.fetch_many.Goals as goal
-
-pub returns-clause-causes : goal.returns-clause-causes
-returns-clause-causes c = c.hand_out.ensures.causes (Ok c.args.arguments)

@@ -1,4 +1,0 @@
-use Rattle.sqlx_notes.proofs.shelf.ShelfExecutorNotes.fetch_many.Goals as goal
-
-pub returns-in-Ok-clause-causes : goal.returns-in-Ok-clause-causes
-returns-in-Ok-clause-causes g c = c.hand_out-list.ensures.causes (g.Q.Execute.arguments c.args.query)

@@ -1,0 +1,57 @@
+-- What playing a script is: all of its output was written, and the headline holds.
+use Rattle.std.specs.Prelude.{◌≡◌, ℕ, ℤ, List, [], Option, Some, None}
+use Rattle.std.specs.FinMap.{get}
+use Rattle.std.specs.Io.KnownBytes.{Appends}
+use Rattle.sqlx_script.specs.declared.pool_line.PoolLine.{PoolLine}
+use Rattle.sqlx_script.specs.Words.{lines_of}
+use Rattle.sqlx_script.specs.Grammar.{Script, IsScript, reading_from}
+use Rattle.sqlx_pool_core.specs.Core.{Core}
+use Rattle.sqlx_pool_core.specs.StandsFor.{StandsFor}
+use Rattle.mem_store.specs.Store.{Store, Link}
+use Rattle.sqlx_brackets.specs.Brackets.{value}
+use Rattle.sqlx_rules.specs.ScriptMarks.{marks_of}
+use Rattle.sqlx_rules.specs.ScriptLevels.{history_of}
+use Rattle.sqlx_rules.specs.Output.{pairs_after, pairs_of, replies_text, output_of}
+use Rattle.sqlx_rules.specs.Headline.{HoldsHeadline}
+use Rattle.sqlx_play.specs.declared.stage.Stage.{Stage}
+use Rattle.sqlx_play.specs.StageStands.{IsSetUp, StageStands}
+use Rattle.sqlx_play.specs.ScriptRuns.{runs_of}
+
+-- ---- playing the lines after the first
+
+-- The replies to the events of these lines.
+abbrev pub lines_text : PoolLine → List ℕ → List ℕ
+lines_text pool text = replies_text (pairs_after pool [] (reading_from 2 0 (lines_of text)).events)
+
+-- No line after the first is bad, the replies were written, and the stage is as it is after them.
+pub record PlaysLines (text : List ℕ) (pool : PoolLine) (before now : Option (List ℕ)) (stage : Stage) : Type 0 where
+  pub good : (reading_from 2 0 (lines_of text)).bad ≡ None
+  pub written : Appends before now (lines_text pool text)
+  pub stage_after : StageStands stage (pairs_after pool [] (reading_from 2 0 (lines_of text)).events)
+  pub runs_after : stage.out.store.runs ≡ runs_of (pairs_after pool [] (reading_from 2 0 (lines_of text)).events)
+
+-- A line after the first is bad, and the replies before it were written.
+pub record StopsAt (text : List ℕ) (pool : PoolLine) (before now : Option (List ℕ)) (n : ℕ) : Type 0 where
+  pub bad : (reading_from 2 0 (lines_of text)).bad ≡ Some n
+  pub written : Appends before now (lines_text pool text)
+
+-- ---- playing
+
+-- The bytes are a script, whose output was written and for which the headline holds. The core has the script's options, holds no place and stands for the marks of its events and replies, the store's rows are what a connection that was never opened sees, and the store counted each text that ran.
+pub record Plays (bytes : List ℕ) (before now : Option (List ℕ)) (core : Core Link) (store : Store) : Type 0 where
+  pub script : Script
+  pub is_script : IsScript bytes script
+  pub written : Appends before now (output_of script)
+  pub headline : HoldsHeadline script.pool (pairs_of script)
+  pub set_up : IsSetUp script.pool core.options
+  pub places : core.places ≡ 0
+  pub core_after : StandsFor core (marks_of script.pool (pairs_of script))
+  pub rows_after : (key : ℤ) → get store.rows key ≡ value core.next_conn key (history_of script.pool (pairs_of script))
+  pub runs_after : store.runs ≡ runs_of (pairs_of script)
+
+-- The bytes are a script, whose output was written and for which the headline holds.
+pub record Answers (bytes : List ℕ) (before now : Option (List ℕ)) : Type 0 where
+  pub script : Script
+  pub is_script : IsScript bytes script
+  pub written : Appends before now (output_of script)
+  pub headline : HoldsHeadline script.pool (pairs_of script)

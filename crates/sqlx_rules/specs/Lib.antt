@@ -1,0 +1,9 @@
+pub mod Pairs
+pub mod ScriptMarks
+pub mod Tries
+pub mod ScriptLevels
+pub mod Answer
+pub mod Output
+pub mod ScriptTexts
+pub mod Headline
+pub mod Laws

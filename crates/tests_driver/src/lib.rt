@@ -1,0 +1,11 @@
+//! Tests of the database in memory: statements by their texts on the store's own links, and queries on
+//! connections over its sessions.
+#![tactic(auto)]
+
+mod callers;
+#[cfg(test)]
+mod queries;
+#[cfg(test)]
+mod statements;
+
+pub use callers::keep;

@@ -1,0 +1,271 @@
+//! Statements that are built piece by piece, with the numbered placeholders of the toy database, and what is asked of them.
+ghost use Rattle.std.specs.Prelude.{◌≡◌, Bool, IfOk};
+
+use crate::calls::{numbers, ran, ran_read};
+use sqlx_query::{PushTuple, QueryBuilder, Separated, placeholders_are_arguments};
+use sqlx_text::{Error, Fault, OutOfMemory};
+use std::alloc::Global;
+use std::test::*;
+use tests_database::Toy;
+use tests_database::answers::{taken, told};
+use tests_database::steps::Call;
+
+type Builder = QueryBuilder<Toy>;
+
+// A builder of one argument.
+fn started(alloc: Global, init: &str) -> Result<Builder, Error>
+    ensures { IfOk result (λ builder. builder.built ≡ Bool.false) }
+{
+    let args = numbers(alloc, &[9])?;
+    Ok(QueryBuilder::with_arguments(alloc, init.to_string(alloc)?, args))
+}
+
+// What is asked of the query that is built, and what comes of it.
+fn run(alloc: Global, builder: &mut Builder) -> Result<String, Error> {
+    if builder.is_built() {
+        return Ok("built".to_string(alloc)?);
+    }
+    let query = builder.build(alloc)?;
+    ran(alloc, "2", Call::Execute, query)
+}
+
+fn pushed(alloc: Global) -> Result<String, Error> {
+    let mut builder = started(alloc, "SELECT $1 ")?;
+    builder
+        .push(alloc, "WHERE a = ")?
+        .push_bind(alloc, "x")?
+        .push(alloc, " LIMIT ")?
+        .push_display(alloc, &30u8)?;
+    run(alloc, &mut builder)
+}
+
+fn tried(alloc: Global) -> Result<String, Error> {
+    let mut builder = started(alloc, "SELECT $1 ")?;
+    builder.try_push(alloc, "WHERE a = ")?;
+    builder.try_push_bind(alloc, "x")?;
+    builder.try_push(alloc, " LIMIT ")?;
+    builder.try_push_display(alloc, &30u8)?;
+    run(alloc, &mut builder)
+}
+
+// A list of texts and of values; a refused value leaves no separator.
+fn listed(alloc: Global) -> Result<String, Error> {
+    let mut builder = started(alloc, "SELECT $1")?;
+    let mut list = builder.separated(",");
+    list.push_unseparated(alloc, " IN (")?;
+    list.push(alloc, "a")?;
+    list.push_bind(alloc, 5i64)?;
+    drop(taken(alloc, list.push_bind(alloc, true))?);
+    list.push_bind(alloc, 6i64)?;
+    list.push_bind_unseparated(alloc, 7i64)?;
+    list.push_unseparated(alloc, ")")?;
+    drop(list);
+    run(alloc, &mut builder)
+}
+
+#[test]
+fn pushes_pieces(rt: HostRuntime) -> Result<(), Fail> {
+    let alloc = rt.alloc();
+    let want = "SELECT $1 WHERE a = $2 LIMIT 30 kept|9|x: ToyQueryResult(2)";
+    for (answer, want) in [
+        (pushed(alloc), want),
+        (tried(alloc), want),
+        (
+            listed(alloc),
+            "SELECT $1 IN (a,$2,$3$4) kept|9|5|6|7: ToyQueryResult(2)",
+        ),
+    ] {
+        assert_eq!(rt; told(alloc, answer)?.as_str(), want);
+    }
+    Ok(())
+}
+
+// Binds both numbers of each pair.
+#[derive(Drop)]
+struct Pairs;
+
+impl PushTuple<Toy, (i64, i64)> for Pairs {
+    ghost use Rattle.std.specs.Prelude.{⊤};
+    ghost use Rattle.sqlx_traits.specs.Arguments.{IsWantOfMemory};
+
+    ghost writes = { λ _ _ _ _. ⊤ };
+
+    ghost refuses = { λ _ _. IsWantOfMemory };
+
+    fn push_tuple(
+        &mut self,
+        alloc: Global,
+        row: &mut Separated<'_, Toy>,
+        tuple: (i64, i64),
+    ) -> Result<(), Fault> {
+        row.push_bind(alloc, tuple.0)?;
+        row.push_bind(alloc, tuple.1)?;
+        Ok(())
+    }
+}
+
+// Binds the first number of each pair, and then a value that can't be bound.
+#[derive(Drop)]
+struct HalfPairs;
+
+impl PushTuple<Toy, (i64, i64)> for HalfPairs {
+    ghost use Rattle.std.specs.Prelude.{◌≡◌, ◌⊎◌, ⊤};
+    ghost use Rattle.sqlx_text.specs.declared.fault.Fault.TheVariants.{OutOfRange};
+    ghost use Rattle.sqlx_traits.specs.Arguments.{IsWantOfMemory};
+
+    ghost writes = { λ _ _ _ _. ⊤ };
+
+    ghost refuses = { λ _ _ fault. (fault ≡ OutOfRange) ⊎ IsWantOfMemory fault };
+
+    fn push_tuple(
+        &mut self,
+        alloc: Global,
+        row: &mut Separated<'_, Toy>,
+        tuple: (i64, i64),
+    ) -> Result<(), Fault> {
+        row.push_bind(alloc, tuple.0)?;
+        row.push_bind(alloc, true)?;
+        Ok(())
+    }
+}
+
+// So many of two pairs.
+fn pairs(alloc: Global, count: usize) -> Result<Vec<(i64, i64)>, OutOfMemory> {
+    let mut pairs = vec![in alloc; (1, 2), (3, 4)]?;
+    pairs.truncate(count);
+    Ok(pairs)
+}
+
+fn values(alloc: Global, count: usize) -> Result<String, Error> {
+    let pairs = pairs(alloc, count)?;
+    let mut builder = started(alloc, "INSERT $1 ")?;
+    builder.push_values(alloc, pairs.into_iter(), Pairs)?;
+    run(alloc, &mut builder)
+}
+
+fn tuples(alloc: Global, count: usize) -> Result<String, Error> {
+    let pairs = pairs(alloc, count)?;
+    let mut builder = started(alloc, "SELECT $1 IN")?;
+    builder.push_tuples(alloc, pairs.into_iter(), Pairs)?;
+    run(alloc, &mut builder)
+}
+
+#[test]
+fn pushes_tuples(rt: HostRuntime) -> Result<(), Fail> {
+    let alloc = rt.alloc();
+    for (answer, want) in [
+        (
+            values(alloc, 2),
+            "INSERT $1 VALUES ($2, $3), ($4, $5) kept|9|1|2|3|4: ToyQueryResult(2)",
+        ),
+        (
+            values(alloc, 0),
+            "INSERT $1 VALUES  kept|9: ToyQueryResult(2)",
+        ),
+        (
+            tuples(alloc, 2),
+            "SELECT $1 IN (($2, $3), ($4, $5))  kept|9|1|2|3|4: ToyQueryResult(2)",
+        ),
+        (
+            tuples(alloc, 0),
+            "SELECT $1 IN ()  kept|9: ToyQueryResult(2)",
+        ),
+    ] {
+        assert_eq!(rt; told(alloc, answer)?.as_str(), want);
+    }
+    Ok(())
+}
+
+fn refused_value(alloc: Global) -> Result<[String; 2], Error> {
+    let mut builder = started(alloc, "SELECT $1")?;
+    let answer = taken(alloc, builder.try_push_bind(alloc, true))?;
+    Ok([answer, run(alloc, &mut builder)?])
+}
+
+fn refused_values(alloc: Global) -> Result<[String; 2], Error> {
+    let pairs = pairs(alloc, 2)?;
+    let mut builder = started(alloc, "SELECT $1")?;
+    let answer = taken(
+        alloc,
+        builder.try_push_values(alloc, pairs.into_iter(), HalfPairs),
+    )?;
+    Ok([answer, run(alloc, &mut builder)?])
+}
+
+fn refused_tuples(alloc: Global) -> Result<[String; 2], Error> {
+    let pairs = pairs(alloc, 2)?;
+    let mut builder = started(alloc, "SELECT $1")?;
+    let answer = taken(
+        alloc,
+        builder.try_push_tuples(alloc, pairs.into_iter(), HalfPairs),
+    )?;
+    Ok([answer, run(alloc, &mut builder)?])
+}
+
+#[test]
+fn a_refusal_leaves_the_builder(rt: HostRuntime) -> Result<(), Fail> {
+    let alloc = rt.alloc();
+    let answers = [
+        refused_value(alloc)?,
+        refused_values(alloc)?,
+        refused_tuples(alloc)?,
+    ];
+    for [answer, ran] in answers {
+        assert_eq!(rt;
+            answer.as_str(),
+            "out of range integral type conversion attempted"
+        );
+        assert_eq!(rt; ran.as_str(), "SELECT $1 kept|9: ToyQueryResult(2)");
+    }
+    Ok(())
+}
+
+fn built_as(alloc: Global) -> Result<String, Error> {
+    let mut builder = started(alloc, "SELECT $1")?;
+    let query = builder.build_query_as::<(i64,)>(alloc)?;
+    ran_read(alloc, "l", Call::FetchOne, query)
+}
+
+fn built_scalar(alloc: Global) -> Result<String, Error> {
+    let mut builder = started(alloc, "SELECT $1")?;
+    let query = builder.build_query_scalar::<i64>(alloc)?;
+    ran_read(alloc, "l", Call::FetchOne, query)
+}
+
+fn built_anew(alloc: Global) -> Result<String, Error> {
+    let mut builder: Builder = QueryBuilder::new(alloc, "SELECT".to_string(alloc)?);
+    builder.push_bind(alloc, 1i64)?;
+    drop(run(alloc, &mut builder)?);
+    let built = builder.is_built();
+    let again = run(alloc, builder.reset(alloc))?;
+    let text = builder.into_string();
+    Ok(format!(in alloc; "{built} {again} {text}")?)
+}
+
+fn texts(alloc: Global) -> Result<String, Error> {
+    let builder = started(alloc, "SELECT $1")?;
+    let sql = builder.sql(alloc)?;
+    let same = builder.into_sql();
+    Ok(format!(in alloc; "{sql:?} {same:?}")?)
+}
+
+#[test]
+fn builds_queries(rt: HostRuntime) -> Result<(), Fail> {
+    let alloc = rt.alloc();
+    placeholders_are_arguments::<Toy>();
+    for (answer, want) in [
+        (built_as(alloc), "SELECT $1 kept|9: (7,)"),
+        (built_scalar(alloc), "SELECT $1 kept|9: 7"),
+        (
+            built_anew(alloc),
+            "true SELECT kept: ToyQueryResult(2) SELECT",
+        ),
+        (
+            texts(alloc),
+            "SqlStr { text: \"SELECT $1\" } SqlStr { text: \"SELECT $1\" }",
+        ),
+    ] {
+        assert_eq!(rt; told(alloc, answer)?.as_str(), want);
+    }
+    Ok(())
+}

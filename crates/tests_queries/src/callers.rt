@@ -1,0 +1,80 @@
+//! Callers as a user writes them, with their contracts; each is called once.
+ghost use Rattle.std.specs.Prelude.{◌≡◌, ◌⊎◌, Bool, IfErr, OnOk, codes, false};
+ghost use Rattle.sqlx_query.specs.Query.{Asked, handed_over};
+ghost use Rattle.sqlx_text.specs.declared.error.Error.{Error};
+ghost use Rattle.sqlx_traits.specs.StepList.{Ran, first_of, one_or, rows_of};
+
+use crate::calls::asked;
+use sqlx_query::{QueryBuilder, query};
+use sqlx_text::{Error, Fault};
+use sqlx_traits::{
+    ArgumentList, Arguments, Database, Encode, Executor, HasStatementCache, IntoArguments, SqlType,
+};
+use std::alloc::Global;
+use std::test::*;
+use tests_database::answers::told;
+use tests_database::steps::one_row;
+use tests_database::{Toy, ToyConnection};
+
+/// The first article of an author, by a statement that isn't kept.
+pub fn first_article<'t, DB, E, T>(alloc: Global, conn: &mut E, author: T) -> Result<DB::Row, Error>
+where
+    DB: Database + HasStatementCache,
+    E: Executor<DB>,
+    T: Encode<'t, DB> + SqlType<DB> + Drop,
+    DB::Arguments: IntoArguments<DB>,
+    ensures { IfErr result (λ e. e ≡ Error.OutOfMemory) ⊎ ((asked : Asked DB.Statement DB.Arguments)
+        × (asked.text ≡ codes "SELECT title FROM articles WHERE author = ?") × (asked.kept ≡ false)
+        × Ran E.runs conn.old (handed_over ⟦<DB::Arguments as IntoArguments<DB>>⟧.becomes asked) conn.new
+        (λ list. result ≡ one_or Error.RowNotFound (first_of (rows_of list)))) }
+{
+    query::<DB, _>(alloc, "SELECT title FROM articles WHERE author = ?")?
+        .bind(alloc, author)
+        .persistent(false)
+        .fetch_one(alloc, conn)
+}
+
+/// Asks only for the first note of a day.
+pub fn of_day<'t, DB: Database, T: Encode<'t, DB> + SqlType<DB> + Drop>(
+    alloc: Global,
+    notes: &mut QueryBuilder<DB>,
+    day: T,
+) -> Result<(), Fault>
+    requires { notes.old.built ≡ Bool.false }
+    ensures bound { OnOk result (notes.new.arguments ≡ T.encoded day notes.old.arguments) }
+    ensures open { OnOk result (notes.new.built ≡ Bool.false) }
+{
+    notes
+        .push(alloc, " WHERE day = ")?
+        .push_bind(alloc, day)?
+        .push(alloc, " LIMIT 1")?;
+    Ok(())
+}
+
+fn article(alloc: Global) -> Result<String, Error> {
+    let mut conn = ToyConnection::new(alloc, "t")?;
+    let row = first_article::<Toy, ToyConnection, &str>(alloc, &mut conn, "x");
+    let given = one_row::<Toy>(alloc, row);
+    asked(alloc, conn, given)
+}
+
+fn notes(alloc: Global) -> Result<String, Error> {
+    let mut notes: QueryBuilder<Toy> = QueryBuilder::new(alloc, "SELECT".to_string(alloc)?);
+    of_day::<Toy, i64>(alloc, &mut notes, 3)?;
+    Ok(notes.into_string())
+}
+
+#[test]
+fn callers_run(rt: HostRuntime) -> Result<(), Fail> {
+    let alloc = rt.alloc();
+    for (answer, want) in [
+        (
+            article(alloc),
+            "SELECT title FROM articles WHERE author = ?|x: text",
+        ),
+        (notes(alloc), "SELECT WHERE day = $1 LIMIT 1"),
+    ] {
+        assert_eq!(rt; told(alloc, answer)?.as_str(), want);
+    }
+    Ok(())
+}

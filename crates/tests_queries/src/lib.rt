@@ -1,0 +1,21 @@
+//! Tests of `sqlx_from_row` and `sqlx_query`, at the toy database.
+#![tactic(auto)]
+
+#[cfg(test)]
+mod builders;
+#[cfg(test)]
+mod callers;
+#[cfg(test)]
+mod calls;
+#[cfg(test)]
+mod faults;
+#[cfg(test)]
+mod mapped;
+#[cfg(test)]
+mod queries;
+#[cfg(test)]
+mod read;
+#[cfg(test)]
+mod rows;
+#[cfg(test)]
+mod statements;
