@@ -6,13 +6,21 @@ use std::io::BufWriter;
 use std::process::ExitCode;
 use std::{env, io};
 
-// The words of the command line behind the program's own name. Words that are no text are a wrong use.
+// Why the words of the command line can't be had: memory was wanting, or one is no text, which is a wrong use.
+fn without_words(error: io::Error) -> PlayError {
+    let is_short = matches!(error.kind(), io::ErrorKind::OutOfMemory);
+    drop(error);
+    if is_short {
+        PlayError::OutOfMemory
+    } else {
+        PlayError::Usage
+    }
+}
+
+// The words of the command line behind the program's own name.
 fn words(rt: &HostRuntime) -> Result<Vec<String>, PlayError> {
     let mut words = Vec::new(rt.alloc());
-    let Ok(args) = env::args(rt) else {
-        return Err(PlayError::Usage);
-    };
-    for word in args.skip(1) {
+    for word in env::args(rt).map_err(without_words)?.skip(1) {
         if words.push(word).is_err() {
             return Err(PlayError::OutOfMemory);
         }
