@@ -1,17 +1,16 @@
 -- The text of a statement is read as that statement, and what a text's front and its digits are to that.
-use Rattle.std.proofs.Common.{◌≡◌, ◌≢◌, ℕ, ◌<◌, ◌≤◌, ◌^◌, ◌&&◌, Bool, true, false, cond, nat_lt, List, [], ◌∷◌, ◌++◌, length, get_or, take, drop, Ok, Err, Option, Some, None, option_map, OkIff, Result, bytes_eq, codes, decimal, refl, sym, ap, ◌∙◌, subst, arith, ltb-true, lt-ltb, take-append-drop}
+use Rattle.std.proofs.Common.{◌≡◌, ◌≢◌, ℕ, ◌<◌, ◌^◌, ◌&&◌, Bool, true, false, cond, nat_lt, List, [], ◌∷◌, ◌++◌, length, get_or, take, drop, Ok, Err, Option, Some, None, bytes_eq, decimal, refl, sym, ap, ◌∙◌, arith, ltb-true, lt-ltb, take-append-drop}
 use Rattle.std.specs.Str.{all_ascii_digits}
 use Rattle.std.specs.Str.Parse.{digits_value, ParsesUnsigned}
-use Rattle.std.specs.Str.Pattern.{FindsTextPrefix, StripsPrefix}
 use Rattle.std.specs.Cmp.Lexicographic.{bytes_decides}
 use Rattle.std.proofs.lemmas.Bool.{cond-true, cond-false}
-use Rattle.std.proofs.lemmas.List.{take-append-le, drop-append-le, take_all, drop_all}
+use Rattle.std.proofs.lemmas.List.{take-append-le, take_all}
 use Rattle.std.proofs.lemmas.Str.Parse.{IsNumeralModel, numerals_by_value, tells_all_ascii_digits, parse_plain}
 use Rattle.std.proofs.lemmas.Fmt.{first_decimal, digits_decimal, digits_value-decimal}
 use Rattle.sqlx_savepoints.specs.declared.level_text.LevelText.TheVariants.{Begin, BeginImmediate, Commit, Rollback, Savepoint, Release, RollbackTo}
 use Rattle.mem_store.specs.declared.statement.Statement.{Statement}
 use Rattle.mem_store.specs.declared.statement.Statement.TheVariants.{Put, Delete, Get, SelectAll, SelectOne, Level}
-use Rattle.mem_store.specs.Statements.{IsNumber, IsHeld, Reads, ReadsBack, behind, is_savepoint_number, number_of, savepoint_number, statement_text, read_statement}
+use Rattle.mem_store.specs.Statements.{IsNumber, IsHeld, ReadsBack, behind, is_savepoint_number, savepoint_number, statement_text, read_statement}
 
 -- ---- what stands behind words
 

@@ -1,4 +1,4 @@
-use Rattle.std.proofs.Common.{ap, ◌∙◌, drop, length, rules}
+use Rattle.std.proofs.Common.{ap, ◌∙◌, drop}
 use Rattle.mem_store.specs.Statements.{number_of, savepoint_number}
 use Rattle.mem_store.proofs.ReadsBack.{behind-words, behind-none}
 use Rattle.mem_store.proofs.statement.number_behind.Goals as goal

@@ -1,4 +1,4 @@
-use Rattle.std.proofs.Common.{◌∙◌, to_z-of_z}
+use Rattle.std.proofs.Common.{to_z-of_z}
 use Rattle.mem_store.proofs.Undoing.{put_back-absent, put_back-present}
 use Rattle.mem_store.proofs.rows.Rows.replace.Goals as goal
 

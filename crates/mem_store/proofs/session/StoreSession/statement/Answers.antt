@@ -1,4 +1,4 @@
-use Rattle.std.proofs.Common.{◌≡◌, ◌∙◌, ap, sym, Option, List, ℕ, ℤ}
+use Rattle.std.proofs.Common.{◌≡◌, ◌∙◌, ap, Option, List, ℕ, ℤ}
 use Rattle.mem_store.specs.declared.statement.Statement.{Statement}
 use Rattle.mem_store.specs.declared.act.Act.{Act}
 use Rattle.mem_store.specs.Statements.{Reads, read_statement}
