@@ -127,21 +127,21 @@ impl PushTuple<Toy, (i64, i64)> for HalfPairs {
 }
 
 // So many of two pairs.
-fn pairs(alloc: Global, count: usize) -> Result<Vec<(i64, i64)>, OutOfMemory> {
+fn two_pairs(alloc: Global, count: usize) -> Result<Vec<(i64, i64)>, OutOfMemory> {
     let mut pairs = vec![in alloc; (1, 2), (3, 4)]?;
     pairs.truncate(count);
     Ok(pairs)
 }
 
 fn values(alloc: Global, count: usize) -> Result<String, Error> {
-    let pairs = pairs(alloc, count)?;
+    let pairs = two_pairs(alloc, count)?;
     let mut builder = started(alloc, "INSERT $1 ")?;
     builder.push_values(alloc, pairs.into_iter(), Pairs)?;
     run(alloc, &mut builder)
 }
 
 fn tuples(alloc: Global, count: usize) -> Result<String, Error> {
-    let pairs = pairs(alloc, count)?;
+    let pairs = two_pairs(alloc, count)?;
     let mut builder = started(alloc, "SELECT $1 IN")?;
     builder.push_tuples(alloc, pairs.into_iter(), Pairs)?;
     run(alloc, &mut builder)
@@ -180,7 +180,7 @@ fn refused_value(alloc: Global) -> Result<String, Error> {
 }
 
 fn refused_values(alloc: Global) -> Result<String, Error> {
-    let pairs = pairs(alloc, 2)?;
+    let pairs = two_pairs(alloc, 2)?;
     let mut builder = started(alloc, "SELECT $1")?;
     let answer = taken(
         alloc,
@@ -191,7 +191,7 @@ fn refused_values(alloc: Global) -> Result<String, Error> {
 }
 
 fn refused_tuples(alloc: Global) -> Result<String, Error> {
-    let pairs = pairs(alloc, 2)?;
+    let pairs = two_pairs(alloc, 2)?;
     let mut builder = started(alloc, "SELECT $1")?;
     let answer = taken(
         alloc,

@@ -10,7 +10,7 @@ use tests_database::answers::taken;
 use tests_database::steps::Call;
 use tests_database::{Toy, ToyArguments};
 
-const FIRST: &str =
+const FIRST_REFUSED: &str =
     "nothing: error occurred while encoding a value: Encoding argument $1 failed: out of range integral type conversion attempted";
 
 const OUT_OF_RANGE: &str =
@@ -35,9 +35,9 @@ fn second(alloc: Global) -> Result<String, Error> {
 fn tells_the_first_fault(rt: HostRuntime) -> Result<(), Fail> {
     let alloc = rt.alloc();
     for call in [Call::Execute, Call::FetchAll, Call::FetchOptional] {
-        says(&rt, first(alloc, call), FIRST)?;
+        says(&rt, first(alloc, call), FIRST_REFUSED)?;
     }
-    let alone = format!(in alloc; "{FIRST}|")?;
+    let alone = format!(in alloc; "{FIRST_REFUSED}|")?;
     for call in [Call::Fetch, Call::FetchMany, Call::ExecuteMany] {
         says(&rt, first(alloc, call), alone.as_str())?;
     }
@@ -81,7 +81,7 @@ fn a_refused_try_is_forgotten(rt: HostRuntime) -> Result<(), Fail> {
         tried_behind_a_fault(alloc),
         "A previous call to Query::bind produced an error",
     )?;
-    says(&rt, of_scalar(alloc), FIRST)
+    says(&rt, of_scalar(alloc), FIRST_REFUSED)
 }
 
 fn given() -> Result<ToyArguments, Fault> {

@@ -92,7 +92,7 @@ fn reads_with_arguments(rt: HostRuntime) -> Result<(), Fail> {
     says(&rt, scalar_with_result(alloc), "SELECT kept|9: 7")
 }
 
-fn note(alloc: Global, letters: &str) -> Result<String, Error> {
+fn read_struct(alloc: Global, letters: &str) -> Result<String, Error> {
     let query = query_as::<Toy, Note, _>(alloc, "SELECT")?;
     let mut conn = ToyConnection::of_row(alloc, row_of(alloc, letters)?)?;
     let given = of_read(alloc, Call::FetchOne, query, &mut conn);
@@ -104,12 +104,12 @@ fn reads_a_struct(rt: HostRuntime) -> Result<(), Fail> {
     let alloc = rt.alloc();
     says(
         &rt,
-        note(alloc, "lt"),
+        read_struct(alloc, "lt"),
         "SELECT kept: Note { number: 7, title: \"x\" }",
     )?;
     says(
         &rt,
-        note(alloc, "l"),
+        read_struct(alloc, "l"),
         "SELECT kept: column index out of bounds: the len is 1, but the index is 1",
     )
 }

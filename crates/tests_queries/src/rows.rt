@@ -93,9 +93,9 @@ fn numbers(alloc: Global, count: u8, text_at: u8) -> Result<ToyRow, Error> {
     ToyRow::new(columns, values)
 }
 
-type Eight = (i64, i64, i64, i64, i64, i64, i64, i64);
+type EightNumbers = (i64, i64, i64, i64, i64, i64, i64, i64);
 
-type Sixteen = (
+type SixteenNumbers = (
     i64,
     i64,
     i64,
@@ -116,7 +116,7 @@ type Sixteen = (
 
 // Sixteen numbers, each from the column at its position.
 fn sixteen(alloc: Global, row: &ToyRow) -> Result<[i64; 16], Error> {
-    let all = made::<Toy, Sixteen>(alloc, row)?;
+    let all = made::<Toy, SixteenNumbers>(alloc, row)?;
     Ok([
         all.0, all.1, all.2, all.3, all.4, all.5, all.6, all.7, all.8, all.9, all.10, all.11,
         all.12, all.13, all.14, all.15,
@@ -124,7 +124,7 @@ fn sixteen(alloc: Global, row: &ToyRow) -> Result<[i64; 16], Error> {
 }
 
 fn eight(alloc: Global, row: &ToyRow) -> Result<[i64; 8], Error> {
-    let all = made::<Toy, Eight>(alloc, row)?;
+    let all = made::<Toy, EightNumbers>(alloc, row)?;
     Ok([all.0, all.1, all.2, all.3, all.4, all.5, all.6, all.7])
 }
 
