@@ -59,9 +59,11 @@ row_of names numbers = record { names = named_from 0 names []; columns = columns
 abbrev pub value_names : List (List ℕ)
 value_names = codes "v" ∷ []
 
+-- the names of the columns of a key and its value
 abbrev pub pair_names : List (List ℕ)
 pair_names = codes "k" ∷ codes "v" ∷ []
 
+-- the name of the column that `SELECT 1` gives
 abbrev pub one_names : List (List ℕ)
 one_names = codes "1" ∷ []
 

@@ -25,15 +25,19 @@ pub record Session : Type 0 where
   pub cache : Cache
   pub faults : ℕ
 
+-- no value, written out
 abbrev pub unit_code : Coded (Unit {0})
 unit_code = code_by Bool coded_bool (λ _. true) (λ _. tt) (λ _. refl)
 
+-- a cache of texts, written out
 abbrev pub cache_code : Coded Cache
 cache_code = lru_cache_code (coded_list coded_ℕ) unit_code
 
+-- a link, written out
 abbrev pub link_code : Coded Link
 link_code = code_by (Side × Cache) (coded× side_code cache_code) (λ l. (l.side, l.cache)) (λ p. record { side = p.0; cache = p.1 }) (λ _. refl)
 
+-- a session, written out
 abbrev pub session_code : Coded Session
 session_code = code_by (Work × (Cache × ℕ)) (coded× work_code (coded× cache_code coded_ℕ)) (λ s. (s.work, (s.cache, s.faults))) (λ p. record { work = p.0; cache = p.1.0; faults = p.1.1 }) (λ _. refl)
 

@@ -69,6 +69,7 @@ refusal_of act session = first_of (fault_of session.answer) (refusal_here act se
 abbrev pub counted : ℕ → ℕ
 counted count = min (count + 1) (2 ^ 64 - 1)
 
+-- the counts once this text of a level ran
 abbrev pub level_counted : LevelText → Runs → Runs
 level_counted Begin runs = record runs { begun = counted runs.begun }
 level_counted BeginImmediate runs = record runs { begun = counted runs.begun }

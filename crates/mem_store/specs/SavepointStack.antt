@@ -11,15 +11,19 @@ pub record SavepointStack : Type 0 where
   pub own : Writes
   pub entries : List Entry
 
+-- rows, written out
 abbrev pub rows_code : Coded Rows
 rows_code = code coded_ℤ coded_ℤ
 
+-- writes, written out
 abbrev pub writes_code : Coded Writes
 writes_code = code coded_ℤ (coded_option coded_ℤ)
 
+-- an entry, written out
 abbrev pub entry_code : Coded Entry
 entry_code = code_by (ℕ × Writes) (coded× coded_ℕ writes_code) (λ e. (e.name, e.own)) (λ p. record { name = p.0; own = p.1 }) (λ _. refl)
 
+-- a stack, written out
 abbrev pub stack_code : Coded SavepointStack
 stack_code = code_by (Writes × List Entry) (coded× writes_code (coded_list entry_code)) (λ k. (k.own, k.entries)) (λ p. record { own = p.0; entries = p.1 }) (λ _. refl)
 

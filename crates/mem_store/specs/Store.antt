@@ -37,31 +37,39 @@ bools_of Accept = (true, true)
 bools_of Io = (false, true)
 bools_of Refuse = (false, false)
 
+-- the answer that two bits stand for
 abbrev pub answer_of : Bool × Bool → Answer
 answer_of (true, second) = Accept
 answer_of (false, true) = Io
 answer_of (false, false) = Refuse
 
+-- an answer is read back from its two bits
 abbrev pub answer_of-bools_of : (answer : Answer) → answer_of (bools_of answer) ≡ answer
 answer_of-bools_of Accept = refl
 answer_of-bools_of Io = refl
 answer_of-bools_of Refuse = refl
 
+-- a place, written out
 abbrev pub place_code : Coded Place
 place_code = code_by (ℕ × Bool) (coded× coded_ℕ coded_bool) (λ p. (p.number, p.in_level)) (λ p. record { number = p.0; in_level = p.1 }) (λ _. refl)
 
+-- counts, written out
 abbrev pub runs_code : Coded Runs
 runs_code = code_by (ℕ × (ℕ × (ℕ × ℕ))) (coded× coded_ℕ (coded× coded_ℕ (coded× coded_ℕ coded_ℕ))) (λ r. (r.begun, (r.ended, (r.writes, r.reads)))) (λ p. record { begun = p.0; ended = p.1.0; writes = p.1.1.0; reads = p.1.1.1 }) (λ _. refl)
 
+-- a store, written out
 abbrev pub store_code : Coded Store
 store_code = code_by (Rows × (List Place × (ℕ × Runs))) (coded× rows_code (coded× (coded_list place_code) (coded× coded_ℕ runs_code))) (λ s. (s.rows, (s.places, (s.given, s.runs)))) (λ p. record { rows = p.0; places = p.1.0; given = p.1.1.0; runs = p.1.1.1 }) (λ _. refl)
 
+-- a link, written out
 abbrev pub link_code : Coded Link
 link_code = code_by (ℕ × (ℕ × (Writes × List Entry))) (coded× coded_ℕ (coded× coded_ℕ (coded× writes_code (coded_list entry_code)))) (λ l. (l.number, (l.depth, (l.own, l.entries)))) (λ p. record { number = p.0; depth = p.1.0; own = p.1.1.0; entries = p.1.1.1 }) (λ _. refl)
 
+-- an answer, written out
 abbrev pub answer_code : Coded Answer
 answer_code = code_by (Bool × Bool) (coded× coded_bool coded_bool) bools_of answer_of answer_of-bools_of
 
+-- a session, written out
 abbrev pub session_code : Coded Session
 session_code = code_by (Store × (Link × Answer)) (coded× store_code (coded× link_code answer_code)) (λ s. (s.store, (s.link, s.answer))) (λ p. record { store = p.0; link = p.1.0; answer = p.1.1 }) (λ _. refl)
 

@@ -36,6 +36,7 @@ abbrev pub from_name : ℕ → List Saved → List Saved
 from_name name [] = []
 from_name name (top ∷ older) = if name == top.name then top ∷ older else from_name name older
 
+-- the mark of the newest of these savepoints, none where there is none
 abbrev pub first_mark : List Saved → Option ℕ
 first_mark [] = None
 first_mark (top ∷ older) = Some top.mark
