@@ -1,11 +1,12 @@
 //! What each call that runs a query gives of it, through the bounds alone, as a text.
+ghost use Rattle.std.specs.Iterator.{IsFinite};
 
 use sqlx_query::{Map, Mapper, Query, RawSql, ReadQuery, Reader};
 use sqlx_text::{Error, Fault, OutOfMemory};
 use sqlx_traits::*;
 use std::alloc::Global;
 use std::fmt::Debug;
-use tests_database::answers::{shown, told};
+use tests_database::answers::{refusal, shown, told};
 use tests_database::steps::*;
 use tests_database::{Toy, ToyArguments, ToyConnection, ToyRow};
 
@@ -65,20 +66,8 @@ where
     M::Out: Debug,
 {
     match call {
-        Call::Fetch => {
-            let mut line = String::new(alloc);
-            for item in query.fetch(alloc, conn) {
-                put(&mut line, shown(alloc, item)?)?;
-            }
-            Ok(line)
-        }
-        Call::FetchMany => {
-            let mut line = String::new(alloc);
-            for item in query.fetch_many(alloc, conn) {
-                put(&mut line, one_step::<DB, M::Out>(alloc, item)?)?;
-            }
-            Ok(line)
-        }
+        Call::Fetch => Ok(line_of(alloc, query.fetch(alloc, conn))?),
+        Call::FetchMany => Ok(line_of_steps(alloc, query.fetch_many(alloc, conn))?),
         Call::FetchAll => Ok(shown(alloc, query.fetch_all(alloc, conn))?),
         Call::FetchOptional => Ok(shown(alloc, query.fetch_optional(alloc, conn))?),
         Call::FetchOne => Ok(shown(alloc, query.fetch_one(alloc, conn))?),
@@ -100,20 +89,8 @@ where
     requires { F.ready query.mapper }
 {
     match call {
-        Call::Fetch => {
-            let mut line = String::new(alloc);
-            for item in query.fetch(alloc, conn) {
-                put(&mut line, shown(alloc, item)?)?;
-            }
-            Ok(line)
-        }
-        Call::FetchMany => {
-            let mut line = String::new(alloc);
-            for item in query.fetch_many(alloc, conn) {
-                put(&mut line, one_step::<DB, F::Out>(alloc, item)?)?;
-            }
-            Ok(line)
-        }
+        Call::Fetch => Ok(line_of(alloc, query.fetch(alloc, conn))?),
+        Call::FetchMany => Ok(line_of_steps(alloc, query.fetch_many(alloc, conn))?),
         Call::FetchAll => Ok(shown(alloc, query.fetch_all(alloc, conn))?),
         Call::FetchOptional => Ok(shown(alloc, query.fetch_optional(alloc, conn))?),
         Call::FetchOne => Ok(shown(alloc, query.fetch_one(alloc, conn))?),
@@ -121,18 +98,47 @@ where
     }
 }
 
-// A result, or what was made of a row, or the error in its place.
-fn one_step<DB: Database, T: Debug + Drop>(
+// The items of a stream, a bar behind each.
+fn line_of<T: Debug + Drop, I: Iterator<Item = Result<T, Error>> + Drop>(
     alloc: Global,
-    item: Result<Either<DB::QueryResult, T>, Error>,
+    items: I,
 ) -> Result<String, OutOfMemory>
-where
-    DB::QueryResult: Debug,
+    requires can { I.can_next items }
+    requires ends { IsFinite (I.remaining items) }
 {
+    let mut line = String::new(alloc);
+    for item in items {
+        let text = shown(alloc, item)?;
+        put(&mut line, text)?;
+    }
+    Ok(line)
+}
+
+// The results of a stream and what was made of its rows, a bar behind each.
+fn line_of_steps<
+    Q: Debug + Drop,
+    T: Debug + Drop,
+    I: Iterator<Item = Result<Either<Q, T>, Error>> + Drop,
+>(alloc: Global, items: I) -> Result<String, OutOfMemory>
+    requires can { I.can_next items }
+    requires ends { IsFinite (I.remaining items) }
+{
+    let mut line = String::new(alloc);
+    for item in items {
+        let text = step(alloc, item)?;
+        put(&mut line, text)?;
+    }
+    Ok(line)
+}
+
+fn step<Q: Debug + Drop, T: Debug + Drop>(
+    alloc: Global,
+    item: Result<Either<Q, T>, Error>,
+) -> Result<String, OutOfMemory> {
     match item {
-        Ok(Either::Left(result)) => told(alloc, one_result::<DB>(alloc, Ok(result))),
+        Ok(Either::Left(result)) => shown(alloc, Ok(result)),
         Ok(Either::Right(value)) => shown(alloc, Ok(value)),
-        Err(error) => shown::<T>(alloc, Err(error)),
+        Err(error) => refusal(alloc, error),
     }
 }
 
