@@ -7,8 +7,11 @@ use Rattle.tests_database.specs.Values.{of_kind}
 use Rattle.tests_queries.proofs.builders.PairsPushTupleToyTuple2I64I64.push_tuple.Goals as goal
 
 pub returns-clause-ok : goal.returns-clause-ok
-returns-clause-ok c =
-    (Bound (codes "$" ++ decimal (length c.push_bind.new.self.builder.now.arguments)) (λ list. list ++ of_kind kinds.BigInt (holds.Whole c.args.tuple.0) ∷ [])
-        ∷ Text (codes ", ")
-        ∷ Bound (codes "$" ++ decimal (length c.push_bind-2.new.self.builder.now.arguments)) (λ list. list ++ of_kind kinds.BigInt (holds.Whole c.args.tuple.1) ∷ [])
-        ∷ [], tt, search rules)
+returns-clause-ok c = (
+  Bound (codes "$" ++ decimal (length c.push_bind.new.self.builder.now.arguments)) (λ list. list ++ of_kind kinds.BigInt (holds.Whole c.args.tuple.0) ∷ [])
+      ∷ Text (codes ", ")
+      ∷ Bound (codes "$" ++ decimal (length c.push_bind-2.new.self.builder.now.arguments)) (λ list. list ++ of_kind kinds.BigInt (holds.Whole c.args.tuple.1) ∷ [])
+      ∷ [],
+  tt,
+  search rules,
+)
