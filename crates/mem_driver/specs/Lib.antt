@@ -3,3 +3,4 @@ pub mod Asked
 pub mod Answers
 pub mod Prepared
 pub mod Backend
+pub mod Opened

@@ -7,6 +7,7 @@ mod asked;
 mod backend;
 mod levels;
 mod link;
+mod open;
 mod prepared;
 mod session;
 

@@ -1,6 +1,6 @@
 //! A connection to a store.
 ghost use Rattle.std.specs.Prelude.{◌≡◌, ◌+◌, IfOk, OnOk, OnErr};
-ghost use Rattle.mem_store.specs.Store.{connected, new_link, without};
+ghost use Rattle.mem_store.specs.Store.{connected, new_link, closed_at};
 ghost use Rattle.mem_driver.specs.Session.{new_cache};
 
 use mem_store::{MemStore, StoreLink};
@@ -41,7 +41,7 @@ impl MemLink {
 
     /// Ends a connection to the store, its levels as rolled back.
     pub fn close(self, store: &mut MemStore)
-        ensures { store.new ≡ record store.old { places = without self.side.number store.old.places } }
+        ensures { store.new ≡ closed_at self.side.depth store.old }
     {
         let MemLink { side, cache } = self;
         drop(cache);

@@ -56,6 +56,14 @@ impl MemSession {
         (store, MemLink::of(side, cache))
     }
 
+    /// Puts another store in the place of the session's, which is handed out. The link has to be one of that store.
+    pub fn swap_store(&mut self, store: &mut MemStore)
+        ensures session { self.new ≡ record self.old { work = record self.old.work { store = store.old } } }
+        ensures store { store.new ≡ self.old.work.store }
+    {
+        self.work.swap_store(store);
+    }
+
     /// How many levels are open.
     pub fn depth(&self) -> usize
         ensures { result ≡ depth self.now }

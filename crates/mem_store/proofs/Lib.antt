@@ -1,4 +1,3 @@
 pub mod Trees
 pub mod Undoing
 pub mod ReadsBack
-pub mod MapInPlace

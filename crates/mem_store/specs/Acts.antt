@@ -49,7 +49,7 @@ level_refusal level state = if is_some (after level state) then None else Some (
 
 -- the refusal of a write
 abbrev pub write_refusal : Session → Option Refusal
-write_refusal session = if others_in_level session.link.number session.store.places then Some Busy else None
+write_refusal session = if others_in_level session.link.depth session.store.open_links then Some Busy else None
 
 -- the refusal by text, state and other connections
 abbrev pub refusal_here : Option Act → Session → Option Refusal
@@ -86,7 +86,7 @@ written_to key value session = let state = wrote key value (state_of session) in
 
 -- the session after its connection came to this state by levels
 abbrev pub moved_to : Named → Runs → Session → Session
-moved_to state runs session = record session { store = store_moved state session.link.number runs session.store; link = moved state session.link }
+moved_to state runs session = record session { store = store_moved state session.link.depth runs session.store; link = moved state session.link }
 
 -- the store after a read
 abbrev pub store_read : Store → Store

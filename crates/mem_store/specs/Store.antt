@@ -1,6 +1,5 @@
 -- The store, a link and a session as plain values.
-use Rattle.std.specs.Prelude.{◌≡◌, ℕ, ◌==◌, ◌&&◌, not, Bool, true, false, nat_lt, if◌then◌else◌, List, [], ◌∷◌, ◌++◌, map, filter, refl}
-use Rattle.std.specs.List.{list_any}
+use Rattle.std.specs.Prelude.{◌≡◌, ℕ, ◌+◌, ◌-◌, min, Bool, true, false, nat_lt, List, [], refl}
 use Rattle.std.specs.Coded.{Coded, code_by, coded×, coded_ℕ, coded_bool, coded_list}
 use Rattle.std.specs.FinMap.{empty}
 use Rattle.sqlx_savepoints.specs.Rows.{Rows, Writes}
@@ -9,12 +8,11 @@ use Rattle.mem_store.specs.SavepointStack.{rows_code, writes_code, entry_code}
 use Rattle.mem_store.specs.declared.answer.Answer.{Answer}
 use Rattle.mem_store.specs.declared.answer.Answer.TheVariants.{Accept, Io, Refuse}
 use Rattle.mem_store.specs.declared.runs.Runs.{Runs}
-use Rattle.mem_store.specs.declared.place.Place.{Place}
 
--- the committed rows, the links that aren't closed in the order in which they were given, the number of the last one given, and how often each kind of text ran
+-- the committed rows, how many of its links have an open level, the number of the last link given, and how often each kind of text ran
 pub record Store : Type 0 where
   pub rows : Rows
-  pub places : List Place
+  pub open_links : ℕ
   pub given : ℕ
   pub runs : Runs
 
@@ -49,17 +47,13 @@ answer_of-bools_of Accept = refl
 answer_of-bools_of Io = refl
 answer_of-bools_of Refuse = refl
 
--- a place, written out
-abbrev pub place_code : Coded Place
-place_code = code_by (ℕ × Bool) (coded× coded_ℕ coded_bool) (λ p. (p.number, p.in_level)) (λ p. record { number = p.0; in_level = p.1 }) (λ _. refl)
-
 -- counts, written out
 abbrev pub runs_code : Coded Runs
 runs_code = code_by (ℕ × (ℕ × (ℕ × ℕ))) (coded× coded_ℕ (coded× coded_ℕ (coded× coded_ℕ coded_ℕ))) (λ r. (r.begun, (r.ended, (r.writes, r.reads)))) (λ p. record { begun = p.0; ended = p.1.0; writes = p.1.1.0; reads = p.1.1.1 }) (λ _. refl)
 
 -- a store, written out
 abbrev pub store_code : Coded Store
-store_code = code_by (Rows × (List Place × (ℕ × Runs))) (coded× rows_code (coded× (coded_list place_code) (coded× coded_ℕ runs_code))) (λ s. (s.rows, (s.places, (s.given, s.runs)))) (λ p. record { rows = p.0; places = p.1.0; given = p.1.1.0; runs = p.1.1.1 }) (λ _. refl)
+store_code = code_by (Rows × (ℕ × (ℕ × Runs))) (coded× rows_code (coded× coded_ℕ (coded× coded_ℕ runs_code))) (λ s. (s.rows, (s.open_links, (s.given, s.runs)))) (λ p. record { rows = p.0; open_links = p.1.0; given = p.1.1.0; runs = p.1.1.1 }) (λ _. refl)
 
 -- a link, written out
 abbrev pub link_code : Coded Link
@@ -75,7 +69,7 @@ session_code = code_by (Store × (Link × Answer)) (coded× store_code (coded× 
 
 -- a store without rows and links
 abbrev pub new_store : Store
-new_store = record { rows = empty; places = []; given = 0; runs = record { begun = 0; ended = 0; writes = 0; reads = 0 } }
+new_store = record { rows = empty; open_links = 0; given = 0; runs = record { begun = 0; ended = 0; writes = 0; reads = 0 } }
 
 -- a link without a level
 abbrev pub new_link : ℕ → Link
@@ -83,27 +77,27 @@ new_link number = record { number = number; depth = 0; own = empty; entries = []
 
 -- the store after one more link was given
 abbrev pub connected : ℕ → Store → Store
-connected number store = record store { places = store.places ++ record { number = number; in_level = false } ∷ []; given = number }
+connected number store = record store { given = number }
 
--- whether another link than this one has an open level
-abbrev pub others_in_level : ℕ → List Place → Bool
-others_in_level number places = list_any (λ place. not (place.number == number) && place.in_level) places
+-- what a link of this depth adds to the count of links with an open level
+abbrev pub level_mark : ℕ → ℕ
+level_mark depth = min depth 1
 
--- a place after the depth of the link of this number changed
-abbrev pub marked_place : ℕ → Bool → Place → Place
-marked_place number in_level place = if place.number == number then record place { in_level = in_level } else place
+-- whether another link than one of this depth has an open level
+abbrev pub others_in_level : ℕ → ℕ → Bool
+others_in_level depth open_links = nat_lt (level_mark depth) open_links
 
--- the places after this link's depth changed
-abbrev pub marked : ℕ → Bool → List Place → List Place
-marked number in_level places = map (marked_place number in_level) places
+-- how many links have an open level after one came from a depth to another
+abbrev pub remarked : ℕ → ℕ → ℕ → ℕ
+remarked before now open_links = open_links - level_mark before + level_mark now
 
--- the store after the connection of this number came to this state by levels
+-- the store after a connection of this depth came to this state by levels
 abbrev pub store_moved : Named → ℕ → Runs → Store → Store
-store_moved state number runs store = record store { rows = state.rows; places = marked number (nat_lt 0 state.depth) store.places; runs = runs }
+store_moved state depth runs store = record store { rows = state.rows; open_links = remarked depth state.depth store.open_links; runs = runs }
 
--- the places without this link
-abbrev pub without : ℕ → List Place → List Place
-without number places = filter (λ place. not (place.number == number)) places
+-- the store after a link of this depth was closed
+abbrev pub closed_at : ℕ → Store → Store
+closed_at depth store = record store { open_links = store.open_links - level_mark depth }
 
 -- the state of one connection, as named savepoints have it
 abbrev pub named_by : Rows → Link → Named

@@ -5,7 +5,6 @@
 mod act;
 mod answer;
 mod link;
-mod place;
 mod plain;
 mod refusal;
 mod rows;
@@ -20,7 +19,6 @@ mod writes;
 pub use act::{Act, with_arguments};
 pub use answer::Answer;
 pub use link::StoreLink;
-pub use place::Place;
 pub use plain::Plain;
 pub use refusal::Refusal;
 pub use runs::Runs;

@@ -43,6 +43,13 @@ impl StoreLink {
         }
     }
 
+    /// A link of no store, to stand where one was taken out for a while. Takes no memory.
+    pub fn of_no_store(alloc: Global) -> StoreLink
+        ensures { result ≡ new_link 0 }
+    {
+        StoreLink::new(alloc, 0)
+    }
+
     /// The number that the store gave it.
     pub fn number(&self) -> u64
         ensures { result ≡ self.now.number }

@@ -58,6 +58,14 @@ impl StoreSession {
         (store, link)
     }
 
+    /// Puts another store in the place of the session's, which is handed out.
+    pub fn swap_store(&mut self, store: &mut MemStore)
+        ensures session { self.new ≡ record self.old { store = store.old } }
+        ensures store { store.new ≡ self.old.store }
+    {
+        std::mem::swap(&mut self.store, store);
+    }
+
     /// How many levels are open.
     pub fn depth(&self) -> usize
         ensures { result ≡ self.now.link.depth }
@@ -148,7 +156,7 @@ impl StoreSession {
     {
         match act {
             Act::Put(_, _) | Act::Delete(_) => {
-                if self.store.others_in_level(self.link.number()) {
+                if self.store.others_in_level(&self.link) {
                     Some(Refusal::Busy)
                 } else {
                     None

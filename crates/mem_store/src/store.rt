@@ -1,12 +1,11 @@
-//! A database: its committed rows, and which of its links have an open level.
-ghost use Rattle.std.specs.Prelude.{◌≡◌, ◌≤◌, ◌+◌, IfOk, OnOk, OnErr, IsSome};
+//! A database: its committed rows, and how many of its links have an open level.
+ghost use Rattle.std.specs.Prelude.{◌≡◌, ◌≤◌, ◌<◌, ◌+◌, ◌^◌, IfOk, OnOk, OnErr, IsSome};
 ghost use Rattle.std.specs.FinMap as finite;
 ghost use Rattle.sqlx_savepoints.specs.Rows.{laid, sees};
 ghost use Rattle.sqlx_savepoints.specs.NamedSavepoints.{after, ran, wrote};
 
 use crate::answer::Answer;
 use crate::link::StoreLink;
-use crate::place::Place;
 use crate::rows::Rows;
 use crate::runs::Runs;
 use crate::session::StoreSession;
@@ -19,7 +18,8 @@ use std::marker::Model;
 #[derive(Drop)]
 pub struct MemStore {
     rows: Rows,
-    places: Vec<Place>,
+    // How many links have an open level.
+    open_links: u64,
     given: u64,
     runs: Runs,
 }
@@ -31,11 +31,11 @@ impl Model for MemStore {
 
     ghost coded = { store_code };
 
-    ghost view = { λ a. record { rows = a.rows; places = a.places.items; given = a.given; runs = a.runs } };
+    ghost view = { λ a. record { rows = a.rows; open_links = a.open_links; given = a.given; runs = a.runs } };
 }
 
 impl MemStore {
-    ghost use Rattle.mem_store.specs.Store.{new_store, new_link, connected, others_in_level, marked, store_moved, without, named_by, moved};
+    ghost use Rattle.mem_store.specs.Store.{new_store, new_link, connected, others_in_level, store_moved, closed_at, named_by, moved};
     ghost use Rattle.mem_store.specs.Acts.{level_counted, ended_counted, rolled_back, store_written, store_read};
 
     /// A database without rows.
@@ -44,7 +44,7 @@ impl MemStore {
     {
         MemStore {
             rows: Rows::new(alloc),
-            places: Vec::new(alloc),
+            open_links: 0,
             given: 0,
             runs: Runs {
                 begun: 0,
@@ -64,18 +64,8 @@ impl MemStore {
         if self.given == u64::MAX {
             return Err(OutOfMemory);
         }
-        let number = self.given + 1;
-        let place = Place {
-            number,
-            in_level: false,
-        };
-        match self.places.push(place) {
-            Ok(()) => {
-                self.given = number;
-                Ok(StoreLink::new(alloc, number))
-            }
-            Err(_) => Err(OutOfMemory),
-        }
+        self.given += 1;
+        Ok(StoreLink::new(alloc, self.given))
     }
 
     /// The store and a link of it, to run statements. The answer meets the first one.
@@ -87,9 +77,9 @@ impl MemStore {
 
     /// Ends a connection, its levels as rolled back.
     pub fn close(&mut self, link: StoreLink)
-        ensures { self.new ≡ record self.old { places = without link.number self.old.places } }
+        ensures { self.new ≡ closed_at link.depth self.old }
     {
-        forget(&mut self.places, link.number());
+        self.open_links = self.open_links.saturating_sub(level_mark(link.depth()));
     }
 
     /// How many texts its sessions ran.
@@ -121,12 +111,10 @@ impl MemStore {
     }
 
     /// Whether another link than this one has an open level.
-    pub(crate) fn others_in_level(&self, number: u64) -> bool
-        ensures { result ≡ others_in_level number self.now.places }
+    pub(crate) fn others_in_level(&self, link: &StoreLink) -> bool
+        ensures { result ≡ others_in_level link.now.depth self.now.open_links }
     {
-        self.places
-            .iter()
-            .any(|place| place.number != number && place.in_level)
+        self.open_links > level_mark(link.depth())
     }
 
     pub(crate) fn write(
@@ -150,43 +138,50 @@ impl MemStore {
         self.runs.count_read();
     }
 
-    /// Runs a level text that may stand at the link's state.
+    /// Runs a level text that may stand at the link's state. Where every number of links has an open
+    /// level, that counts as want of memory.
     pub(crate) fn run(&mut self, link: &mut StoreLink, level: LevelText) -> Result<(), OutOfMemory>
         requires { IsSome (after level (named_by self.old.rows link.old)) }
-        ensures store { OnOk result (self.new ≡ store_moved (ran level (named_by self.old.rows link.old)) link.old.number (level_counted level self.old.runs) self.old) }
+        ensures store { OnOk result (self.new ≡ store_moved (ran level (named_by self.old.rows link.old)) link.old.depth (level_counted level self.old.runs) self.old) }
         ensures link { OnOk result (link.new ≡ moved (ran level (named_by self.old.rows link.old)) link.old) }
         ensures err { OnErr result ((self.new ≡ self.old) × (link.new ≡ link.old)) }
     {
+        if self.open_links == u64::MAX {
+            return Err(OutOfMemory);
+        }
+        let before = link.depth();
         link.run(&mut self.rows, level)?;
         self.runs.count_level(level);
-        mark(&mut self.places, link.number(), link.depth() > 0);
+        self.open_links = remarked(before, link.depth(), self.open_links);
         Ok(())
     }
 
     /// Rolls the link's innermost level back without a text.
     pub(crate) fn start_rollback(&mut self, link: &mut StoreLink)
         requires { 1 ≤ link.old.depth }
-        ensures store { self.new ≡ store_moved (rolled_back (named_by self.old.rows link.old)) link.old.number (ended_counted self.old.runs) self.old }
+        ensures store { self.new ≡ store_moved (rolled_back (named_by self.old.rows link.old)) link.old.depth (ended_counted self.old.runs) self.old }
         ensures link { link.new ≡ moved (rolled_back (named_by self.old.rows link.old)) link.old }
     {
+        let before = link.depth();
         link.start_rollback();
         self.runs.count_ended();
-        mark(&mut self.places, link.number(), link.depth() > 0);
+        self.open_links = remarked(before, link.depth(), self.open_links);
     }
 }
 
-ghost use Rattle.mem_store.specs.Store.{marked, without};
+ghost use Rattle.mem_store.specs.Store.{level_mark, remarked};
 
-fn mark(places: &mut Vec<Place>, number: u64, in_level: bool)
-    ensures { places.new.items ≡ marked number in_level places.old.items }
+/// What a link of this depth adds to the count of links with an open level.
+fn level_mark(depth: usize) -> u64
+    ensures { result ≡ level_mark depth }
 {
-    for place in places.iter_mut() {
-        place.mark(number, in_level);
-    }
+    if depth > 0 { 1 } else { 0 }
 }
 
-fn forget(places: &mut Vec<Place>, number: u64)
-    ensures { places.new.items ≡ without number places.old.items }
+/// How many links have an open level after one came from a depth to another.
+fn remarked(before: usize, now: usize, open_links: u64) -> u64
+    requires { open_links + level_mark now < 2 ^ 64 + level_mark before }
+    ensures { result ≡ remarked before now open_links }
 {
-    places.retain(|place| place.number != number);
+    open_links.saturating_sub(level_mark(before)) + level_mark(now)
 }

@@ -1,5 +1,5 @@
 -- Drivers, and which of them has a scheme.
-use Rattle.std.specs.Prelude.{ℕ, List, ◌++◌, Bool, map, codes, position, Option, Some, None, Result, Ok, Err}
+use Rattle.std.specs.Prelude.{ℕ, List, ◌++◌, Bool, map, codes, position, if◌then◌else◌, Option, Some, None, Result, Ok, Err}
 use Rattle.std.specs.List.{list_any}
 use Rattle.std.specs.Str.{bytes_eq}
 use Rattle.sqlx_text.specs.declared.error.Error.{Error}
@@ -20,7 +20,15 @@ has_scheme scheme driver = list_any (λ own. bytes_eq scheme own.now) driver.url
 abbrev pub driver_of : List ℕ → List AnyDriver → Option ℕ
 driver_of scheme drivers = position (has_scheme scheme) drivers
 
+-- the refusal of a scheme that no driver has
+abbrev pub no_driver : List ℕ → Error
+no_driver scheme = error.Configuration (fault.Text (codes "no driver found for URL scheme " ++ in_quotes scheme))
+
 -- a place, and the refusal of a scheme that no driver has
 abbrev pub found_driver : List ℕ → Option ℕ → Result ℕ Error
 found_driver scheme (Some at) = Ok at
-found_driver scheme None = Err (error.Configuration (fault.Text (codes "no driver found for URL scheme " ++ in_quotes scheme)))
+found_driver scheme None = Err (no_driver scheme)
+
+-- nothing where the scheme is the wanted one, and else the refusal of it
+abbrev pub of_scheme : List ℕ → List ℕ → Result (Unit {0}) Error
+of_scheme wanted scheme = if bytes_eq scheme wanted then Ok tt else Err (no_driver scheme)

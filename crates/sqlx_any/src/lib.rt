@@ -38,7 +38,7 @@ pub use convert::TakesAnyValues;
 pub use database::Any;
 pub use describe::Describe;
 pub use driver::AnyDriver;
-pub use drivers::find_driver;
+pub use drivers::{expect_scheme, find_driver};
 pub use mapped::ReadsAnyKinds;
 pub use options::AnyConnectOptions;
 pub use query_result::AnyQueryResult;
@@ -46,9 +46,9 @@ pub use row::AnyRow;
 pub use sqlx_text::AnyTypeInfoKind;
 pub use sqlx_traits::{
     ArgumentList, Arguments, Column, ColumnIndex, ColumnOrigin, Connect, ConnectOptions,
-    Connection, Database, Decode, DecodeOwned, Either, Encode, Execute, ExecuteMany, Executor,
-    Faults, Fetch, FetchMany, HasStatementCache, ImmutableArguments, IntoArguments, IsNull,
-    QueryResult, ResultList, Row, RowList, SqlType, Statement, StepList, TableColumn,
+    Connection, Connector, Database, Decode, DecodeOwned, Either, Encode, Execute, ExecuteMany,
+    Executor, Faults, Fetch, FetchMany, HasStatementCache, ImmutableArguments, IntoArguments,
+    IsNull, QueryResult, ResultList, Row, RowList, SqlType, Statement, StepList, TableColumn,
     TransactionManager, Type, TypeInfo, Value, index_of_name, index_of_position, item_at,
     label_of_name, label_of_position, mismatched_types, question_mark, reads,
 };

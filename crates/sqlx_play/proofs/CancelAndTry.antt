@@ -15,7 +15,8 @@ use Rattle.sqlx_pool_core.specs.Edits.{at_moment, ended, lent_to, took}
 use Rattle.sqlx_log.specs.EventTable.{may_pass}
 use Rattle.sqlx_pool_core.specs.PollSteps.{phase_for, may_cancel, try_lent}
 use Rattle.sqlx_pool_core.specs.Makes.{Makes}
-use Rattle.sqlx_pool_core.proofs.Fair.{makes-none}
+use Rattle.sqlx_pool_core.proofs.Fair.{makes-nothing}
+use Rattle.sqlx_pool_core.proofs.Stands.{stands-in}
 use Rattle.sqlx_pool_core.proofs.TurnAtMarks.{waiting-stands}
 use Rattle.mem_store.specs.Store.{Link}
 use Rattle.sqlx_script.specs.declared.step.Event.{Event}
@@ -48,7 +49,7 @@ module _ (stage : Stage) (pairs : Pairs) (pair : Event × Reply) (s : StageStand
       (stage-after stage stage pairs pair s (record {
         pool = refl;
         makes = subst (λ (l : List Mark). Makes stage.core.options.max_connections (marks_of stage.pool pairs) l stage.core) (sym none)
-            (makes-none stage.core.options.max_connections (marks_of stage.pool pairs) stage.core s.stands);
+            (makes-nothing stage.core.options.max_connections (marks_of stage.pool pairs) stage.core s.stands);
         options = refl;
         places = s.places;
         tried = tried-same pairs pair stage.core.tickets same s.tried;
@@ -77,7 +78,7 @@ module _ (stage : Stage) (pairs : Pairs) (pair : Event × Reply) (s : StageStand
 cancel_at : (pairs : Pairs) (x : Ticket) (p : Phase) → IsTriedAt pairs x p → may_cancel (Some p) ≡ true
 cancel_at pairs x phase.Waiting h = refl
 cancel_at pairs x (phase.Backoff until) h = refl
-cancel_at pairs x (phase.Testing c created) h = absurd h
+cancel_at pairs x (phase.Testing c created before) h = absurd h
 cancel_at pairs x phase.Connecting h = absurd h
 
 pub cancel-reply : (stage : Stage) (pairs : Pairs) (k t : ℕ) (b : Bool) → StageStands stage pairs → b ≡ may_cancel (phase_for k t stage.core.tickets)
@@ -108,7 +109,7 @@ uncancelled-stands stage core pairs moment k t s becomes =
 
 -- the marks say whether a connection may be lent past the line
 pub passes-is : (stage : Stage) (pairs : Pairs) → StageStands stage pairs → may_pass stage.core.shut (waiting stage.core.tickets) (free stage.core) ≡ passes stage.pool (marks_of stage.pool pairs)
-passes-is stage pairs s = λ i. may_pass (s.stands.shut i) (waiting-stands stage.core (marks_of stage.pool pairs) s.stands i) (sym (free-is stage pairs s) i)
+passes-is stage pairs s = λ i. may_pass (s.stands.shut i) (waiting-stands stage.core (marks_of stage.pool pairs) (stands-in stage.core (marks_of stage.pool pairs) s.stands) i) (sym (free-is stage pairs s) i)
 
 -- the reply where this is lent
 abbrev pub lending_reply : Option (Lent Link) → Reply

@@ -52,7 +52,7 @@ links-all_unrest core store lent past (i ∷ idle) s is apart =
     let one : count_by (rests c) core.idle ≤ 1 = omega (arith, all, once) in
     let found : find (rests c) core.idle ≡ Some i = ap (find (rests c)) is ∙ ap (λ (b : Bool). cond b (Some i) (find (rests c) idle)) (same_number c) in
     let left : without_idle c core.idle ≡ idle = ap (without_idle c) is ∙ ap (λ (b : Bool). cond (not b) (i ∷ without_idle c idle) (without_idle c idle)) (same_number c) ∙ filter_none (rests c) idle none in
-    links-all_unrest (record core { idle = without_idle c core.idle }) (closed_in i.lent.raw.number store) lent (leaves c ∷ past) idle
+    links-all_unrest (record core { idle = without_idle c core.idle }) (closed_in i.lent.raw.depth store) lent (leaves c ∷ past) idle
     (links-unrest core store lent past i s found one unowned) left
     (λ d. let more : count_by (rests d) (i ∷ idle) ≡ cond {A = ℕ} (rests d i) 1 0 + count_by (rests d) idle = count_by-cons (rests d) i idle in let apart_d = apart d in omega (arith, more, apart_d))
 

@@ -15,7 +15,7 @@ use Rattle.sqlx_pool_core.specs.Limits.{limits_of}
 use Rattle.sqlx_pool_core.specs.ReturnSteps.{give_answer, give_marks, gave}
 use Rattle.sqlx_pool_core.specs.KeepingSteps.{without_first}
 use Rattle.sqlx_pool_core.specs.Makes.{Makes}
-use Rattle.sqlx_pool_core.proofs.Fair.{makes-none}
+use Rattle.sqlx_pool_core.proofs.Fair.{makes-nothing}
 use Rattle.sqlx_pool_core.specs.StandsFor.{StandsFor}
 use Rattle.sqlx_log.proofs.ListFacts.{found_passes}
 use Rattle.sqlx_pool_core.proofs.Known.{loan-found}
@@ -44,7 +44,7 @@ module _ (old : Stage) (answers : GiveAnswers) (m k c : ℕ) (sound : IsSound ol
       → StageAdvance old new marks [] past
   stays core new marks past at pool same store lent = record {
     pool = pool;
-    makes = makes-none old.core.options.max_connections marks new.core (subst (λ (x : Core Link). StandsFor x marks) (sym same) at.stands);
+    makes = makes-nothing old.core.options.max_connections marks new.core (subst (λ (x : Core Link). StandsFor x marks) (sym same) at.stands);
     options = ap (λ (x : Core Link). x.options) same;
     places = ap (λ (x : Core Link). x.places) same ∙ at.places;
     tickets = ap (λ (x : Core Link). x.tickets) same;
@@ -113,7 +113,7 @@ module _ (old : Stage) (answers : GiveAnswers) (m k c : ℕ) (sound : IsSound ol
         )
 
     -- it is closed
-    pub returns-closed : (new : Stage) (at_m : ℕ) (raw : Link) → at_m ≡ m → new.pool ≡ old.pool → new.core ≡ core → new.out.store ≡ closed_in raw.number old.out.store → new.lent.items ≡ without_first (is_lent c) old.lent.items
+    pub returns-closed : (new : Stage) (at_m : ℕ) (raw : Link) → at_m ≡ m → new.pool ≡ old.pool → new.core ≡ core → new.out.store ≡ closed_in raw.depth old.out.store → new.lent.items ≡ without_first (is_lent c) old.lent.items
         → given.Closed raw ≡ give_answer old.core.options old.core.shut at_m (lets_rest old.pool answers l.raw.depth) (loan_of k l.id old.core.held) l
         → ((marks : List Mark) → StandsFor old.core marks → Makes old.core.options.max_connections marks (give_marks l.id at_m (given.Closed raw)) core)
         → core ≡ gave (loan_of k l.id old.core.held) l at_m (given.Closed raw) old.core
@@ -135,9 +135,9 @@ module _ (old : Stage) (answers : GiveAnswers) (m k c : ℕ) (sound : IsSound ol
             tickets = ap (λ (x : Core Link). x.tickets) is;
             next = ap (λ (x : Core Link). x.next_ticket) is;
             links = subst (λ (n : ℕ). LinksStand new.core new.out.store new.lent.items (leaves n ∷ past)) same_conn
-                (subst (λ (x : Store). LinksStand new.core x new.lent.items (leaves l.id ∷ past)) (sym (store ∙ ap (λ (x : Link). closed_in x.number old.out.store) told.1))
-                (subst (λ (x : List (Lent Link)). LinksStand new.core (closed_in l.raw.number old.out.store) x (leaves l.id ∷ past)) (sym (without_is new.lent.items past at.links rest))
-                (links-same (unlent l.id old.core) new.core (closed_in l.raw.number old.out.store) (without_lent l.id old.lent.items) (leaves l.id ∷ past)
+                (subst (λ (x : Store). LinksStand new.core x new.lent.items (leaves l.id ∷ past)) (sym (store ∙ ap (λ (x : Link). closed_in x.depth old.out.store) told.1))
+                (subst (λ (x : List (Lent Link)). LinksStand new.core (closed_in l.raw.depth old.out.store) x (leaves l.id ∷ past)) (sym (without_is new.lent.items past at.links rest))
+                (links-same (unlent l.id old.core) new.core (closed_in l.raw.depth old.out.store) (without_lent l.id old.lent.items) (leaves l.id ∷ past)
                 (links-leave old.core old.out.store old.lent.items past l at.links found_own (held-once old.core sound l.id) owned.restless)
                 (ap (λ (x : Core Link). x.held) is) (ap (λ (x : Core Link). x.idle) is) (ap (λ (x : Core Link). x.next_conn) is))));
           },

@@ -8,6 +8,7 @@ use Rattle.sqlx_log.specs.View.{view_of, free as free_in}
 use Rattle.sqlx_log.specs.Marks.{next_conn}
 use Rattle.sqlx_log.specs.EventTable.{may_pass, size_at}
 use Rattle.sqlx_pool_core.specs.StandsFor.{StandsFor}
+use Rattle.sqlx_pool_core.proofs.Stands.{stands-in}
 use Rattle.sqlx_pool_core.proofs.TurnAtMarks.{free-places, waiting-stands, size-stands}
 use Rattle.mem_store.specs.Store.{Store, Link}
 use Rattle.sqlx_brackets.specs.Changes.{History}
@@ -104,11 +105,11 @@ opened-last old mid now m k h o = record {
 
 pub passes-stands : (pool : PoolLine) (core : Core Link) (marks : List Mark) → IsSetUp pool core.options → core.places ≡ 0 → StandsFor core marks → core_passes core ≡ passes pool marks
 passes-stands pool core marks set_up none s =
-    let free_is : free core ≡ free_in pool.max (view_of marks) = free-places core marks s ∙ (λ i. free_in (set_up.max i) (view_of marks) - none i) ∙ omega arith in
-    λ i. may_pass (s.shut i) (waiting-stands core marks s i) (free_is i)
+    let free_is : free core ≡ free_in pool.max (view_of marks) = free-places core marks (stands-in core marks s) ∙ (λ i. free_in ((s.permits ∙ set_up.max) i) (view_of marks) - none i) ∙ omega arith in
+    λ i. may_pass (s.shut i) (waiting-stands core marks (stands-in core marks s) i) (free_is i)
 
 pub sized-stands : (core : Core Link) (marks : List Mark) → core.places ≡ 0 → StandsFor core marks → size core ≡ size_at 0 marks
-sized-stands core marks none s = size-stands core marks s ∙ ap (λ (k : ℕ). size_at k marks) none
+sized-stands core marks none s = size-stands core marks (stands-in core marks s) ∙ ap (λ (k : ℕ). size_at k marks) none
 
 -- the count that was opened
 abbrev pub count_of : Bool → ℕ → ℕ → ℕ → ℕ

@@ -1,52 +1,51 @@
--- What an act on one connection's link leaves of the rows, of that link and of the places in the store.
-use Rattle.std.proofs.Common.{◌≡◌, ℕ, zero, suc, ◌==◌, nat_lt, ℤ, false, ◌⊎◌, inl, inr, Option, List, ◌∷◌, refl, sym, ap, ◌∙◌, eq-eqb}
+-- What an act on one connection's link leaves of the rows, of that link and of the count of links with an open level.
+use Rattle.std.proofs.Common.{◌≡◌, ℕ, zero, suc, ◌==◌, ℤ, false, ◌⊎◌, inl, inr, Option, ◌∷◌, refl, sym, ap, ◌∙◌, eq-eqb}
 use Rattle.std.proofs.lemmas.Bool.{cond-true, cond-false}
 use Rattle.sqlx_savepoints.specs.NamedSavepoints.{Named, write_at, wrote}
 use Rattle.mem_store.specs.declared.answer.Answer.{Answer}
-use Rattle.mem_store.specs.declared.place.Place.{Place}
 use Rattle.mem_store.specs.declared.runs.Runs.{Runs}
-use Rattle.mem_store.specs.Store.{Session, marked}
+use Rattle.mem_store.specs.Store.{Session, remarked}
 use Rattle.mem_store.specs.Acts.{moved_to, written_to, store_read}
 use Rattle.sqlx_brackets.specs.Changes.{Change, History, writes}
 use Rattle.sqlx_brackets.specs.Links.{Linked, linked_after, linked_changed, named_at, link_of, moved}
 use Rattle.sqlx_play.specs.LinksStand.{side_of}
 
 -- the session of connection c behind a history
-abbrev pub session_at : History → ℕ → ℕ → List Place → ℕ → Runs → Answer → Session
-session_at past c number places given runs answer = record {
-  store = record { rows = (linked_after past).rows; places = places; given = given; runs = runs };
+abbrev pub session_at : History → ℕ → ℕ → ℕ → ℕ → Runs → Answer → Session
+session_at past c number open_links given runs answer = record {
+  store = record { rows = (linked_after past).rows; open_links = open_links; given = given; runs = runs };
   link = record { number = number; depth = ((linked_after past).link c).depth; own = ((linked_after past).link c).own; entries = ((linked_after past).link c).entries };
   answer = answer;
 }
 
--- the rows and the link are those of the new history, which leaves the other connections; the store has the link's level marked
+-- the rows and the link are those of the new history, which leaves the other connections; the store counts the link's level
 pub record Leaves (past new : History) (c : ℕ) (s t : Session) : Type 0 where
   pub rows : t.store.rows ≡ (linked_after new).rows
   pub side : side_of t.link ≡ (linked_after new).link c
   pub others : (d : ℕ) → (d == c) ≡ false → (linked_after new).link d ≡ (linked_after past).link d
   pub number : t.link.number ≡ s.link.number
   pub given : t.store.given ≡ s.store.given
-  pub places : ((t.store.places ≡ s.store.places) × (t.link.depth ≡ s.link.depth)) ⊎ (t.store.places ≡ marked s.link.number (nat_lt 0 t.link.depth) s.store.places)
+  pub open_links : ((t.store.open_links ≡ s.store.open_links) × (t.link.depth ≡ s.link.depth)) ⊎ (t.store.open_links ≡ remarked s.link.depth t.link.depth s.store.open_links)
 
-module _ (past : History) (c number : ℕ) (places : List Place) (given : ℕ) (runs : Runs) (answer : Answer) where
+module _ (past : History) (c number open_links given : ℕ) (runs : Runs) (answer : Answer) where
   abbrev s : Session
-  s = session_at past c number places given runs answer
+  s = session_at past c number open_links given runs answer
 
-  pub leaves-none : (after : Answer) → Leaves past past c s (session_at past c number places given runs after)
-  leaves-none after = record { rows = refl; side = refl; others = λ d e. refl; number = refl; given = refl; places = inl (refl, refl) }
+  pub leaves-none : (after : Answer) → Leaves past past c s (session_at past c number open_links given runs after)
+  leaves-none after = record { rows = refl; side = refl; others = λ d e. refl; number = refl; given = refl; open_links = inl (refl, refl) }
 
   pub leaves-read : Leaves past past c s (record s { store = store_read s.store })
-  leaves-read = record { rows = refl; side = refl; others = λ d e. refl; number = refl; given = refl; places = inl (refl, refl) }
+  leaves-read = record { rows = refl; side = refl; others = λ d e. refl; number = refl; given = refl; open_links = inl (refl, refl) }
 
   pub leaves-moved : (change : Change) (state : Named) (after : Answer) (count : Runs) → linked_changed (linked_after past) change ≡ moved c state (linked_after past)
-      → Leaves past (change ∷ past) c s (moved_to state count (session_at past c number places given runs after))
+      → Leaves past (change ∷ past) c s (moved_to state count (session_at past c number open_links given runs after))
   leaves-moved change state after count e = record {
     rows = sym (ap (λ (l : Linked). l.rows) e);
     side = sym (ap (λ (l : Linked). l.link c) e ∙ cond-true (c == c) (link_of state) ((linked_after past).link c) (eq-eqb c c refl));
     others = λ d apart. ap (λ (l : Linked). l.link d) e ∙ cond-false (d == c) (link_of state) ((linked_after past).link d) apart;
     number = refl;
     given = refl;
-    places = inr refl;
+    open_links = inr refl;
   }
 
   depth_kept : (d : ℕ) (key : ℤ) (value : Option ℤ) (state : Named) → (write_at d key value state).depth ≡ state.depth
@@ -62,5 +61,5 @@ module _ (past : History) (c number : ℕ) (places : List Place) (given : ℕ) (
         others = λ d apart. cond-false (d == c) (link_of state) ((linked_after past).link d) apart;
         number = refl;
         given = refl;
-        places = inl (refl, depth_kept ((linked_after past).link c).depth key value (named_at c (linked_after past)));
+        open_links = inl (refl, depth_kept ((linked_after past).link c).depth key value (named_at c (linked_after past)));
       }

@@ -1,5 +1,5 @@
 -- A link that is taken out of a list, and put back.
-use Rattle.std.proofs.Common.{◌≡◌, ℕ, zero, suc, ◌+◌, ◌≤◌, ◌<◌, Bool, true, false, cond, not, ltb, List, [], ◌∷◌, ◌++◌, length, filter, find, count_by, get_or, slice_index_or, Option, Some, None, refl, sym, ap, subst, ◌∙◌, arith}
+use Rattle.std.proofs.Common.{◌≡◌, ℕ, zero, suc, ◌+◌, ◌≤◌, ◌<◌, Bool, true, false, cond, not, ltb, List, [], ◌∷◌, ◌++◌, length, filter, find, count_by, get_or, set, slice_index_or, Option, Some, None, refl, sym, ap, subst, ◌∙◌, arith}
 use Rattle.std.specs.List.{position_or_len, remove, insert}
 use Rattle.sqlx_pool_core.specs.KeepingSteps.{without_first}
 use Rattle.sqlx_log.proofs.ListFacts.{count_by-cons, filter_none}
@@ -65,3 +65,11 @@ sides (w ∷ xs) zero x h e = record { before = []; after = xs; whole = ap (λ (
 sides (w ∷ xs) (suc i) x h e =
     let s = sides xs i x (omega (arith, h)) e in
     record { before = w ∷ s.before; after = s.after; whole = ap (λ (l : List _). w ∷ l) s.whole; rest = ap (λ (l : List _). w ∷ l) s.rest; place = ap (λ (n : ℕ). suc n) s.place }
+
+-- the element at its place changed
+pub set-mid : {X : Type 0} (xs : List X) (i : ℕ) (x w : X) (s : Sides xs i x) → set xs i w ≡ s.before ++ w ∷ s.after
+set-mid xs i x w s = ap (λ (l : List _). set l i w) s.whole ∙ ap (λ (n : ℕ). set (s.before ++ x ∷ s.after) n w) s.place ∙ at s.before
+  where
+    at : (before : List _) → set (before ++ x ∷ s.after) (length before) w ≡ before ++ w ∷ s.after
+    at [] = refl
+    at (y ∷ before) = ap (λ (l : List _). y ∷ l) (at before)

@@ -8,7 +8,6 @@ pub mod Stages
 pub mod SetUpLimits
 pub mod TriesSame
 pub mod LinksSame
-pub mod OthersInLevel
 pub mod LinksMoves
 pub mod PollTurns
 pub mod PollReplies
@@ -19,6 +18,11 @@ pub mod Dispatch
 pub mod Asked
 pub mod Polls
 pub mod PollPlays
+pub mod ScriptChain
+pub mod PolledPlays
+pub mod PolledMoves
+pub mod MinimumKept
+pub mod NeverExhausted
 pub mod StageAfter
 pub mod Asks
 pub mod Unmoved
@@ -36,6 +40,7 @@ pub mod ReapsLemmas
 pub mod ClosesLemmas
 pub mod GiveAnswers
 pub mod GivesBackLemmas
+pub mod GivenBack
 pub mod LinkOutcomes
 pub mod Leaves
 pub mod ActsAlike

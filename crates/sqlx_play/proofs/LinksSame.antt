@@ -1,5 +1,5 @@
 -- Links and store where a step changes no owned connection, no idle one and no number of connections.
-use Rattle.std.proofs.Common.{◌≡◌, ℕ, ◌≤◌, List, [], map, count_by, refl, sym, ap, subst, ◌∙◌, arith}
+use Rattle.std.proofs.Common.{◌≡◌, ℕ, ◌≤◌, List, [], map, refl, sym, ap, subst, ◌∙◌}
 use Rattle.std.proofs.lemmas.List.Elements.{All-nil, All-same}
 use Rattle.sqlx_pool_core.specs.declared.steps.Lent.{Lent}
 use Rattle.sqlx_pool_core.specs.declared.steps.Idle.{Idle}
@@ -8,7 +8,7 @@ use Rattle.sqlx_pool_core.specs.Core.{Core}
 use Rattle.mem_store.specs.Store.{Store, Link, new_store}
 use Rattle.sqlx_brackets.specs.Changes.{History}
 use Rattle.sqlx_brackets.specs.Links.{linked_after}
-use Rattle.sqlx_play.specs.LinksStand.{LinksStand, IsRestingLink, links_of, is_place_of}
+use Rattle.sqlx_play.specs.LinksStand.{LinksStand, IsRestingLink}
 
 pub links-same : (core new : Core Link) (store : Store) (lent : List (Lent Link)) (history : History) → LinksStand core store lent history
     → new.held ≡ core.held → new.idle ≡ core.idle → new.next_conn ≡ core.next_conn → LinksStand new store lent history
@@ -20,10 +20,7 @@ links-same core new store lent history s held idle next = record {
   idle_links = All-same (λ (i : Idle Link). IsRestingLink (linked_after history) i.lent.id i.lent.raw) new.idle core.idle idle s.idle_links;
   unopened = λ c h. s.unopened c (subst (λ (n : ℕ). n ≤ c) next h);
   unlent = s.unlent;
-  once = λ n. subst (λ (l : List (Idle Link)). links_of n lent l ≤ 1) (sym idle) (s.once n);
-  given = λ n h. subst (λ (l : List (Idle Link)). links_of n lent l ≡ 0) (sym idle) (s.given n h);
-  places = λ n. subst (λ (l : List (Idle Link)). count_by (is_place_of n) store.places ≡ links_of n lent l) (sym idle) (s.places n);
-  levels = s.levels;
+  open_links = s.open_links;
 }
 
 -- no link yet
@@ -36,10 +33,7 @@ links-none core lent held idle none = subst (λ (l : List (Lent Link)). LinksSta
   idle_links = All-same (λ (i : Idle Link). IsRestingLink (linked_after []) i.lent.id i.lent.raw) core.idle [] idle (All-nil _);
   unopened = λ c h. refl;
   unlent = λ c h. refl;
-  once = λ n. subst (λ (l : List (Idle Link)). links_of n [] l ≤ 1) (sym idle) (omega arith);
-  given = λ n h. subst (λ (l : List (Idle Link)). links_of n [] l ≡ 0) (sym idle) refl;
-  places = λ n. subst (λ (l : List (Idle Link)). 0 ≡ links_of n [] l) (sym idle) refl;
-  levels = λ n. refl;
+  open_links = refl;
 })
 
 -- equal parts stand as well

@@ -70,7 +70,7 @@ module _ (old : Stage) (x : Mark) (k c : ℕ) (sound : IsSound old.core) where
 
   pub departs : (new : Stage) → true ≡ is_some (loan_of k c old.core.held) → EndsLoan old.core new.core c → new.pool ≡ old.pool
       → ((marks : List Mark) → StandsFor old.core marks → Makes old.core.options.max_connections marks (x ∷ []) new.core)
-      → ((l : Lent Link) → find (is_lent c) old.lent.items ≡ Some l → new.out.store ≡ closed_in l.raw.number old.out.store) → new.lent.items ≡ without_first (is_lent c) old.lent.items
+      → ((l : Lent Link) → find (is_lent c) old.lent.items ≡ Some l → new.out.store ≡ closed_in l.raw.depth old.out.store) → new.lent.items ≡ without_first (is_lent c) old.lent.items
       → LoanEnds old new x k c true
   departs new some ends pool makes store rest marks past at =
       let loan = some_loan (loan_of k c old.core.held) (sym some) in
@@ -93,8 +93,8 @@ module _ (old : Stage) (x : Mark) (k c : ℕ) (sound : IsSound old.core) where
           next = ends.next_ticket;
           links = subst (λ (n : ℕ). LinksStand new.core new.out.store new.lent.items (leaves n ∷ past)) conn
               (subst (λ (y : Store). LinksStand new.core y new.lent.items (leaves l.id ∷ past)) (sym (store l found.is))
-              (subst (λ (y : List (Lent Link)). LinksStand new.core (closed_in l.raw.number old.out.store) y (leaves l.id ∷ past)) (sym lent)
-              (links-same (unlent l.id old.core) new.core (closed_in l.raw.number old.out.store) (without_lent l.id old.lent.items) (leaves l.id ∷ past)
+              (subst (λ (y : List (Lent Link)). LinksStand new.core (closed_in l.raw.depth old.out.store) y (leaves l.id ∷ past)) (sym lent)
+              (links-same (unlent l.id old.core) new.core (closed_in l.raw.depth old.out.store) (without_lent l.id old.lent.items) (leaves l.id ∷ past)
               (links-leave old.core old.out.store old.lent.items past l at.links own (held-once old.core sound l.id) restless)
               (ends.held ∙ ap (λ (n : ℕ). without_loan n old.core.held) (sym conn)) ends.idle ends.next_conn)));
         },

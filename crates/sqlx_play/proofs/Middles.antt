@@ -118,3 +118,12 @@ counted_any p xs some = by (list_any p xs) refl
     by : (b : Bool) → list_any p xs ≡ b → list_any p xs ≡ true
     by true e = e
     by false e = absurd (let none = uncounted p xs e in omega (arith, none, some))
+
+-- one that passes is counted
+pub any_counted : {X : Type 0} (p : X → Bool) (xs : List X) → list_any p xs ≡ true → 1 ≤ count_by p xs
+any_counted p [] some = absurd (cc)
+any_counted p (x ∷ xs) some = by (any_counted p xs) (p x) some (count_by-cons p x xs)
+  where
+    by : (list_any p xs ≡ true → 1 ≤ count_by p xs) → (b : Bool) → (b || list_any p xs) ≡ true → count_by p (x ∷ xs) ≡ cond b 1 0 + count_by p xs → 1 ≤ count_by p (x ∷ xs)
+    by rest true e is = omega (arith, is)
+    by rest false e is = omega (arith, is, rest e)

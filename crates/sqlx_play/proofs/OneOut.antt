@@ -1,11 +1,7 @@
 -- One element out of a list: what is counted and found of the others.
-use Rattle.std.proofs.Common.{◌≡◌, ℕ, ◌+◌, ◌≤◌, ◌==◌, ◌&&◌, ◌||◌, Bool, true, false, cond, not, List, [], ◌∷◌, filter, find, count_by, Some, refl, sym, ap, ◌∙◌, arith}
+use Rattle.std.proofs.Common.{◌≡◌, ℕ, ◌+◌, ◌≤◌, ◌==◌, ◌||◌, Bool, true, false, cond, not, List, [], ◌∷◌, filter, find, count_by, Some, refl, sym, ap, ◌∙◌, arith}
 use Rattle.std.specs.List.{list_any}
-use Rattle.std.proofs.lemmas.Bool.{eqb-true}
-use Rattle.sqlx_log.proofs.ListFacts.{count_by-cons, filter_none, same_number, or-true, found_counts, number_comm}
-use Rattle.mem_store.specs.declared.place.Place.{Place}
-use Rattle.mem_store.specs.Store.{without}
-use Rattle.sqlx_play.specs.LinksStand.{is_place_of, is_place_in_level}
+use Rattle.sqlx_log.proofs.ListFacts.{count_by-cons, filter_none, same_number, or-true, found_counts}
 
 module _ {X : Type 0} (p : X → Bool) where
   -- the one that passes is counted beside the others
@@ -84,54 +80,3 @@ any-weaker {X} p q h (x ∷ xs) e = by (λ k. any-weaker p q h xs k) (p x) refl 
     by : (list_any p xs ≡ true → list_any q xs ≡ true) → (b : Bool) → p x ≡ b → (b || list_any p xs) ≡ true → (q x || list_any q xs) ≡ true
     by rest true is k = ap (λ (b : Bool). b || list_any q xs) (h x is)
     by rest false is k = ap (λ (b : Bool). q x || b) (rest k) ∙ or-true (q x)
-
--- ---- places
-
--- no place of a link that left
-pub places-without : (n gone : ℕ) (places : List Place) → count_by (is_place_of n) (without gone places) ≡ cond (n == gone) 0 (count_by (is_place_of n) places)
-places-without n gone [] = elim (n == gone) as (λ (b : Bool). ◌≡◌ {A = ℕ} 0 (cond b 0 0)) [ true ↦ refl | false ↦ refl ]
-places-without n gone (p ∷ places) = by (places-without n gone places) (n == gone) refl (p.number == gone) refl
-  where
-    first : count_by (is_place_of n) (p ∷ without gone places) ≡ cond (p.number == n) 1 0 + count_by (is_place_of n) (without gone places)
-    first = count_by-cons (is_place_of n) p (without gone places)
-
-    whole : count_by (is_place_of n) (p ∷ places) ≡ cond (p.number == n) 1 0 + count_by (is_place_of n) places
-    whole = count_by-cons (is_place_of n) p places
-
-    by : count_by (is_place_of n) (without gone places) ≡ cond (n == gone) 0 (count_by (is_place_of n) places) → (a : Bool) → (n == gone) ≡ a → (b : Bool) → (p.number == gone) ≡ b
-        → count_by (is_place_of n) (cond (not b) (p ∷ without gone places) (without gone places)) ≡ cond a 0 (count_by (is_place_of n) (p ∷ places))
-    by rest true e true k = rest ∙ ap (λ (c : Bool). cond c 0 (count_by (is_place_of n) places)) e
-    by rest true e false k =
-        let same : n ≡ gone = eqb-true n gone e in
-        let no : (p.number == n) ≡ false = ap (λ (g : ℕ). p.number == g) same ∙ k in
-        let none = rest ∙ ap (λ (c : Bool). cond c 0 (count_by (is_place_of n) places)) e in
-        first ∙ (λ i. cond {A = ℕ} (no i) 1 0 + none i)
-    by rest false e true k =
-        let same : p.number ≡ gone = eqb-true p.number gone k in
-        let no : (p.number == n) ≡ false = ap (λ (g : ℕ). g == n) same ∙ number_comm gone n ∙ e in
-        let here : count_by (is_place_of n) (without gone places) ≡ count_by (is_place_of n) places = rest ∙ ap (λ (c : Bool). cond c 0 (count_by (is_place_of n) places)) e in
-        let zero : cond {A = ℕ} (p.number == n) 1 0 ≡ 0 = ap (λ (b : Bool). cond {A = ℕ} b 1 0) no in
-        omega (arith, here, zero, whole)
-    by rest false e false k = first ∙ ap (λ (m : ℕ). cond {A = ℕ} (p.number == n) 1 0 + m) (rest ∙ ap (λ (c : Bool). cond c 0 (count_by (is_place_of n) places)) e) ∙ sym whole
-
-and_false : (a b : Bool) → a ≡ false → (a && b) ≡ false
-and_false a b e = ap (λ (c : Bool). c && b) e
-
--- and no level of it
-pub levels-without : (n gone : ℕ) (places : List Place) → list_any (is_place_in_level n) (without gone places) ≡ cond (n == gone) false (list_any (is_place_in_level n) places)
-levels-without n gone [] = elim (n == gone) as (λ (b : Bool). false ≡ cond b false false) [ true ↦ refl | false ↦ refl ]
-levels-without n gone (p ∷ places) = by (levels-without n gone places) (n == gone) refl (p.number == gone) refl
-  where
-    by : list_any (is_place_in_level n) (without gone places) ≡ cond (n == gone) false (list_any (is_place_in_level n) places) → (a : Bool) → (n == gone) ≡ a → (b : Bool) → (p.number == gone) ≡ b
-        → list_any (is_place_in_level n) (cond (not b) (p ∷ without gone places) (without gone places)) ≡ cond a false (is_place_in_level n p || list_any (is_place_in_level n) places)
-    by rest true e true k = rest ∙ ap (λ (c : Bool). cond c false (list_any (is_place_in_level n) places)) e
-    by rest true e false k =
-        let same : n ≡ gone = eqb-true n gone e in
-        let no : (p.number == n) ≡ false = ap (λ (g : ℕ). p.number == g) same ∙ k in
-        let none = rest ∙ ap (λ (c : Bool). cond c false (list_any (is_place_in_level n) places)) e in
-        (λ i. and_false (p.number == n) p.in_level no i || none i)
-    by rest false e true k =
-        let same : p.number ≡ gone = eqb-true p.number gone k in
-        let no : (p.number == n) ≡ false = ap (λ (g : ℕ). g == n) same ∙ number_comm gone n ∙ e in
-        rest ∙ ap (λ (c : Bool). cond c false (list_any (is_place_in_level n) places)) e ∙ sym (ap (λ (b : Bool). b || list_any (is_place_in_level n) places) (and_false (p.number == n) p.in_level no))
-    by rest false e false k = ap (λ (b : Bool). is_place_in_level n p || b) (rest ∙ ap (λ (c : Bool). cond c false (list_any (is_place_in_level n) places)) e)

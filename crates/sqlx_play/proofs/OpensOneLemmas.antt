@@ -1,5 +1,5 @@
 -- One connection that is opened for the minimum, or none.
-use Rattle.std.proofs.Common.{◌≡◌, ℕ, ◌+◌, ◌-◌, ◌^◌, ◌≤◌, ◌&&◌, Bool, true, false, not, nat_lt, max, List, [], ◌∷◌, length, Some, refl, sym, ap, subst, ◌∙◌, append-nil, arith}
+use Rattle.std.proofs.Common.{◌≡◌, ℕ, ◌+◌, ◌-◌, ◌^◌, ◌≤◌, ◌&&◌, Bool, true, false, not, nat_lt, max, List, [], ◌∷◌, length, Some, refl, sym, ap, subst, ◌∙◌, arith}
 use Rattle.std.proofs.Math.Nat.{max-eq_right}
 use Rattle.std.proofs.lemmas.Bool.{and_parts}
 use Rattle.sqlx_log.specs.declared.mark.Mark.{Mark}
@@ -53,7 +53,7 @@ opens-none old core m few unplaceable same = subst (λ (c : Core Link). OpensOne
 
 -- ---- one
 
-module _ (old : Stage) (placed_core core : Core Link) (out : ScriptOutside) (link : Link) (m : ℕ) where
+module _ (old : Stage) (core : Core Link) (out : ScriptOutside) (link : Link) (m : ℕ) where
   -- the core with the new connection
   abbrev born : Core Link
   born = at_moment m (placed_back (opened (kept (record { id = old.core.next_conn; created = record { 0 = m }; raw = new_link (old.out.store.given + 1) }) m (placed true old.core))))
@@ -61,42 +61,35 @@ module _ (old : Stage) (placed_core core : Core Link) (out : ScriptOutside) (lin
   is_open : true ≡ has_place old.core.options.min_connections old.core → old.core.next_conn ≤ 2 ^ 63 → old.core.shut ≡ false
   is_open placeable few = shut_of old.core.shut (waiting old.core.tickets) (free old.core) (and_parts (core_passes old.core) (nat_lt (size old.core) (least old.core.options)) (sym (place-told old.core few) ∙ sym placeable)).0
 
-  is_born : old.core.shut ≡ false → old.core.last ≤ m → link ≡ new_link (old.out.store.given + 1) → placed_core ≡ placed true old.core → core ≡ done (max placed_core.last m) (Some link) placed_core → core ≡ born
-  is_born shut late new one two =
+  is_born : old.core.shut ≡ false → old.core.last ≤ m → link ≡ new_link (old.out.store.given + 1) → core ≡ done old.core.shut (max old.core.last m) (Some link) (placed true old.core) → core ≡ born
+  is_born shut late new two =
       two
-      ∙ (λ i. done (max (one i).last m) (Some (new i)) (one i))
-      ∙ ap (λ (k : ℕ). done k (Some (new_link (old.out.store.given + 1))) (placed true old.core)) (max-eq_right late)
+      ∙ (λ i. done old.core.shut (max old.core.last m) (Some (new i)) (placed true old.core))
+      ∙ ap (λ (k : ℕ). done old.core.shut k (Some (new_link (old.out.store.given + 1))) (placed true old.core)) (max-eq_right late)
       ∙ ap (λ (b : Bool). at_moment m (placed_back (done_at b m (Some (new_link (old.out.store.given + 1))) (placed true old.core)))) shut
 
-  born_makes : (marks : List Mark) → StandsFor old.core marks → old.core.shut ≡ false → old.core.last ≤ m → placed_core ≡ placed true old.core
-      → ((marks : List Mark) → StandsFor old.core marks → Makes old.core.options.max_connections marks [] placed_core)
-      → ((marks : List Mark) → StandsFor placed_core marks → Makes placed_core.options.max_connections marks (done_marks placed_core.shut placed_core.next_conn (max placed_core.last m) (Some link)) core)
+  born_makes : (marks : List Mark) → StandsFor old.core marks → old.core.shut ≡ false → old.core.last ≤ m
+      → ((marks : List Mark) → StandsFor old.core marks → Makes old.core.options.max_connections marks (done_marks old.core.shut old.core.next_conn (max old.core.last m) (Some link)) core)
       → Makes old.core.options.max_connections marks (Opened (next_conn marks) m ∷ Kept (next_conn marks) m ∷ []) core
-  born_makes marks s shut late one first second =
-      let stands : StandsFor placed_core marks = subst (StandsFor placed_core) (append-nil marks) (first marks s).stands in
-      let unshut : placed_core.shut ≡ false = ap (λ (c : Core Link). c.shut) one ∙ shut in
-      let number : placed_core.next_conn ≡ next_conn marks = ap (λ (c : Core Link). c.next_conn) one ∙ s.conn_number in
-      let moment : max placed_core.last m ≡ m = ap (λ (c : Core Link). max c.last m) one ∙ max-eq_right late in
-      let made : done_marks placed_core.shut placed_core.next_conn (max placed_core.last m) (Some link) ≡ Opened (next_conn marks) m ∷ Kept (next_conn marks) m ∷ [] = λ i. done_marks (unshut i) (number i) (moment i) (Some link) in
-      subst (λ (k : ℕ). Makes k marks (Opened (next_conn marks) m ∷ Kept (next_conn marks) m ∷ []) core) (ap (λ (c : Core Link). c.options.max_connections) one)
-      (subst (λ (l : List Mark). Makes placed_core.options.max_connections marks l core) made (second marks stands))
+  born_makes marks s shut late step =
+      let made : done_marks old.core.shut old.core.next_conn (max old.core.last m) (Some link) ≡ Opened (next_conn marks) m ∷ Kept (next_conn marks) m ∷ [] = λ i. done_marks (shut i) (s.conn_number i) (max-eq_right late i) (Some link) in
+      subst (λ (l : List Mark). Makes old.core.options.max_connections marks l core) made (step marks s)
 
-  pub opens-one : true ≡ has_place old.core.options.min_connections old.core → old.core.next_conn ≤ 2 ^ 63 → old.core.last ≤ m → placed_core ≡ placed true old.core
-      → ((marks : List Mark) → StandsFor old.core marks → Makes old.core.options.max_connections marks [] placed_core)
+  pub opens-one : true ≡ has_place old.core.options.min_connections old.core → old.core.next_conn ≤ 2 ^ 63 → old.core.last ≤ m
       → link ≡ new_link (old.out.store.given + 1) → out.store ≡ connected (old.out.store.given + 1) old.out.store
-      → core ≡ done (max placed_core.last m) (Some link) placed_core
-      → ((marks : List Mark) → StandsFor placed_core marks → Makes placed_core.options.max_connections marks (done_marks placed_core.shut placed_core.next_conn (max placed_core.last m) (Some link)) core)
+      → core ≡ done old.core.shut (max old.core.last m) (Some link) (placed true old.core)
+      → ((marks : List Mark) → StandsFor old.core marks → Makes old.core.options.max_connections marks (done_marks old.core.shut old.core.next_conn (max old.core.last m) (Some link)) core)
       → OpensOne old (record old { core = core; out = out }) m true
-  opens-one placeable few late one first new more two second =
+  opens-one placeable few late new more two step =
       let shut = is_open placeable few in
-      let is : core ≡ born = is_born shut late new one two in
+      let is : core ≡ born = is_born shut late new two in
       let freed : old.core.places + 1 - 1 ≡ old.core.places = omega arith in
       let i : Idle Link = record { lent = record { id = old.core.next_conn; created = record { 0 = m }; raw = new_link (old.out.store.given + 1) }; since = record { 0 = m } } in
       record {
         answer = placeable ∙ place-told old.core few;
         comes = λ marks past at. record {
           pool = refl;
-          makes = born_makes marks at.stands shut late one first second;
+          makes = born_makes marks at.stands shut late step;
           options = ap (λ (c : Core Link). c.options) is;
           places = ap (λ (c : Core Link). c.places) is ∙ freed ∙ at.places;
           tickets = ap (λ (c : Core Link). c.tickets) is;
@@ -105,7 +98,7 @@ module _ (old : Stage) (placed_core core : Core Link) (out : ScriptOutside) (lin
               (links-same (opened (kept (record { id = old.core.next_conn; created = record { 0 = m }; raw = new_link (old.out.store.given + 1) }) m old.core)) core (connected (old.out.store.given + 1) old.out.store) old.lent.items past
               (links-born old.core old.out.store old.lent.items past at.links m) (ap (λ (c : Core Link). c.held) is) (ap (λ (c : Core Link). c.idle) is) (ap (λ (c : Core Link). c.next_conn) is));
         };
-        passes = ap core_passes is ∙ ap (λ (k : ℕ). may_pass old.core.shut (waiting old.core.tickets) (free_of old.core.options.max_connections (length old.core.held) old.core.leaked (gone old.core.tickets) k)) freed;
+        passes = ap core_passes is ∙ ap (λ (k : ℕ). may_pass old.core.shut (waiting old.core.tickets) (free_of old.core.permits (length old.core.held) old.core.leaked (gone old.core.tickets) k)) freed;
         sized = ap size is ∙ (let push = length-push old.core.idle i in omega (arith, push));
         numbered = ap (λ (c : Core Link). c.next_conn) is;
         options = ap (λ (c : Core Link). c.options) is;

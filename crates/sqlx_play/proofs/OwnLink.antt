@@ -1,15 +1,14 @@
 -- The link of one connection that a client owns, among the links of a stage.
 use Rattle.std.proofs.Common.{◌≡◌, ℕ, zero, suc, ◌+◌, ◌<◌, ◌≤◌, ◌==◌, ◌&&◌, ◌||◌, not, nat_lt, Bool, true, false, cond, ◌⊎◌, inl, inr, List, ◌∷◌, ◌++◌, count_by, All, refl, sym, ap, ◌∙◌, arith, eq-eqb, ltb-true, ltb-false, lt-ltb}
 use Rattle.std.specs.List.{list_any}
-use Rattle.std.proofs.lemmas.Bool.{eqb-true, and_parts, and_from, or_right, cases_Bool}
+use Rattle.std.proofs.lemmas.Bool.{eqb-true, and_parts, cases_Bool}
 use Rattle.sqlx_pool_core.specs.declared.steps.Lent.{Lent}
 use Rattle.sqlx_pool_core.specs.declared.steps.Idle.{Idle}
 use Rattle.sqlx_pool_core.specs.declared.ticket.Held.{Held}
 use Rattle.sqlx_pool_core.specs.Core.{Core}
 use Rattle.sqlx_pool_core.specs.Sound.{IsSound, holds, rests}
 use Rattle.sqlx_log.proofs.ListFacts.{count_by-map, number_comm}
-use Rattle.mem_store.specs.declared.place.Place.{Place}
-use Rattle.mem_store.specs.Store.{Store, Link, others_in_level}
+use Rattle.mem_store.specs.Store.{Store, Link, others_in_level, level_mark}
 use Rattle.sqlx_brackets.specs.Changes.{Change, History, connection_of}
 use Rattle.sqlx_brackets.specs.Brackets.{depth}
 use Rattle.sqlx_brackets.specs.Standing.{is_zero}
@@ -17,8 +16,9 @@ use Rattle.sqlx_brackets.specs.Links.{linked_after}
 use Rattle.sqlx_brackets.specs.Events.{others_open}
 use Rattle.sqlx_brackets.proofs.Linking.{savepoints_read_alike}
 use Rattle.sqlx_brackets.proofs.Answering.{no_other}
-use Rattle.sqlx_play.specs.LinksStand.{LinksStand, IsLinkOf, has_number, is_in_level, has_number_in_level, is_place_in_level}
-use Rattle.sqlx_play.proofs.Middles.{any-mid, count-mid, All-sides, All-both, none_counted, any-found, any-more, IsMember, members, bools_same}
+use Rattle.sqlx_play.specs.LinksStand.{LinksStand, IsLinkOf, is_lent_in_level}
+use Rattle.sqlx_play.proofs.Middles.{any-mid, count-mid, All-sides, All-both, none_counted, any-found, any_counted, counted_any, IsMember, members, bools_same}
+use Rattle.sqlx_play.proofs.LinksGone.{level_counts}
 
 above_zero : (n : ℕ) → is_zero n ≡ false → 1 ≤ n
 above_zero zero e = absurd (cc)
@@ -46,19 +46,10 @@ module _ (core : Core Link) (sound : IsSound core) (store : Store) (ys : List (L
       by (inl yes') = ltb-true l.id core.next_conn yes'
       by (inr no') = let h = here_counted in let o = sound.opened l.id (ltb-false l.id core.next_conn no') in absurd (omega (arith, h, o))
 
-  pub numbers_apart : All (λ (x : Lent Link). (x.raw.number == l.raw.number) ≡ false) (ys ++ zs)
-  numbers_apart = none_counted (has_number l.raw.number) (ys ++ zs)
-      (let o = s.once l.raw.number in
-      let m = count-mid (has_number l.raw.number) ys l zs ∙ ap (λ b. cond b 1 0 + count_by (has_number l.raw.number) (ys ++ zs)) (eq-eqb l.raw.number l.raw.number refl) in
-      omega (arith, o, m))
-
   -- ---- other connections have an open bracket where other links have an open level
 
   depth_is : (x : Lent Link) → IsLinkOf (linked_after past) x.id x.raw → x.raw.depth ≡ depth x.id past
   depth_is x h = ap (λ k. k.depth) h ∙ (savepoints_read_alike past s.accepted).depths x.id
-
-  abbrev is_other : Place → Bool
-  is_other place = not (place.number == l.raw.number) && place.in_level
 
   abbrev is_open_elsewhere : Change → Bool
   is_open_elsewhere change = not (connection_of change == l.id) && not (is_zero (depth (connection_of change) past))
@@ -70,30 +61,30 @@ module _ (core : Core Link) (sound : IsSound core) (store : Store) (ys : List (L
       by (inl yes') = yes'
       by (inr none) = let z = no_other l.id past none n apart in absurd (omega (arith, z))
 
-  no_number : (n : ℕ) → (n == l.raw.number) ≡ false → has_number_in_level n l ≡ false
-  no_number n apart = ap (λ b. b && is_in_level l.raw) (number_comm l.raw.number n ∙ apart)
+  -- the count tells whether another lent link has an open level
+  others_counted : others_in_level l.raw.depth store.open_links ≡ nat_lt 0 (count_by is_lent_in_level (ys ++ zs))
+  others_counted =
+      let whole = count-mid is_lent_in_level ys l zs in
+      let mark = level_counts l in
+      let all = s.open_links in
+      let same : store.open_links ≡ level_mark l.raw.depth + count_by is_lent_in_level (ys ++ zs) = omega (arith, all, whole, mark) in
+      ap (λ n. nat_lt (level_mark l.raw.depth) n) same ∙ beyond (level_mark l.raw.depth) (count_by is_lent_in_level (ys ++ zs))
+    where
+      beyond : (a b : ℕ) → nat_lt a (a + b) ≡ nat_lt 0 b
+      beyond a b = bools_same (nat_lt a (a + b)) (nat_lt 0 b) (λ e. let less = ltb-true a (a + b) e in lt-ltb 0 b (omega (arith, less))) (λ e. let less = ltb-true 0 b e in lt-ltb a (a + b) (omega (arith, less)))
 
-  to_brackets : others_in_level l.raw.number store.places ≡ true → others_open l.id past ≡ true
+  to_brackets : nat_lt 0 (count_by is_lent_in_level (ys ++ zs)) ≡ true → others_open l.id past ≡ true
   to_brackets h =
-      let found = any-found is_other (IsMember store.places) store.places h (members store.places) in
-      let place = found.0 in
-      let parts = and_parts (not (place.number == l.raw.number)) place.in_level found.1 in
-      let apart : (place.number == l.raw.number) ≡ false = not_true (place.number == l.raw.number) parts.0 in
-      let known : list_any (is_place_in_level place.number) store.places ≡ true = found.2 (is_place_in_level place.number) (and_from (place.number == place.number) place.in_level (eq-eqb place.number place.number refl) parts.1) in
-      let lent : list_any (has_number_in_level place.number) (ys ++ zs) ≡ true =
-      sym (ap (λ b. b || list_any (has_number_in_level place.number) (ys ++ zs)) (no_number place.number apart)) ∙ sym (any-mid (has_number_in_level place.number) ys l zs) ∙ sym (s.levels place.number) ∙ known in
-      let other = any-found (has_number_in_level place.number) (λ (x : Lent Link). ((l.id == x.id) ≡ false) × IsLinkOf (linked_after past) x.id x.raw) (ys ++ zs) lent
+      let some = ltb-true 0 (count_by is_lent_in_level (ys ++ zs)) h in
+      let lent : list_any is_lent_in_level (ys ++ zs) ≡ true = counted_any is_lent_in_level (ys ++ zs) (omega (arith, some)) in
+      let other = any-found is_lent_in_level (λ (x : Lent Link). ((l.id == x.id) ≡ false) × IsLinkOf (linked_after past) x.id x.raw) (ys ++ zs) lent
       (All-both (λ (x : Lent Link). (l.id == x.id) ≡ false) (λ (x : Lent Link). IsLinkOf (linked_after past) x.id x.raw) (ys ++ zs) ids_apart (All-sides (λ (x : Lent Link). IsLinkOf (linked_after past) x.id x.raw) ys l zs s.lent_links)) in
       let x : Lent Link = other.0 in
-      let open' : 0 < x.raw.depth = ltb-true 0 x.raw.depth (and_parts (x.raw.number == place.number) (is_in_level x.raw) other.1).1 in
+      let open' : 0 < x.raw.depth = ltb-true 0 x.raw.depth other.1 in
       let same = depth_is x other.2.1 in
       opened_by x.id (omega (arith, open', same)) (number_comm x.id l.id ∙ other.2.0)
-    where
-      not_true : (b : Bool) → not b ≡ true → b ≡ false
-      not_true true e = absurd (cc)
-      not_true false e = refl
 
-  from_brackets : others_open l.id past ≡ true → others_in_level l.raw.number store.places ≡ true
+  from_brackets : others_open l.id past ≡ true → nat_lt 0 (count_by is_lent_in_level (ys ++ zs)) ≡ true
   from_brackets h =
       let found = any-found is_open_elsewhere (λ (change : Change). change ≡ change) past h (λ k d lt. refl) in
       let n : ℕ = connection_of found.0 in
@@ -102,14 +93,13 @@ module _ (core : Core Link) (sound : IsSound core) (store : Store) (ys : List (L
       let one : 1 ≤ depth n past = above_zero (depth n past) (not_true (is_zero (depth n past)) parts.1) in
       let owned : list_any (λ (x : Lent Link). n == x.id) (ys ++ l ∷ zs) ≡ true = is_owned n one (cases_Bool (list_any (λ (x : Lent Link). n == x.id) (ys ++ l ∷ zs))) in
       let beside : list_any (λ (x : Lent Link). n == x.id) (ys ++ zs) ≡ true = sym (ap (λ b. b || list_any (λ (x : Lent Link). n == x.id) (ys ++ zs)) apart) ∙ sym (any-mid (λ (x : Lent Link). n == x.id) ys l zs) ∙ owned in
-      let other = any-found (λ (x : Lent Link). n == x.id) (λ (x : Lent Link). IsMember (ys ++ zs) x × (((x.raw.number == l.raw.number) ≡ false) × IsLinkOf (linked_after past) x.id x.raw)) (ys ++ zs) beside
-      (All-both (IsMember (ys ++ zs)) (λ (x : Lent Link). ((x.raw.number == l.raw.number) ≡ false) × IsLinkOf (linked_after past) x.id x.raw) (ys ++ zs) (members (ys ++ zs))
-      (All-both (λ (x : Lent Link). (x.raw.number == l.raw.number) ≡ false) (λ (x : Lent Link). IsLinkOf (linked_after past) x.id x.raw) (ys ++ zs) numbers_apart (All-sides (λ (x : Lent Link). IsLinkOf (linked_after past) x.id x.raw) ys l zs s.lent_links))) in
+      let other = any-found (λ (x : Lent Link). n == x.id) (λ (x : Lent Link). IsMember (ys ++ zs) x × IsLinkOf (linked_after past) x.id x.raw) (ys ++ zs) beside
+      (All-both (IsMember (ys ++ zs)) (λ (x : Lent Link). IsLinkOf (linked_after past) x.id x.raw) (ys ++ zs) (members (ys ++ zs)) (All-sides (λ (x : Lent Link). IsLinkOf (linked_after past) x.id x.raw) ys l zs s.lent_links)) in
       let x : Lent Link = other.0 in
-      let same : x.raw.depth ≡ depth n past = depth_is x other.2.1.1 ∙ ap (λ m. depth m past) (sym (eqb-true n x.id other.1)) in
-      let in_level : has_number_in_level x.raw.number x ≡ true = and_from (x.raw.number == x.raw.number) (is_in_level x.raw) (eq-eqb x.raw.number x.raw.number refl) (lt-ltb 0 x.raw.depth (omega (arith, one, same))) in
-      let lent : list_any (has_number_in_level x.raw.number) (ys ++ l ∷ zs) ≡ true = any-mid (has_number_in_level x.raw.number) ys l zs ∙ or_right (has_number_in_level x.raw.number l) (list_any (has_number_in_level x.raw.number) (ys ++ zs)) (other.2.0 (has_number_in_level x.raw.number) in_level) in
-      any-more (is_place_in_level x.raw.number) is_other (λ place e. elsewhere x.raw.number other.2.1.0 place e) store.places (s.levels x.raw.number ∙ lent)
+      let same : x.raw.depth ≡ depth n past = depth_is x other.2.1 ∙ ap (λ m. depth m past) (sym (eqb-true n x.id other.1)) in
+      let lent : list_any is_lent_in_level (ys ++ zs) ≡ true = other.2.0 is_lent_in_level (lt-ltb 0 x.raw.depth (omega (arith, one, same))) in
+      let some = any_counted is_lent_in_level (ys ++ zs) lent in
+      lt-ltb 0 (count_by is_lent_in_level (ys ++ zs)) (omega (arith, some))
     where
       not_true : (b : Bool) → not b ≡ true → b ≡ false
       not_true true e = absurd (cc)
@@ -119,12 +109,6 @@ module _ (core : Core Link) (sound : IsSound core) (store : Store) (ys : List (L
       is_owned n one (inl yes') = yes'
       is_owned n one (inr none) = let z = s.unlent n none in let a = (savepoints_read_alike past s.accepted).depths n in absurd (omega (arith, z, a, one))
 
-      elsewhere : (m : ℕ) → (m == l.raw.number) ≡ false → (place : Place) → is_place_in_level m place ≡ true → is_other place ≡ true
-      elsewhere m apart place e =
-          let parts = and_parts (place.number == m) place.in_level e in
-          let is : place.number ≡ m = eqb-true place.number m parts.0 in
-          and_from (not (place.number == l.raw.number)) place.in_level (ap (λ k. not (k == l.raw.number)) is ∙ ap not apart) parts.1
-
   -- busy by the store and busy by the brackets
-  pub busy-alike : others_in_level l.raw.number store.places ≡ others_open l.id past
-  busy-alike = bools_same (others_in_level l.raw.number store.places) (others_open l.id past) to_brackets from_brackets
+  pub busy-alike : others_in_level l.raw.depth store.open_links ≡ others_open l.id past
+  busy-alike = others_counted ∙ bools_same (nat_lt 0 (count_by is_lent_in_level (ys ++ zs))) (others_open l.id past) to_brackets from_brackets

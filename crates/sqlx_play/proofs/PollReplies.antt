@@ -21,6 +21,7 @@ use Rattle.sqlx_pool_core.specs.OwnTurn.{own_turn, turn_of, is_first_in_line, be
 use Rattle.sqlx_pool_core.specs.PollSteps.{start_answer}
 use Rattle.sqlx_pool_core.specs.StandsFor.{StandsFor}
 use Rattle.sqlx_pool_core.proofs.Known.{ticket-number}
+use Rattle.sqlx_pool_core.proofs.Stands.{stands-in}
 use Rattle.sqlx_pool_core.proofs.TurnAtMarks.{free-places, before-asking}
 use Rattle.mem_store.specs.Store.{Link}
 use Rattle.sqlx_script.specs.declared.answers.PollAnswers.{PollAnswers}
@@ -78,7 +79,7 @@ tried-of k t pairs tickets x all found = found_All (is_of k t) (IsTried pairs) t
 -- the free permits of the marks, where no place is held
 pub free-is : (stage : Stage) (pairs : Pairs) → StageStands stage pairs → free_in stage.pool.max (view_of (marks_of stage.pool pairs)) ≡ free stage.core
 free-is stage pairs s =
-    sym (free-places stage.core (marks_of stage.pool pairs) s.stands ∙ (λ i. free_in (s.set_up.max i) (view_of (marks_of stage.pool pairs)) - s.places i) ∙ omega arith)
+    sym (free-places stage.core (marks_of stage.pool pairs) (stands-in stage.core (marks_of stage.pool pairs) s.stands) ∙ (λ i. free_in ((s.stands.permits ∙ s.set_up.max) i) (view_of (marks_of stage.pool pairs)) - s.places i) ∙ omega arith)
 
 module _ (stage : Stage) (pairs : Pairs) (s : StageStands stage pairs) (k t m : ℕ) (answers : PollAnswers) (few : stage.core.next_conn ≤ 2 ^ 63) where
   -- the reply where the ticket connects
@@ -123,17 +124,17 @@ module _ (stage : Stage) (pairs : Pairs) (s : StageStands stage pairs) (k t m : 
       numbers-left m (is_first_in_line t stage.core) stage.core.shut stage.core.next_conn stage.core.idle x.deadline true u few
       ∙ ap (λ (n : ℕ). turn_at_rest m (is_first_in_line n stage.core) stage.core.shut 0 stage.core.idle x.deadline true u) number
       ∙ ap (λ (v : ℕ). table x true v) until
-  from_core x (phase.Testing c created) number h = absurd h
+  from_core x (phase.Testing c created before) number h = absurd h
   from_core x phase.Connecting number h = absurd h
 
   at_ticket : (o : Option Ticket) → ticket_of k t stage.core.tickets ≡ o
       → poll_reply stage.pool answers marks m (tries_of t pairs) (option_map asking o)
-      ≡ start_reply (passes_test stage.pool answers) (connecting o) (start_answer (turn_of (is_first_in_line t stage.core) m stage.core o) stage.core.idle)
+      ≡ start_reply (passes_test stage.pool answers) (connecting o) (start_answer (turn_of (is_first_in_line t stage.core) stage.core.shut m stage.core o) stage.core.idle)
   at_ticket None found = refl
   at_ticket (Some x) found =
       to_core x
       ∙ ap (by_turn x) (sym (from_core x x.phase (ticket-number k t stage.core.tickets x found) (tried-of k t pairs stage.core.tickets x s.tried found)))
-      ∙ sym (start-turn (passes_test stage.pool answers) (connecting (Some x)) (turn_of (is_first_in_line t stage.core) m stage.core (Some x)) stage.core.idle)
+      ∙ sym (start-turn (passes_test stage.pool answers) (connecting (Some x)) (turn_of (is_first_in_line t stage.core) stage.core.shut m stage.core (Some x)) stage.core.idle)
 
   -- the reply is that of the core's first step
   pub poll-reply : (r : Start Link) → r ≡ start_answer (own_turn stage.core k t m) stage.core.idle

@@ -59,9 +59,9 @@ module _ {C : Type 0} (core : Core C) (k t m : ℕ) where
   pub at-test : (i : Idle C) → start.Test i ≡ start_answer (own_turn core k t m) core.idle → AtTest core k t i
   at-test i own = by (ticket_of k t core.tickets) refl own
     where
-      turned : (x : Ticket) → ticket_of k t core.tickets ≡ Some x → (w : Turn) → turn_of q m core (Some x) ≡ w → start.Test i ≡ start_answer w core.idle → AtTest core k t i
+      turned : (x : Ticket) → ticket_of k t core.tickets ≡ Some x → (w : Turn) → turn_of q core.shut m core (Some x) ≡ w → start.Test i ≡ start_answer w core.idle → AtTest core k t i
       turned x found turn.Test is e =
-          let tests = turn-test q core m x is in
+          let tests = turn-test q core.shut core m x is in
           let first : start.Test i ≡ start.Test tests.first = e ∙ ap (start_answer turn.Test) tests.idle in
           let same : i ≡ tests.first = cc in
           record {
@@ -80,14 +80,14 @@ module _ {C : Type 0} (core : Core C) (k t m : ℕ) where
       turned x found (turn.Backoff until) is e = absurd cc
       turned x found turn.Connect is e = absurd cc
 
-      by : (o : Option Ticket) → ticket_of k t core.tickets ≡ o → start.Test i ≡ start_answer (turn_of q m core o) core.idle → AtTest core k t i
+      by : (o : Option Ticket) → ticket_of k t core.tickets ≡ o → start.Test i ≡ start_answer (turn_of q core.shut m core o) core.idle → AtTest core k t i
       by None found e = absurd cc
-      by (Some x) found e = turned x found (turn_of q m core (Some x)) refl e
+      by (Some x) found e = turned x found (turn_of q core.shut m core (Some x)) refl e
 
   pub at-connect : start.Connect ≡ start_answer (own_turn core k t m) core.idle → AtConnect core k t m
   at-connect own = by (ticket_of k t core.tickets) refl own
     where
-      ways_of : (x : Ticket) → turn_of q m core (Some x) ≡ turn.Connect → (ConnectsFirst q core x ⊎ ConnectsAgain core x) → ((x.phase ≡ phase.Waiting) × (core.idle ≡ [])) ⊎ IsDue m x
+      ways_of : (x : Ticket) → turn_of q core.shut m core (Some x) ≡ turn.Connect → (ConnectsFirst q core x ⊎ ConnectsAgain core x) → ((x.phase ≡ phase.Waiting) × (core.idle ≡ [])) ⊎ IsDue m x
       ways_of x is (inl first) = inl (first.leaves.waits, first.none)
       ways_of x is (inr again) = inr (record {
         until = again.until;
@@ -96,18 +96,18 @@ module _ {C : Type 0} (core : Core C) (k t m : ℕ) where
             (sym (ap (λ (p : Phase). cond (is_at_rest p) (cond core.shut turn.Closed (cond (nat_le x.deadline m) turn.TimedOut (in_time m q core.next_conn core.idle (is_out p) (backs_off_until p)))) turn.NotHeld) again.backs_off) ∙ is);
       })
 
-      connects : (x : Ticket) → ticket_of k t core.tickets ≡ Some x → turn_of q m core (Some x) ≡ turn.Connect → AtConnect core k t m
+      connects : (x : Ticket) → ticket_of k t core.tickets ≡ Some x → turn_of q core.shut m core (Some x) ≡ turn.Connect → AtConnect core k t m
       connects x found is = record {
         x = x;
         found = found;
-        ways = ways_of x is (turn-connect q core m x is);
+        ways = ways_of x is (turn-connect q core.shut core m x is);
         is_open = open_of (is_at_rest x.phase) core.shut _ turn.Connect is (λ h. cc) (λ h. cc);
       }
 
-      turned : (x : Ticket) → ticket_of k t core.tickets ≡ Some x → (w : Turn) → turn_of q m core (Some x) ≡ w → start.Connect ≡ start_answer w core.idle → AtConnect core k t m
+      turned : (x : Ticket) → ticket_of k t core.tickets ≡ Some x → (w : Turn) → turn_of q core.shut m core (Some x) ≡ w → start.Connect ≡ start_answer w core.idle → AtConnect core k t m
       turned x found turn.Connect is e = connects x found is
       turned x found turn.Test is e =
-          let tests = turn-test q core m x is in
+          let tests = turn-test q core.shut core m x is in
           let first : start.Connect ≡ start.Test tests.first = e ∙ ap (start_answer turn.Test) tests.idle in
           absurd cc
       turned x found turn.NotHeld is e = absurd cc
@@ -117,9 +117,9 @@ module _ {C : Type 0} (core : Core C) (k t m : ℕ) where
       turned x found turn.Waiting is e = absurd cc
       turned x found (turn.Backoff until) is e = absurd cc
 
-      by : (o : Option Ticket) → ticket_of k t core.tickets ≡ o → start.Connect ≡ start_answer (turn_of q m core o) core.idle → AtConnect core k t m
+      by : (o : Option Ticket) → ticket_of k t core.tickets ≡ o → start.Connect ≡ start_answer (turn_of q core.shut m core o) core.idle → AtConnect core k t m
       by None found e = absurd cc
-      by (Some x) found e = turned x found (turn_of q m core (Some x)) refl e
+      by (Some x) found e = turned x found (turn_of q core.shut m core (Some x)) refl e
 
 -- The ticket's next try isn't due yet.
 pub record AtBackoff {C : Type 0} (core : Core C) (k t m until : ℕ) : Type 0 where
@@ -153,7 +153,7 @@ module _ {C : Type 0} (core : Core C) (k t m : ℕ) where
   waits_early : (x : Ticket) (u : ℕ) → ticket_of k t core.tickets ≡ Some x → (p : Phase) → x.phase ≡ p → turn_by x p ≡ turn.Backoff u → AtBackoff core k t m u
   unfolding turn_by
   waits_early x u found phase.Waiting is e = absurd (none_waiting core.shut (nat_le x.deadline m) line (nat_lt (2 ^ 63) core.next_conn) core.idle u e)
-  waits_early x u found (phase.Testing c created) is e = absurd cc
+  waits_early x u found (phase.Testing c created before) is e = absurd cc
   waits_early x u found phase.Connecting is e = absurd cc
   waits_early x u found (phase.Backoff v) is e =
       let known = early_of core.shut (nat_le x.deadline m) (nat_lt m v) (nat_lt (2 ^ 63) core.next_conn) v u e in
@@ -163,12 +163,12 @@ module _ {C : Type 0} (core : Core C) (k t m : ℕ) where
   unfolding turn_by
   at-backoff until own = by (ticket_of k t core.tickets) refl own
     where
-      turned : (x : Ticket) → ticket_of k t core.tickets ≡ Some x → (w : Turn) → turn_of line m core (Some x) ≡ w → start.Backoff until ≡ start_answer w core.idle → AtBackoff core k t m until
+      turned : (x : Ticket) → ticket_of k t core.tickets ≡ Some x → (w : Turn) → turn_of line core.shut m core (Some x) ≡ w → start.Backoff until ≡ start_answer w core.idle → AtBackoff core k t m until
       turned x found (turn.Backoff u) is e =
           let same : u ≡ until = cc in
           waits_early x until found x.phase refl (is ∙ ap (λ (n : ℕ). turn.Backoff n) same)
       turned x found turn.Test is e =
-          let tests = turn-test line core m x is in
+          let tests = turn-test line core.shut core m x is in
           let first : start.Backoff until ≡ start.Test tests.first = e ∙ ap (start_answer turn.Test) tests.idle in
           absurd cc
       turned x found turn.Connect is e = absurd cc
@@ -178,9 +178,9 @@ module _ {C : Type 0} (core : Core C) (k t m : ℕ) where
       turned x found turn.Exhausted is e = absurd cc
       turned x found turn.Waiting is e = absurd cc
 
-      by : (o : Option Ticket) → ticket_of k t core.tickets ≡ o → start.Backoff until ≡ start_answer (turn_of line m core o) core.idle → AtBackoff core k t m until
+      by : (o : Option Ticket) → ticket_of k t core.tickets ≡ o → start.Backoff until ≡ start_answer (turn_of line core.shut m core o) core.idle → AtBackoff core k t m until
       by None found e = absurd cc
-      by (Some x) found e = turned x found (turn_of line m core (Some x)) refl e
+      by (Some x) found e = turned x found (turn_of line core.shut m core (Some x)) refl e
 
 -- ---- the phase of the ticket
 
@@ -195,7 +195,7 @@ keeps-try m x = by x.phase
   where
     by : (p : Phase) → ((to_try_at m p x).number ≡ x.number) × ((to_try_at m p x).client ≡ x.client)
     by phase.Waiting = (refl, refl)
-    by (phase.Testing c created) = (refl, refl)
+    by (phase.Testing c created before) = (refl, refl)
     by phase.Connecting = (refl, refl)
     by (phase.Backoff until) = (refl, refl)
 
@@ -204,7 +204,7 @@ tries_phase m x = by x.phase
   where
     by : (p : Phase) → (to_try_at m p x).phase ≡ phase.Connecting
     by phase.Waiting = refl
-    by (phase.Testing c created) = refl
+    by (phase.Testing c created before) = refl
     by phase.Connecting = refl
     by (phase.Backoff until) = refl
 

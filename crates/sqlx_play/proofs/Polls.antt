@@ -10,12 +10,11 @@ use Rattle.sqlx_pool_core.specs.declared.steps.Start.TheVariants as start
 use Rattle.sqlx_pool_core.specs.Core.{Core, ticket_of}
 use Rattle.sqlx_pool_core.specs.Edits.{ended, lent_to, took, with_ticket, without_ticket, to_test, to_try, to_connect, to_back_off}
 use Rattle.sqlx_pool_core.specs.Sound.{IsSound}
-use Rattle.sqlx_pool_core.specs.PollSteps.{start_marks, started, phase_for, wait_of}
+use Rattle.sqlx_pool_core.specs.PollSteps.{started, wait_of}
 use Rattle.sqlx_pool_core.specs.Makes.{Makes}
-use Rattle.sqlx_pool_core.proofs.Fair.{makes-then}
 use Rattle.sqlx_pool_core.proofs.Known.{KeepsNumber, ticket-number, ticket-is_only, ticket-below, gone-changed, idle-first}
 use Rattle.sqlx_log.proofs.ListFacts.{same_number, number_comm}
-use Rattle.mem_store.specs.Store.{Link, without}
+use Rattle.mem_store.specs.Store.{Link, closed_at}
 use Rattle.sqlx_script.specs.declared.answers.PollAnswers.{PollAnswers}
 use Rattle.sqlx_script.specs.declared.step.Event.{Event}
 use Rattle.sqlx_script.specs.declared.step.Step.TheVariants.{Poll}
@@ -23,7 +22,6 @@ use Rattle.sqlx_script.specs.declared.reply.Reply.{Reply}
 use Rattle.sqlx_script.specs.declared.reply.Reply.TheVariants as reply
 use Rattle.sqlx_brackets.specs.Changes.{leaves}
 use Rattle.sqlx_play.specs.declared.stage.Stage.{Stage}
-use Rattle.sqlx_pool_core.specs.declared.options.PoolOptions.{PoolOptions}
 use Rattle.sqlx_rules.specs.Answer.{connect_reply}
 use Rattle.sqlx_rules.specs.ScriptMarks.{marks_of, waits, leaving, polled}
 use Rattle.sqlx_rules.specs.ScriptLevels.{gone_by, history_of}
@@ -38,7 +36,7 @@ use Rattle.sqlx_play.proofs.StageAfter.{stage-after}
 use Rattle.sqlx_play.proofs.PollTurns.{AtTest, AtConnect, keeps-try, found-try, found-refused}
 use Rattle.sqlx_play.proofs.PollReplies.{tried-of}
 use Rattle.sqlx_play.proofs.PollTries.{Trying, trying-refused, trying-connect, tried-without, tried-changed, with-with}
-use Rattle.sqlx_play.proofs.PollMarks.{gone-append, taken-test, taken-connect, waits-test, leaving-connect, polled_by, lent-marks, Outcome, connected, backs_off, broken, refused, reply_by, connect-marks, refused-marks, connect-gone, polled-by, outcome_of, outcome-is, outcome-until}
+use Rattle.sqlx_play.proofs.PollMarks.{gone-append, taken-test, taken-connect, waits-test, polled_by, lent-marks, Outcome, connected, backs_off, broken, refused, reply_by, connect-marks, refused-marks, connect-gone, polled-by, outcome_of, outcome-is, outcome-until}
 use Rattle.sqlx_rules.specs.Pairs.{Pairs}
 
 abbrev pub pair_of : Moment → ℕ → ℕ → PollAnswers → Reply → Event × Reply
@@ -49,15 +47,12 @@ pair_of moment k t answers r = (record { moment = moment; step = Poll k t answer
 pub tested-stands : (stage new : Stage) (pairs : Pairs) (moment : Moment) (k t last : ℕ) (answers : PollAnswers) (i : Idle Link) (mid : Core Link) → StageStands stage pairs → IsSound stage.core → AtTest stage.core k t i
     → mid ≡ started t last (start.Test i) stage.core → new.core ≡ ended t (lent_to k i.lent.id i.lent.created mid)
     → new.out.store ≡ stage.out.store → new.lent.items ≡ stage.lent.items ++ i.lent ∷ [] → new.pool ≡ stage.pool
-    → Makes stage.core.options.max_connections (marks_of stage.pool pairs) (mark.Left t ∷ mark.Taken i.lent.id ∷ []) mid
-    → Makes mid.options.max_connections (marks_of stage.pool pairs ++ mark.Left t ∷ mark.Taken i.lent.id ∷ []) (mark.Lent k i.lent.id ∷ mark.Ended t ∷ []) new.core
+    → Makes stage.core.options.max_connections (marks_of stage.pool pairs) (mark.Left t ∷ mark.Taken i.lent.id ∷ mark.Lent k i.lent.id ∷ mark.Ended t ∷ []) new.core
     → StageStands new (pairs ++ pair_of moment k t answers (reply.Ready i.lent.id) ∷ [])
-tested-stands stage new pairs moment k t last answers i mid s sound a begun becomes store owned pool makes then =
+tested-stands stage new pairs moment k t last answers i mid s sound a begun becomes store owned pool makes =
     stage-after stage new pairs pair s (record {
       pool = pool;
-      makes = subst (λ (l : List Mark). Makes stage.core.options.max_connections marks l new.core) made
-          (makes-then stage.core.options.max_connections marks (mark.Left t ∷ mark.Taken i.lent.id ∷ []) (mark.Lent k i.lent.id ∷ mark.Ended t ∷ []) mid new.core makes
-          (subst (λ (n : ℕ). Makes n (marks ++ mark.Left t ∷ mark.Taken i.lent.id ∷ []) (mark.Lent k i.lent.id ∷ mark.Ended t ∷ []) new.core) (ap (λ (c : Core Link). c.options.max_connections) begun) then));
+      makes = subst (λ (l : List Mark). Makes stage.core.options.max_connections marks l new.core) made makes;
       options = ap (λ (c : Core Link). c.options) whole;
       places = ap (λ (c : Core Link). c.places) whole ∙ s.places;
       tried = subst (All (IsTried (pairs ++ pair ∷ []))) (sym (ap (λ (c : Core Link). c.tickets) whole ∙ gone-changed t (to_test last i) stage.core.tickets (λ x. refl)))
@@ -101,7 +96,6 @@ pub record Connecting (stage mid : Stage) (pairs : Pairs) (k t m : ℕ) (made : 
   pub next_ticket : mid.core.next_ticket ≡ stage.core.next_ticket
   pub next_conn : mid.core.next_conn ≡ stage.core.next_conn
   pub pool : mid.pool ≡ stage.pool
-  pub makes : Makes stage.core.options.max_connections (marks_of stage.pool pairs) made mid.core
   pub links : LinksStand mid.core mid.out.store mid.lent.items (gone_by made (history_of stage.pool pairs))
   pub marks : (o : Outcome) → made ++ connect_marks k t m (reply_by stage.core.next_conn o) ≡ polled (marks_of stage.pool pairs) m k t (reply_by stage.core.next_conn o)
 
@@ -161,7 +155,7 @@ module _ (stage mid new : Stage) (pairs : Pairs) (moment : Moment) (k t : ℕ) (
   untried_by (backs_off until) u h = let below = ticket-below stage.core sound k t c.x c.found in other_tries until u (ne_eqb u t (λ e. absurd (omega (arith, below, h, e))))
 
   stands_by : (o : Outcome) → ((u : ℕ) → o ≡ backs_off u → u ≡ moment.0 + wait_of c.y)
-      → Makes mid.core.options.max_connections (marks_of stage.pool pairs ++ made) (connect_marks k t moment.0 (reply_by stage.core.next_conn o)) new.core
+      → Makes stage.core.options.max_connections (marks_of stage.pool pairs) (made ++ connect_marks k t moment.0 (reply_by stage.core.next_conn o)) new.core
       → new.core ≡ after_connect k t moment (reply_by stage.core.next_conn o) mid.core → LinksStand new.core new.out.store new.lent.items (gone_by made (history_of stage.pool pairs)) → new.pool ≡ mid.pool
       → StageStands new (pairs ++ pair_of moment k t answers (reply_by stage.core.next_conn o) ∷ [])
   stands_by o until makes becomes links pool =
@@ -172,9 +166,7 @@ module _ (stage mid new : Stage) (pairs : Pairs) (moment : Moment) (k t : ℕ) (
       ∙ ap (λ (l : List Mark). gone_by l (history_of stage.pool pairs)) (c.marks o) in
       stage-after stage new pairs (pair_of moment k t answers (reply_by stage.core.next_conn o)) s (record {
         pool = pool ∙ c.pool;
-        makes = subst (λ (l : List Mark). Makes stage.core.options.max_connections (marks_of stage.pool pairs) l new.core) (c.marks o)
-            (makes-then stage.core.options.max_connections (marks_of stage.pool pairs) made (connect_marks k t moment.0 (reply_by stage.core.next_conn o)) mid.core new.core c.makes
-            (subst (λ (n : ℕ). Makes n (marks_of stage.pool pairs ++ made) (connect_marks k t moment.0 (reply_by stage.core.next_conn o)) new.core) (ap (λ (p : PoolOptions). p.max_connections) c.options) makes));
+        makes = subst (λ (l : List Mark). Makes stage.core.options.max_connections (marks_of stage.pool pairs) l new.core) (c.marks o) makes;
         options = ap (λ (n : Core Link). n.options) becomes ∙ kept.options ∙ c.options;
         places = ap (λ (n : Core Link). n.places) becomes ∙ kept.places ∙ c.places ∙ s.places;
         tried = subst (λ (n : Core Link). All (IsTried (pairs ++ pair_of moment k t answers (reply_by stage.core.next_conn o) ∷ [])) n.tickets) (sym becomes) (tickets_by o until);
@@ -186,7 +178,7 @@ module _ (stage mid new : Stage) (pairs : Pairs) (moment : Moment) (k t : ℕ) (
 
   -- the stage after a connect with this reply
   pub connect-stands : (r : Reply) → r ≡ connect_reply mid.pool answers mid.core.next_conn (moment.0 + wait_of c.y) answers.connect
-      → Makes mid.core.options.max_connections (marks_of stage.pool pairs ++ made) (connect_marks k t moment.0 r) new.core
+      → Makes stage.core.options.max_connections (marks_of stage.pool pairs) (made ++ connect_marks k t moment.0 r) new.core
       → new.core ≡ after_connect k t moment r mid.core → LinksStand new.core new.out.store new.lent.items (gone_by made (history_of stage.pool pairs)) → new.pool ≡ mid.pool
       → StageStands new (pairs ++ pair_of moment k t answers r ∷ [])
   connect-stands r is makes becomes links pool =
@@ -194,7 +186,7 @@ module _ (stage mid new : Stage) (pairs : Pairs) (moment : Moment) (k t : ℕ) (
       let reply_is : r ≡ reply_by stage.core.next_conn o = is ∙ (λ i. connect_reply (c.pool i) answers (c.next_conn i) (moment.0 + wait_of c.y) answers.connect) ∙ outcome-is stage.pool answers stage.core.next_conn (moment.0 + wait_of c.y) answers.connect in
       subst (λ (r : Reply). StageStands new (pairs ++ pair_of moment k t answers r ∷ [])) (sym reply_is)
       (stands_by o (λ u e. outcome-until stage.pool answers (moment.0 + wait_of c.y) u answers.connect e)
-      (subst (λ (r : Reply). Makes mid.core.options.max_connections (marks_of stage.pool pairs ++ made) (connect_marks k t moment.0 r) new.core) reply_is makes)
+      (subst (λ (r : Reply). Makes stage.core.options.max_connections (marks_of stage.pool pairs) (made ++ connect_marks k t moment.0 r) new.core) reply_is makes)
       (subst (λ (r : Reply). new.core ≡ after_connect k t moment r mid.core) reply_is becomes) links pool)
 
 -- ---- the two ways to a connect
@@ -202,9 +194,8 @@ module _ (stage mid new : Stage) (pairs : Pairs) (moment : Moment) (k t : ℕ) (
 -- no connection is idle, or the next try is due
 pub at-connect-connects : (stage mid : Stage) (pairs : Pairs) (k t m : ℕ) → StageStands stage pairs → IsSound stage.core → (a : AtConnect stage.core k t m)
     → mid.core ≡ started t m start.Connect stage.core → mid.out.store ≡ stage.out.store → mid.lent.items ≡ stage.lent.items → mid.pool ≡ stage.pool
-    → Makes stage.core.options.max_connections (marks_of stage.pool pairs) (start_marks {C = Link} t (phase_for k t stage.core.tickets) start.Connect) mid.core
     → Connecting stage mid pairs k t m (leaving t (waits k t (marks_of stage.pool pairs)))
-at-connect-connects stage mid pairs k t m s sound a becomes store owned pool makes =
+at-connect-connects stage mid pairs k t m s sound a becomes store owned pool =
     let marks : List Mark = marks_of stage.pool pairs in
     let tried = tried-of k t pairs stage.core.tickets a.x s.tried a.found in
     record {
@@ -222,7 +213,6 @@ at-connect-connects stage mid pairs k t m s sound a becomes store owned pool mak
       next_ticket = ap (λ (c : Core Link). c.next_ticket) becomes;
       next_conn = ap (λ (c : Core Link). c.next_conn) becomes;
       pool = pool;
-      makes = subst (λ (l : List Mark). Makes stage.core.options.max_connections marks l mid.core) (leaving-connect stage.core marks k t s.stands m a) makes;
       links = subst (LinksStand mid.core mid.out.store mid.lent.items) (by (waits k t marks))
           (links-as mid.core mid.core stage.out.store mid.out.store stage.lent.items mid.lent.items (history_of stage.pool pairs) refl store owned
           (links-same stage.core mid.core stage.out.store stage.lent.items (history_of stage.pool pairs) s.links (ap (λ (c : Core Link). c.held) becomes) (ap (λ (c : Core Link). c.idle) becomes) (ap (λ (c : Core Link). c.next_conn) becomes)));
@@ -238,11 +228,9 @@ at-connect-connects stage mid pairs k t m s sound a becomes store owned pool mak
 -- the idle connection was refused
 pub refused-connects : (stage mid : Stage) (core : Core Link) (pairs : Pairs) (k t m : ℕ) (i : Idle Link) → StageStands stage pairs → IsSound stage.core → (a : AtTest stage.core k t i)
     → core ≡ started t m (start.Test i) stage.core → mid.core ≡ record core { tickets = with_ticket t to_connect core.tickets }
-    → mid.out.store ≡ record stage.out.store { places = without i.lent.raw.number stage.out.store.places } → mid.lent.items ≡ stage.lent.items → mid.pool ≡ stage.pool
-    → Makes stage.core.options.max_connections (marks_of stage.pool pairs) (mark.Left t ∷ mark.Taken i.lent.id ∷ []) core
-    → Makes core.options.max_connections (marks_of stage.pool pairs ++ mark.Left t ∷ mark.Taken i.lent.id ∷ []) (mark.Closed i.lent.id ∷ []) mid.core
+    → mid.out.store ≡ closed_at i.lent.raw.depth stage.out.store → mid.lent.items ≡ stage.lent.items → mid.pool ≡ stage.pool
     → Connecting stage mid pairs k t m (mark.Left t ∷ mark.Taken i.lent.id ∷ mark.Closed i.lent.id ∷ [])
-refused-connects stage mid core pairs k t m i s sound a begun becomes store owned pool makes then =
+refused-connects stage mid core pairs k t m i s sound a begun becomes store owned pool =
     record {
       x = a.x;
       y = to_connect (to_test m i a.x);
@@ -258,8 +246,6 @@ refused-connects stage mid core pairs k t m i s sound a begun becomes store owne
       next_ticket = ap (λ (c : Core Link). c.next_ticket) whole;
       next_conn = ap (λ (c : Core Link). c.next_conn) whole;
       pool = pool;
-      makes = makes-then stage.core.options.max_connections marks (mark.Left t ∷ mark.Taken i.lent.id ∷ []) (mark.Closed i.lent.id ∷ []) core mid.core makes
-          (subst (λ (n : ℕ). Makes n (marks ++ mark.Left t ∷ mark.Taken i.lent.id ∷ []) (mark.Closed i.lent.id ∷ []) mid.core) (ap (λ (c : Core Link). c.options.max_connections) begun) then);
       links = links-as mid.core mid.core _ mid.out.store stage.lent.items mid.lent.items (leaves i.lent.id ∷ history_of stage.pool pairs) refl store owned
           (links-same (took stage.core) mid.core _ stage.lent.items (leaves i.lent.id ∷ history_of stage.pool pairs)
           (links-closed stage.core stage.out.store stage.lent.items (history_of stage.pool pairs) s.links i a.rest a.idle sound)

@@ -100,7 +100,7 @@ reaps-none old core m m' same answer becomes =
 pub reaps-one : (old : Stage) (core : Core Link) (out : ScriptOutside) (i : Idle Link) (m m' : ℕ) → m' ≡ m → IsSound old.core → Some i ≡ reap_answer (core_passes old.core) old.core.options m' old.core.idle
     → core ≡ at_moment m' (record old.core { idle = without_idle i.lent.id old.core.idle })
     → ((marks : List Mark) → StandsFor old.core marks → Makes old.core.options.max_connections marks (Reaped i.lent.id ∷ []) core)
-    → out.store ≡ closed_in i.lent.raw.number old.out.store
+    → out.store ≡ closed_in i.lent.raw.depth old.out.store
     → ReapsOne old (record old { core = core; out = out }) m true
 reaps-one old core out i m m' same sound answer becomes makes closed =
     let told = answered_some (core_passes old.core) old.core.options m old.core.idle i (answer ∙ ap (λ (k : ℕ). reap_answer (core_passes old.core) old.core.options k old.core.idle) same) in
@@ -124,7 +124,7 @@ reaps-one old core out i m m' same sound answer becomes makes closed =
           tickets = ap (λ (c : Core Link). c.tickets) becomes;
           next = ap (λ (c : Core Link). c.next_ticket) becomes;
           links = subst (λ (s : Store). LinksStand core s old.lent.items (leaves i.lent.id ∷ past)) (sym closed)
-              (links-same (record old.core { idle = without_idle i.lent.id old.core.idle }) core (closed_in i.lent.raw.number old.out.store) old.lent.items (leaves i.lent.id ∷ past)
+              (links-same (record old.core { idle = without_idle i.lent.id old.core.idle }) core (closed_in i.lent.raw.depth old.out.store) old.lent.items (leaves i.lent.id ∷ past)
               (links-unrest old.core old.out.store old.lent.items past i at.links found one here.unowned)
               (ap (λ (c : Core Link). c.held) becomes) left (ap (λ (c : Core Link). c.next_conn) becomes));
         };

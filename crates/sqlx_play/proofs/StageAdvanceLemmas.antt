@@ -2,7 +2,7 @@
 use Rattle.std.proofs.Common.{◌≡◌, ℕ, ◌≤◌, List, [], ◌∷◌, ◌++◌, All, refl, sym, subst, ◌∙◌}
 use Rattle.sqlx_log.specs.declared.mark.Mark.{Mark}
 use Rattle.sqlx_pool_core.specs.Makes.{Makes}
-use Rattle.sqlx_pool_core.proofs.Fair.{makes-none}
+use Rattle.sqlx_pool_core.proofs.Fair.{makes-nothing}
 use Rattle.sqlx_pool_core.proofs.Fair.{makes-then}
 use Rattle.sqlx_script.specs.declared.pool_line.PoolLine.{PoolLine}
 use Rattle.sqlx_script.specs.declared.step.Event.{Event}
@@ -47,7 +47,7 @@ comes-then old mid new marks one two past past' a b = record {
 pub comes-nowhere : (stage : Stage) (marks : List Mark) (past : History) → IsAt stage marks past → StageAdvance stage stage marks [] past
 comes-nowhere stage marks past at = record {
   pool = refl;
-  makes = makes-none stage.core.options.max_connections marks stage.core at.stands;
+  makes = makes-nothing stage.core.options.max_connections marks stage.core at.stands;
   options = refl;
   places = at.places;
   tickets = refl;

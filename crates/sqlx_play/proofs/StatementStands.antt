@@ -9,9 +9,9 @@ use Rattle.sqlx_log.specs.Marks.{owner_of}
 use Rattle.sqlx_pool_core.specs.Sound.{IsSound, holds}
 use Rattle.sqlx_pool_core.specs.StandsFor.{StandsFor}
 use Rattle.sqlx_pool_core.specs.Makes.{Makes}
-use Rattle.sqlx_pool_core.proofs.Fair.{makes-none}
+use Rattle.sqlx_pool_core.proofs.Fair.{makes-nothing}
 use Rattle.sqlx_log.proofs.ListFacts.{count_by-map}
-use Rattle.mem_store.specs.Store.{Store, Link, Session}
+use Rattle.mem_store.specs.Store.{others_in_level, Store, Link, Session}
 use Rattle.sqlx_script.specs.declared.pool_line.PoolLine.{PoolLine}
 use Rattle.sqlx_script.specs.declared.step.Event.{Event}
 use Rattle.sqlx_script.specs.declared.step.Step.{Step}
@@ -19,7 +19,7 @@ use Rattle.sqlx_script.specs.declared.step.Step.TheVariants as step
 use Rattle.sqlx_script.specs.declared.reply.Reply.{Reply}
 use Rattle.sqlx_brackets.specs.Changes.{History}
 use Rattle.sqlx_brackets.specs.Brackets.{depth}
-use Rattle.sqlx_brackets.specs.Links.{linked_after}
+use Rattle.sqlx_brackets.specs.Links.{Link as BracketLink, linked_after}
 use Rattle.sqlx_brackets.specs.Events.{reply_of, change_by, not_held}
 use Rattle.sqlx_brackets.specs.Events as bracket
 use Rattle.sqlx_brackets.proofs.Answering.{asked_fine}
@@ -115,7 +115,7 @@ moves old new pairs event r x s e core pool links =
     let tries : (t : ℕ) → tries_of t (pairs ++ pair ∷ []) ≡ tries_of t pairs = λ t. tries_of-push t pairs pair ∙ tried_none t (tries_of t pairs) event.moment.0 event.step r x e in
     stage-after old new pairs pair s (record {
       pool = pool;
-      makes = subst (λ (l : List Mark). Makes old.core.options.max_connections marks l new.core) (sym none) (makes-none old.core.options.max_connections marks new.core (subst (λ (c : Core Link). StandsFor c marks) (sym core) s.stands));
+      makes = subst (λ (l : List Mark). Makes old.core.options.max_connections marks l new.core) (sym none) (makes-nothing old.core.options.max_connections marks new.core (subst (λ (c : Core Link). StandsFor c marks) (sym core) s.stands));
       options = ap (λ (c : Core Link). c.options) core;
       places = ap (λ (c : Core Link). c.places) core ∙ s.places;
       tried = All-same (IsTried (pairs ++ pair ∷ [])) new.core.tickets old.core.tickets (ap (λ (c : Core Link). c.tickets) core) (tried-same pairs pair old.core.tickets tries s.tried);
@@ -157,9 +157,9 @@ runs_not old new pairs event st r s sound e core pool ran =
 -- ---- a connection that the client owns
 
 work_is : (past : History) (c : ℕ) (store : Store) (link : Link) (st : Statement) → store.rows ≡ (linked_after past).rows → IsLinkOf (linked_after past) c link
-    → at_work store link st ≡ session_at past c link.number store.places store.given store.runs (answer_for st.answer)
+    → at_work store link st ≡ session_at past c link.number store.open_links store.given store.runs (answer_for st.answer)
 work_is past c store link st rows side = λ i. record {
-  store = record { rows = rows i; places = store.places; given = store.given; runs = store.runs };
+  store = record { rows = rows i; open_links = store.open_links; given = store.given; runs = store.runs };
   link = record { number = link.number; depth = (side i).depth; own = (side i).own; entries = (side i).entries };
   answer = answer_for st.answer;
 }
@@ -175,11 +175,12 @@ runs_on old new pairs event st r s sound e met core pool ran =
     let said' : bracket.Reply = reply_of a true (met_of st.answer) past in
     let links : LinksStand old.core old.out.store (ran.before ++ own ∷ ran.after) past = subst (λ (l : List (Lent Link)). LinksStand old.core old.out.store l past) ran.lent s.links in
     let owned : owns st.client (owner_of st.connection marks) ≡ true = sym (owner-alike old.core sound marks st.client st.connection s.stands) ∙ ran.owned in
-    let work : at_work old.out.store own.raw st ≡ session_at past own.id own.raw.number old.out.store.places old.out.store.given old.out.store.runs (answer_for st.answer) =
+    let work : at_work old.out.store own.raw st ≡ session_at past own.id own.raw.number old.out.store.open_links old.out.store.given old.out.store.runs (answer_for st.answer) =
     work_is past own.id old.out.store own.raw st links.rows (All-mid (λ (x : Lent Link). IsLinkOf (linked_after past) x.id x.raw) ran.before own ran.after links.lent_links) in
     let alike : AlikeAt a past own.id (at_work old.out.store own.raw st) said' (reply_on st.act (at_work old.out.store own.raw st)) (left_at old.out.store own.raw st) =
     subst (λ (x : Session). AlikeAt a past own.id x said' (reply_on st.act x) (left_by st.act x)) (sym work)
-    (acts-alike past links.accepted own.id own.raw.number old.out.store.places old.out.store.given old.out.store.runs st.act st.answer met (busy-alike old.core sound old.out.store ran.before own ran.after past links)) in
+    (acts-alike past links.accepted own.id own.raw.number old.out.store.open_links old.out.store.given old.out.store.runs st.act st.answer met
+    (ap (λ (k : BracketLink). others_in_level k.depth old.out.store.open_links) (sym (All-mid (λ (x : Lent Link). IsLinkOf (linked_after past) x.id x.raw) ran.before own ran.after links.lent_links)) ∙ busy-alike old.core sound old.out.store ran.before own ran.after past links)) in
     let told : r ≡ written_reply a (depth own.id past) said' = ran.told ∙ alike.0 in
     let left : LinksStand old.core (left_at old.out.store own.raw st).store (ran.before ++ record own { raw = (left_at old.out.store own.raw st).link } ∷ ran.after) (change_by a said' past) =
     links-left old.core sound old.out.store ran.before own ran.after past (change_by a said' past) links (answer_for st.answer) (left_at old.out.store own.raw st) (asked_fine a true (met_of st.answer) past links.accepted) alike.1 in

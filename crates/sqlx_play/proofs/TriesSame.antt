@@ -14,7 +14,7 @@ use Rattle.sqlx_rules.specs.Pairs.{Pairs}
 tried_alike_at : (one two : Pairs) (x : Ticket) (p : Phase) → tries_of x.number two ≡ tries_of x.number one → IsTriedAt one x p → IsTriedAt two x p
 tried_alike_at one two x phase.Waiting e h = e ∙ h
 tried_alike_at one two x (phase.Backoff until) e h = (h.0, h.1, e ∙ h.2)
-tried_alike_at one two x (phase.Testing c created) e h = h
+tried_alike_at one two x (phase.Testing c created before) e h = h
 tried_alike_at one two x phase.Connecting e h = h
 
 pub tried-alike : (one two : Pairs) (x : Ticket) → tries_of x.number two ≡ tries_of x.number one → IsTried one x → IsTried two x

@@ -1,5 +1,5 @@
 -- What a connect that a poll makes comes to, by the reply to it.
-use Rattle.std.specs.Prelude.{ℕ, false, List, [], ◌∷◌, ◌++◌}
+use Rattle.std.specs.Prelude.{ℕ, List, [], ◌∷◌}
 use Rattle.sqlx_text.specs.declared.Moment.{Moment}
 use Rattle.sqlx_log.specs.declared.mark.Mark.{Mark}
 use Rattle.sqlx_log.specs.declared.mark.Mark.TheVariants as mark
@@ -9,7 +9,7 @@ use Rattle.sqlx_pool_core.specs.Edits.{with_ticket, to_back_off, at_moment, ende
 use Rattle.sqlx_pool_core.specs.PollSteps.{wait_of}
 use Rattle.sqlx_script.specs.declared.reply.Reply.{Reply}
 use Rattle.sqlx_script.specs.declared.reply.Reply.TheVariants as reply
-use Rattle.mem_store.specs.Store.{Store, connected, without}
+use Rattle.mem_store.specs.Store.{Store, connected, closed_at}
 
 -- the marks: a new connection is lent, or the ticket ends, or nothing is marked
 abbrev pub connect_marks : ℕ → ℕ → ℕ → Reply → List Mark
@@ -32,4 +32,4 @@ after_connect client ticket moment other core = core
 
 -- the store after a connection was opened and closed again
 abbrev pub rejected : ℕ → Store → Store
-rejected number store = record (connected number store) { places = without number (store.places ++ record { number = number; in_level = false } ∷ []) }
+rejected number store = closed_at 0 (connected number store)

@@ -3,6 +3,8 @@ pub mod Status
 pub mod Memory
 pub mod Standard
 pub mod ScriptOutside
+pub mod ScriptCalls
+pub mod PolledReply
 pub mod LinksStand
 pub mod LentLinks
 pub mod StageStands

@@ -1,11 +1,10 @@
 -- When the links and the store of a stage are what the transactions of a script come to.
-use Rattle.std.specs.Prelude.{◌≡◌, ℕ, ◌+◌, ◌≤◌, ◌==◌, ◌&&◌, not, nat_lt, Bool, false, List, map, count_by, All}
+use Rattle.std.specs.Prelude.{◌≡◌, ℕ, ◌≤◌, ◌==◌, nat_lt, Bool, false, List, map, count_by, All}
 use Rattle.std.specs.List.{list_any}
 use Rattle.sqlx_pool_core.specs.declared.steps.Lent.{Lent}
 use Rattle.sqlx_pool_core.specs.declared.steps.Idle.{Idle}
 use Rattle.sqlx_pool_core.specs.declared.ticket.Held.{Held}
 use Rattle.sqlx_pool_core.specs.Core.{Core}
-use Rattle.mem_store.specs.declared.place.Place.{Place}
 use Rattle.mem_store.specs.Store.{Store, Link}
 use Rattle.sqlx_brackets.specs.Changes.{History}
 use Rattle.sqlx_brackets.specs.Links.{Linked, linked_after, new_link}
@@ -31,35 +30,11 @@ pub record IsRestingLink (linked : Linked) (c : ℕ) (link : Link) : Type 0 wher
 abbrev pub is_in_level : Link → Bool
 is_in_level link = nat_lt 0 link.depth
 
--- a lent link other than that of this number has an open level
-abbrev pub is_another_in_level : ℕ → Lent Link → Bool
-is_another_in_level number l = not (l.raw.number == number) && is_in_level l.raw
+-- a level is open on the lent link
+abbrev pub is_lent_in_level : Lent Link → Bool
+is_lent_in_level l = is_in_level l.raw
 
--- the lent link has this number
-abbrev pub has_number : ℕ → Lent Link → Bool
-has_number number l = l.raw.number == number
-
--- the idle connection's link has this number
-abbrev pub rests_with_number : ℕ → Idle Link → Bool
-rests_with_number number i = i.lent.raw.number == number
-
--- how many connections have the link of this number
-abbrev pub links_of : ℕ → List (Lent Link) → List (Idle Link) → ℕ
-links_of number lent idle = count_by (has_number number) lent + count_by (rests_with_number number) idle
-
--- the place is that of the link of this number
-abbrev pub is_place_of : ℕ → Place → Bool
-is_place_of number p = p.number == number
-
--- the place of this number has an open level
-abbrev pub is_place_in_level : ℕ → Place → Bool
-is_place_in_level number p = is_place_of number p && p.in_level
-
--- the lent link of this number has an open level
-abbrev pub has_number_in_level : ℕ → Lent Link → Bool
-has_number_in_level number l = has_number number l && is_in_level l.raw
-
--- The committed rows are those of the history, each client's connection and each idle one has its link, no link is shared, and the store knows its links and which of them have an open level.
+-- The committed rows are those of the history, each client's connection and each idle one has its link, and the store knows how many links have an open level, all of them lent.
 pub record LinksStand (core : Core Link) (store : Store) (lent : List (Lent Link)) (history : History) : Type 0 where
   pub accepted : AreAccepted history
   pub rows : store.rows ≡ (linked_after history).rows
@@ -68,7 +43,4 @@ pub record LinksStand (core : Core Link) (store : Store) (lent : List (Lent Link
   pub idle_links : All (λ (i : Idle Link). IsRestingLink (linked_after history) i.lent.id i.lent.raw) core.idle
   pub unopened : (c : ℕ) → core.next_conn ≤ c → (linked_after history).link c ≡ new_link
   pub unlent : (c : ℕ) → list_any (λ (l : Lent Link). c == l.id) lent ≡ false → ((linked_after history).link c).depth ≡ 0
-  pub once : (number : ℕ) → links_of number lent core.idle ≤ 1
-  pub given : (number : ℕ) → store.given + 1 ≤ number → links_of number lent core.idle ≡ 0
-  pub places : (number : ℕ) → count_by (is_place_of number) store.places ≡ links_of number lent core.idle
-  pub levels : (number : ℕ) → list_any (is_place_in_level number) store.places ≡ list_any (has_number_in_level number) lent
+  pub open_links : store.open_links ≡ count_by is_lent_in_level lent

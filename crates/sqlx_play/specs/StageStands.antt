@@ -24,12 +24,13 @@ pub record IsSetUp (pool : PoolLine) (options : PoolOptions) : Type 0 where
   pub after_connect : options.after_connect ≡ pool.after_connect
   pub before_acquire : options.before_acquire ≡ pool.before_acquire
   pub after_release : options.after_release ≡ pool.after_release
+  pub tries : options.idle_tries ≡ 1
 
 -- the tries of a ticket in this phase: none in the line, and in backoff those that brought it there; between two events no step is under way
 abbrev pub IsTriedAt : Pairs → Ticket → Phase → Type 0
 IsTriedAt pairs x phase.Waiting = tries_of x.number pairs ≡ None
 IsTriedAt pairs x (phase.Backoff until) = (wait : ℕ) × (x.last_wait ≡ Some wait) × (tries_of x.number pairs ≡ Some (record { first = x.first_try.0; wait = wait; until = until }))
-IsTriedAt pairs x (phase.Testing c created) = ⊥
+IsTriedAt pairs x (phase.Testing c created before) = ⊥
 IsTriedAt pairs x phase.Connecting = ⊥
 
 -- the tries of a ticket are those that its phase tells

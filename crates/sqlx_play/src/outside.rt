@@ -1,45 +1,19 @@
 //! The outside of the pool on which a script is played: the database in memory, and the letters of the present line,
 //! which are the answers of connects, pings and hooks.
-ghost use Rattle.std.specs.Prelude.{◌≡◌, ℕ, ◌≤◌, ◌+◌, ◌-◌, ◌==◌, ◌⊎◌, Bool, true, false, List, Some, None, IfOk, IfErr, OnOk, OnErr, IfSome, option_map, is_ok};
-ghost use Rattle.sqlx_pool_core.specs.Outside.{HasRisen, Told, IsFirst, IsFirstIfAny, RefusedForGood, refusal, reach_of, says_yes, says_ok, connected_once, pinged_once, set_up_once, tested_once, released_once};
+ghost use Rattle.std.specs.Prelude.{◌≡◌, ℕ, ◌≤◌, ◌-◌, ◌==◌, true, false, Some, None};
+ghost use Rattle.sqlx_pool_core.specs.Calls as call;
+ghost use Rattle.sqlx_pool_core.specs.Calls.{IsCounted};
+ghost use Rattle.sqlx_pool_core.specs.Outside.{HasRisen, declines, is_transient, says_yes};
 ghost use Rattle.sqlx_script.specs.Built.{accepts, sets_up};
-ghost use Rattle.mem_store.specs.Store.{Link, connected, new_link, without};
-ghost use Rattle.sqlx_play.specs.ScriptOutside.{Opens, depth_of, give_letters, is_left_open, next_connect, poll_letters, reach_by, refused_by, told_by_give, told_by_minimum, told_by_poll, told_of};
+ghost use Rattle.mem_store.specs.Store.{Link};
+ghost use Rattle.sqlx_play.specs.ScriptCalls.{Does, does-facts};
+ghost use Rattle.sqlx_play.specs.ScriptOutside.{depth_of, give_letters, is_left_open, next_connect, poll_letters, refused_by};
 
 use mem_store::{MemStore, StoreLink};
 use sqlx_pool_core::{Outside, PoolConnectionMetadata};
 use sqlx_script::{AfterConnectAnswer, ConnectAnswer, GiveAnswers, HookAnswer, PollAnswers};
 use sqlx_text::{DatabaseFault, Error, ErrorKind, IoFault, UStr};
 use std::alloc::Global;
-
-/// A letter of the present line, and whether its answer is still to come.
-#[derive(Clone, Copy)]
-pub struct Letter<A> {
-    pub answer: A,
-    pub is_due: bool,
-}
-
-impl<A> Letter<A> {
-    // A letter of the line.
-    fn due(answer: A) -> Letter<A>
-        ensures { result ≡ record { answer = answer; is_due = true } }
-    {
-        Letter {
-            answer,
-            is_due: true,
-        }
-    }
-
-    // A letter that the line doesn't have.
-    fn unsaid(answer: A) -> Letter<A>
-        ensures { result ≡ record { answer = answer; is_due = false } }
-    {
-        Letter {
-            answer,
-            is_due: false,
-        }
-    }
-}
 
 /// The outside of the pool on which a script is played. It answers by the present line, and tells these answers. A
 /// second call of a kind within a line is answered as the first was. Made by [`play`](crate::play) alone.
@@ -48,11 +22,11 @@ pub struct ScriptOutside {
     pub(crate) store: MemStore,
     // So many connects are accepted before `connect` is answered.
     pub(crate) opens: u32,
-    pub(crate) connect: Letter<ConnectAnswer>,
-    pub(crate) ping: Letter<bool>,
-    pub(crate) after_connect: Letter<AfterConnectAnswer>,
-    pub(crate) before_acquire: Letter<HookAnswer>,
-    pub(crate) after_release: Letter<HookAnswer>,
+    pub(crate) connect: ConnectAnswer,
+    pub(crate) ping: bool,
+    pub(crate) after_connect: AfterConnectAnswer,
+    pub(crate) before_acquire: HookAnswer,
+    pub(crate) after_release: HookAnswer,
     // The link on which a hook of this line left a level open.
     pub(crate) left_open: Option<u64>,
     pub(crate) faults: u64,
@@ -67,7 +41,7 @@ fn hook_fault() -> Error {
 // What the database says of a connect that it refuses for good.
 fn refused_for_good() -> Error
     ensures refused { refused_by result ≡ Some ConnectAnswer.ConnectDatabase }
-    ensures reach { refusal result ≡ Some RefusedForGood }
+    ensures passing { is_transient result ≡ false }
 {
     Error::Database(DatabaseFault {
         message: UStr::from_static("refused"),
@@ -100,11 +74,11 @@ impl ScriptOutside {
         ScriptOutside {
             store,
             opens: 0,
-            connect: Letter::unsaid(ConnectAnswer::ConnectIo),
-            ping: Letter::unsaid(true),
-            after_connect: Letter::unsaid(AfterConnectAnswer::SetUp),
-            before_acquire: Letter::unsaid(HookAnswer::Accepts),
-            after_release: Letter::unsaid(HookAnswer::Accepts),
+            connect: ConnectAnswer::ConnectIo,
+            ping: true,
+            after_connect: AfterConnectAnswer::SetUp,
+            before_acquire: HookAnswer::Accepts,
+            after_release: HookAnswer::Accepts,
             left_open: None,
             faults: 0,
             refusals: 0,
@@ -122,17 +96,16 @@ impl ScriptOutside {
     pub fn begin_poll(&mut self, answers: PollAnswers)
         ensures store { self.new.store ≡ self.old.store }
         ensures letters { poll_letters self.new ≡ answers }
-        ensures told { told_of self.new ≡ told_by_poll answers }
         ensures opens { self.new.opens ≡ 0 }
         ensures left { self.new.left_open ≡ None }
         ensures counts { (self.new.faults ≡ self.old.faults) × (self.new.refusals ≡ self.old.refusals) }
     {
         self.opens = 0;
-        self.connect = Letter::due(answers.connect);
-        self.ping = Letter::due(answers.ping);
-        self.after_connect = Letter::due(answers.after_connect);
-        self.before_acquire = Letter::due(answers.before_acquire);
-        self.after_release = Letter::unsaid(HookAnswer::Accepts);
+        self.connect = answers.connect;
+        self.ping = answers.ping;
+        self.after_connect = answers.after_connect;
+        self.before_acquire = answers.before_acquire;
+        self.after_release = HookAnswer::Accepts;
         self.left_open = None;
     }
 
@@ -140,16 +113,15 @@ impl ScriptOutside {
     pub fn begin_give(&mut self, answers: GiveAnswers)
         ensures store { self.new.store ≡ self.old.store }
         ensures letters { give_letters self.new ≡ answers }
-        ensures told { told_of self.new ≡ told_by_give answers }
         ensures left { self.new.left_open ≡ None }
         ensures counts { (self.new.faults ≡ self.old.faults) × (self.new.refusals ≡ self.old.refusals) }
     {
         self.opens = 0;
-        self.connect = Letter::unsaid(ConnectAnswer::ConnectIo);
-        self.ping = Letter::due(answers.ping);
-        self.after_connect = Letter::unsaid(AfterConnectAnswer::SetUp);
-        self.before_acquire = Letter::unsaid(HookAnswer::Accepts);
-        self.after_release = Letter::due(answers.after_release);
+        self.connect = ConnectAnswer::ConnectIo;
+        self.ping = answers.ping;
+        self.after_connect = AfterConnectAnswer::SetUp;
+        self.before_acquire = HookAnswer::Accepts;
+        self.after_release = answers.after_release;
         self.left_open = None;
     }
 
@@ -157,17 +129,17 @@ impl ScriptOutside {
     pub fn begin_minimum(&mut self, opens: u32)
         ensures store { self.new.store ≡ self.old.store }
         ensures opens { self.new.opens ≡ opens }
-        ensures sets_up { sets_up self.new.after_connect.answer ≡ true }
-        ensures told { told_of self.new ≡ told_by_minimum opens }
+        ensures sets_up { sets_up self.new.after_connect ≡ true }
+        ensures refuses { self.new.connect ≡ ConnectAnswer.ConnectIo }
         ensures left { self.new.left_open ≡ None }
         ensures counts { (self.new.faults ≡ self.old.faults) × (self.new.refusals ≡ self.old.refusals) }
     {
         self.opens = opens;
-        self.connect = Letter::due(ConnectAnswer::ConnectIo);
-        self.ping = Letter::unsaid(true);
-        self.after_connect = Letter::unsaid(AfterConnectAnswer::SetUp);
-        self.before_acquire = Letter::unsaid(HookAnswer::Accepts);
-        self.after_release = Letter::unsaid(HookAnswer::Accepts);
+        self.connect = ConnectAnswer::ConnectIo;
+        self.ping = true;
+        self.after_connect = AfterConnectAnswer::SetUp;
+        self.before_acquire = HookAnswer::Accepts;
+        self.after_release = HookAnswer::Accepts;
         self.left_open = None;
     }
 
@@ -192,25 +164,21 @@ impl ScriptOutside {
     // The answer of the next connect.
     fn take_connect(&mut self) -> ConnectAnswer
         ensures answer { result ≡ next_connect self.old }
-        ensures becomes { self.new ≡ record self.old { opens = self.new.opens; connect = self.new.connect } }
+        ensures becomes { self.new ≡ record self.old { opens = self.new.opens } }
         ensures opens { self.new.opens ≡ self.old.opens - 1 }
-        ensures letter { self.new.connect.answer ≡ self.old.connect.answer }
-        ensures told { told_of self.new ≡ connected_once (told_of self.old) }
-        ensures first { IsFirst (told_of self.old).connects (reach_by result) }
+        ensures letter { self.new.connect ≡ self.old.connect }
     {
         if self.opens > 0 {
             self.opens -= 1;
             return ConnectAnswer::Connected;
         }
-        self.connect.is_due = false;
-        self.connect.answer
+        self.connect
     }
 
     // No hook left a level open on the link of this number, which is new.
     fn forget(&mut self, number: u64)
         ensures becomes { self.new ≡ record self.old { left_open = self.new.left_open } }
         ensures own { is_left_open self.new.left_open number ≡ false }
-        ensures others { (other : ℕ) → (number == other) ≡ false → is_left_open self.new.left_open other ≡ is_left_open self.old.left_open other }
     {
         if self.left_open == Some(number) {
             self.left_open = None;
@@ -222,7 +190,6 @@ impl ScriptOutside {
         ensures becomes { self.new ≡ record self.old { left_open = self.new.left_open } }
         ensures own { result ≡ true → is_left_open self.new.left_open number ≡ true }
         ensures not_left { result ≡ false → is_left_open self.new.left_open number ≡ is_left_open self.old.left_open number }
-        ensures others { (other : ℕ) → (number == other) ≡ false → is_left_open self.new.left_open other ≡ is_left_open self.old.left_open other }
     {
         match self.left_open {
             None => {
@@ -236,10 +203,9 @@ impl ScriptOutside {
     // The answer of a hook that can say no.
     fn ask_hook(&mut self, answer: HookAnswer, conn: &StoreLink) -> Result<bool, Error>
         ensures becomes { self.new ≡ record self.old { left_open = self.new.left_open; refusals = self.new.refusals } }
-        ensures others { (other : Link) → (conn.now.number == other.number) ≡ false → depth_of self.new other ≡ depth_of self.old other }
         ensures answered { depth_of self.old conn.now ≡ 0 → says_yes result (depth_of self.new conn.now) ≡ accepts answer }
         ensures deeper { depth_of self.old conn.now ≤ depth_of self.new conn.now }
-        ensures cause { accepts answer ≡ false → HasRisen self.old.refusals self.new.refusals }
+        ensures counted { IsCounted (declines result) (depth_of self.old conn.now) (depth_of self.new conn.now) self.old.refusals self.new.refusals }
         ensures refusals { self.old.refusals ≤ self.new.refusals }
     {
         match answer {
@@ -271,23 +237,10 @@ impl Outside<StoreLink, ()> for ScriptOutside {
 
     ghost depth = { depth_of };
 
-    ghost alike = { λ _ a b. a.number == b.number };
-
-    ghost told = { λ out. Some (told_of out) };
+    ghost does = { Does };
 
     fn connect(&mut self, alloc: Global, _options: &()) -> Result<StoreLink, Error>
-        ensures new { IfOk result (λ conn. depth_of self.new conn ≡ 0) }
-        ensures others { (other : Link) → IfOk result (λ conn. (conn.number == other.number) ≡ false) → depth_of self.new other ≡ depth_of self.old other }
-        ensures cause { IfErr result (λ e. (e ≡ Error.OutOfMemory) ⊎ HasRisen self.old.faults self.new.faults) }
-        ensures faults { self.old.faults ≤ self.new.faults }
-        ensures refusals { self.old.refusals ≤ self.new.refusals }
-        ensures answer { IfSome (Some (told_of self.old)) (λ t. IsFirstIfAny t.connects (reach_of result)) }
-        ensures told { Some (told_of self.new) ≡ option_map connected_once (Some (told_of self.old)) }
-        ensures opened { Opens (next_connect self.old) (new_link (self.old.store.given + 1)) result }
-        ensures store { OnOk result (self.new.store ≡ connected (self.old.store.given + 1) self.old.store) }
-        ensures unopened { OnErr result (self.new.store ≡ self.old.store) }
-        ensures letters { poll_letters self.new ≡ poll_letters self.old }
-        ensures opens { self.new.opens ≡ self.old.opens - 1 }
+        ensures { Does (call.connect _options.now result) self.old self.new }
     {
         match self.take_connect() {
             ConnectAnswer::Connected => match self.store.connect(alloc) {
@@ -313,22 +266,9 @@ impl Outside<StoreLink, ()> for ScriptOutside {
     }
 
     fn ping(&mut self, conn: &mut StoreLink) -> Result<(), Error>
-        ensures depth { depth_of self.new conn.new ≡ depth_of self.old conn.old }
-        ensures others { (other : Link) → (conn.old.number == other.number) ≡ false → depth_of self.new other ≡ depth_of self.old other }
-        ensures cause { IfErr result (λ _. HasRisen self.old.faults self.new.faults) }
-        ensures faults { self.old.faults ≤ self.new.faults }
-        ensures refusals { self.old.refusals ≤ self.new.refusals }
-        ensures answer { IfSome (Some (told_of self.old)) (λ t. IsFirst t.pings (is_ok result)) }
-        ensures told { Some (told_of self.new) ≡ option_map pinged_once (Some (told_of self.old)) }
-        ensures answered { is_ok result ≡ self.old.ping.answer }
-        ensures conn { conn.new ≡ conn.old }
-        ensures store { self.new.store ≡ self.old.store }
-        ensures left { self.new.left_open ≡ self.old.left_open }
-        ensures letters { poll_letters self.new ≡ poll_letters self.old }
-        ensures opens { self.new.opens ≡ self.old.opens }
+        ensures { Does (call.ping conn.old result conn.new) self.old self.new }
     {
-        self.ping.is_due = false;
-        if self.ping.answer {
+        if self.ping {
             return Ok(());
         }
         self.count_fault();
@@ -340,20 +280,9 @@ impl Outside<StoreLink, ()> for ScriptOutside {
         conn: &mut StoreLink,
         _meta: PoolConnectionMetadata,
     ) -> Result<(), Error>
-        ensures others { (other : Link) → (conn.old.number == other.number) ≡ false → depth_of self.new other ≡ depth_of self.old other }
-        ensures cause { depth_of self.old conn.old ≡ 0 → says_ok result (depth_of self.new conn.new) ≡ false → HasRisen self.old.refusals self.new.refusals }
-        ensures faults { self.old.faults ≤ self.new.faults }
-        ensures refusals { self.old.refusals ≤ self.new.refusals }
-        ensures answer { IfSome (Some (told_of self.old)) (λ t. depth_of self.old conn.old ≡ 0 → IsFirst t.after_connects (says_ok result (depth_of self.new conn.new))) }
-        ensures told { Some (told_of self.new) ≡ option_map set_up_once (Some (told_of self.old)) }
-        ensures answered { depth_of self.old conn.old ≡ 0 → says_ok result (depth_of self.new conn.new) ≡ sets_up self.old.after_connect.answer }
-        ensures conn { conn.new ≡ conn.old }
-        ensures store { self.new.store ≡ self.old.store }
-        ensures letters { poll_letters self.new ≡ poll_letters self.old }
-        ensures opens { self.new.opens ≡ self.old.opens }
+        ensures { Does (call.after_connect conn.old _meta result conn.new) self.old self.new }
     {
-        self.after_connect.is_due = false;
-        match self.after_connect.answer {
+        match self.after_connect {
             AfterConnectAnswer::SetUp => Ok(()),
             AfterConnectAnswer::SetUpFails => {
                 self.count_refusal();
@@ -375,20 +304,9 @@ impl Outside<StoreLink, ()> for ScriptOutside {
         conn: &mut StoreLink,
         _meta: PoolConnectionMetadata,
     ) -> Result<bool, Error>
-        ensures others { (other : Link) → (conn.old.number == other.number) ≡ false → depth_of self.new other ≡ depth_of self.old other }
-        ensures cause { depth_of self.old conn.old ≡ 0 → says_yes result (depth_of self.new conn.new) ≡ false → HasRisen self.old.refusals self.new.refusals }
-        ensures faults { self.old.faults ≤ self.new.faults }
-        ensures refusals { self.old.refusals ≤ self.new.refusals }
-        ensures answer { IfSome (Some (told_of self.old)) (λ t. depth_of self.old conn.old ≡ 0 → IsFirst t.before_acquires (says_yes result (depth_of self.new conn.new))) }
-        ensures told { Some (told_of self.new) ≡ option_map tested_once (Some (told_of self.old)) }
-        ensures answered { depth_of self.old conn.old ≡ 0 → says_yes result (depth_of self.new conn.new) ≡ accepts self.old.before_acquire.answer }
-        ensures conn { conn.new ≡ conn.old }
-        ensures store { self.new.store ≡ self.old.store }
-        ensures letters { poll_letters self.new ≡ poll_letters self.old }
-        ensures opens { self.new.opens ≡ self.old.opens }
+        ensures { Does (call.before_acquire conn.old _meta result conn.new) self.old self.new }
     {
-        self.before_acquire.is_due = false;
-        self.ask_hook(self.before_acquire.answer, conn)
+        self.ask_hook(self.before_acquire, conn)
     }
 
     fn after_release(
@@ -396,20 +314,9 @@ impl Outside<StoreLink, ()> for ScriptOutside {
         conn: &mut StoreLink,
         _meta: PoolConnectionMetadata,
     ) -> Result<bool, Error>
-        ensures others { (other : Link) → (conn.old.number == other.number) ≡ false → depth_of self.new other ≡ depth_of self.old other }
-        ensures cause { depth_of self.old conn.old ≡ 0 → says_yes result (depth_of self.new conn.new) ≡ false → HasRisen self.old.refusals self.new.refusals }
-        ensures faults { self.old.faults ≤ self.new.faults }
-        ensures refusals { self.old.refusals ≤ self.new.refusals }
-        ensures answer { IfSome (Some (told_of self.old)) (λ t. depth_of self.old conn.old ≡ 0 → IsFirst t.after_releases (says_yes result (depth_of self.new conn.new))) }
-        ensures told { Some (told_of self.new) ≡ option_map released_once (Some (told_of self.old)) }
-        ensures answered { depth_of self.old conn.old ≡ 0 → says_yes result (depth_of self.new conn.new) ≡ accepts self.old.after_release.answer }
-        ensures deeper { depth_of self.old conn.old ≤ depth_of self.new conn.new }
-        ensures conn { conn.new ≡ conn.old }
-        ensures store { self.new.store ≡ self.old.store }
-        ensures letters { give_letters self.new ≡ give_letters self.old }
+        ensures { Does (call.after_release conn.old _meta result conn.new) self.old self.new }
     {
-        self.after_release.is_due = false;
-        self.ask_hook(self.after_release.answer, conn)
+        self.ask_hook(self.after_release, conn)
     }
 
     fn depth(&self, conn: &StoreLink) -> usize
@@ -423,27 +330,18 @@ impl Outside<StoreLink, ()> for ScriptOutside {
     }
 
     fn close(&mut self, conn: StoreLink)
-        ensures others { (other : Link) → (conn.number == other.number) ≡ false → depth_of self.new other ≡ depth_of self.old other }
-        ensures faults { self.old.faults ≤ self.new.faults }
-        ensures refusals { self.old.refusals ≤ self.new.refusals }
-        ensures told { Some (told_of self.new) ≡ Some (told_of self.old) }
-        ensures store { self.new.store ≡ record self.old.store { places = without conn.number self.old.store.places } }
-        ensures letters { poll_letters self.new ≡ poll_letters self.old }
-        ensures opens { self.new.opens ≡ self.old.opens }
+        ensures { Does (call.close conn) self.old self.new }
     {
         self.forget(conn.number());
         self.store.close(conn);
     }
 
     fn close_hard(&mut self, conn: StoreLink)
-        ensures others { (other : Link) → (conn.number == other.number) ≡ false → depth_of self.new other ≡ depth_of self.old other }
-        ensures faults { self.old.faults ≤ self.new.faults }
-        ensures refusals { self.old.refusals ≤ self.new.refusals }
-        ensures told { Some (told_of self.new) ≡ Some (told_of self.old) }
-        ensures store { self.new.store ≡ record self.old.store { places = without conn.number self.old.store.places } }
-        ensures letters { poll_letters self.new ≡ poll_letters self.old }
-        ensures opens { self.new.opens ≡ self.old.opens }
+        ensures { Does (call.close_hard conn) self.old self.new }
     {
-        self.close(conn);
+        self.forget(conn.number());
+        self.store.close(conn);
     }
+
+    ghost facts = { does-facts };
 }

@@ -22,7 +22,6 @@ mod lent;
 mod min;
 mod poll;
 mod reap;
-mod set_up;
 mod statements;
 mod try_acquire;
 

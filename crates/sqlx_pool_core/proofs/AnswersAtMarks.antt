@@ -24,7 +24,7 @@ use Rattle.sqlx_pool_core.specs.Answers.{is_busy, lent_conn, is_kept, is_held}
 use Rattle.sqlx_pool_core.specs.ReturnSteps.{give_answer}
 use Rattle.sqlx_pool_core.proofs.KeepingAtMarks.{passes-at}
 use Rattle.sqlx_pool_core.proofs.Known.{loan-found}
-use Rattle.sqlx_pool_core.proofs.Stands.{IsHeldBorn}
+use Rattle.sqlx_pool_core.proofs.Stands.{IsHeldBorn, stands-in}
 use Rattle.sqlx_pool_core.proofs.TurnAtMarks.{idle-stands, owned-stands, size-stands}
 
 -- ---- owners
@@ -63,7 +63,7 @@ cancels-if : (o : Option Phase) → may_cancel o ≡ (is_some o && not (is_busy 
 cancels-if None = refl
 cancels-if (Some phase.Waiting) = refl
 cancels-if (Some (phase.Backoff until)) = refl
-cancels-if (Some (phase.Testing c created)) = refl
+cancels-if (Some (phase.Testing c created before)) = refl
 cancels-if (Some phase.Connecting) = refl
 
 some-map : {X Y : Type 0} (f : X → Y) (o : Option X) → is_some (option_map f o) ≡ is_some o
@@ -72,7 +72,7 @@ some-map f (Some x) = refl
 
 in_line-is : (p : Phase) (x : Ticket) → x.phase ≡ p → is_in_line (Some p) ≡ waits_if (Some (asking x))
 in_line-is phase.Waiting x e = sym (ap (λ (q : Phase). not (is_out q)) e)
-in_line-is (phase.Testing c created) x e = sym (ap (λ (q : Phase). not (is_out q)) e)
+in_line-is (phase.Testing c created before) x e = sym (ap (λ (q : Phase). not (is_out q)) e)
 in_line-is phase.Connecting x e = sym (ap (λ (q : Phase). not (is_out q)) e)
 in_line-is (phase.Backoff until) x e = sym (ap (λ (q : Phase). not (is_out q)) e)
 
@@ -115,16 +115,16 @@ module _ {C : Type 0} (core : Core C) (marks : List Mark) (s : StandsFor core ma
   lends-at = sym (some-map lent_conn (try_lent (may_pass core.shut (waiting core.tickets) (free core)) core.idle)) ∙ ap is_some try-at
 
   pub idle-at : length core.idle ≡ length (idle_of marks)
-  idle-at = idle-stands core marks s
+  idle-at = idle-stands core marks (stands-in core marks s)
 
   pub owned-at : length core.held ≡ length (loans_of marks)
-  owned-at = owned-stands core marks s
+  owned-at = owned-stands core marks (stands-in core marks s)
 
   pub tickets-at : length core.tickets ≡ length (tickets_of marks)
   tickets-at = sym (length_map asking core.tickets) ∙ ap length s.tickets
 
   pub sized-at : size core ≡ size_at core.places marks
-  sized-at = size-stands core marks s
+  sized-at = size-stands core marks (stands-in core marks s)
 
   module _ (sound : IsSound core) (k m : ℕ) (accepted : Bool) (lent : Lent C) where
     born : (h : Held) → loan_of k lent.id core.held ≡ Some h → IsBorn marks lent.id h.created.0

@@ -6,7 +6,7 @@ use Rattle.sqlx_pool_core.specs.declared.ticket.Held.{Held}
 use Rattle.sqlx_pool_core.specs.declared.ticket.Phase.{Phase}
 use Rattle.sqlx_pool_core.specs.declared.ticket.Phase.TheVariants as phase
 use Rattle.sqlx_pool_core.specs.declared.steps.Idle.{Idle}
-use Rattle.sqlx_pool_core.specs.Core.{Core, has_gone, is_out}
+use Rattle.sqlx_pool_core.specs.Core.{Core, has_gone, is_out, free}
 use Rattle.sqlx_pool_core.specs.Sound.{IsSound, IsRising, number_of, tests, holds, rests, places_of, is_tested}
 use Rattle.sqlx_log.proofs.Counting.{one, count-push, count-cons}
 use Rattle.sqlx_pool_core.proofs.Counting.{rising-push}
@@ -22,19 +22,23 @@ sound-asked core x m s waits new few =
     record {
       some = s.some;
       few = s.few;
+      tries = s.tries;
+      few_tries = s.few_tries;
       rising = rw (map-append number_of core.tickets (x ∷ [])) (rising-push 1 (map number_of core.tickets) (core.next_ticket + 1) x.number (subst (λ (k : ℕ). IsRising 1 (map number_of core.tickets) k) (sym new) s.rising) (omega (arith, new)));
       within = let w = s.within in omega (arith, w, g, n);
+      paid = let w = s.paid in omega (arith, w, g, n);
+      owns = s.owns;
+      own = s.own;
       few_tickets = omega (arith, few);
       numbers = s.numbers;
-      few_conns = let w = s.few_conns in omega (arith, w, g, n);
       once = λ c. let e = count-push (tests c) core.tickets x in let k : one (tests c) x ≡ 0 = ap (λ (p : Phase). cond (is_tested c p) 1 0) waits in let w = s.once c in omega (arith, e, k, w);
       opened = λ c h. let e = count-push (tests c) core.tickets x in let k : one (tests c) x ≡ 0 = ap (λ (p : Phase). cond (is_tested c p) 1 0) waits in let w = s.opened c h in omega (arith, e, k, w);
     }
 
 -- the first idle connection is lent
-pub sound-tried : {C : Type 0} (core : Core C) (i : Idle C) (rest : List (Idle C)) (h : Held) (held : List Held) (m : ℕ) → IsSound core → core.idle ≡ i ∷ rest → h.conn ≡ i.lent.id → held ≡ core.held ++ h ∷ []
+pub sound-tried : {C : Type 0} (core : Core C) (i : Idle C) (rest : List (Idle C)) (h : Held) (held : List Held) (m : ℕ) → IsSound core → 0 < free core → core.idle ≡ i ∷ rest → h.conn ≡ i.lent.id → held ≡ core.held ++ h ∷ []
     → IsSound (record core { idle = rest; held = held; last = m })
-sound-tried core i rest h held m s first same put =
+sound-tried core i rest h held m s permit first same put =
     let n : length core.idle ≡ length (i ∷ rest) = ap length first in
     let l : length held ≡ length core.held + 1 = ap length put ∙ length-append core.held (h ∷ []) in
     let place : (c : ℕ) → places_of c core.tickets held rest ≡ places_of c core.tickets core.held core.idle = λ c.
@@ -45,11 +49,15 @@ sound-tried core i rest h held m s first same put =
     record {
       some = s.some;
       few = s.few;
+      tries = s.tries;
+      few_tries = s.few_tries;
       rising = s.rising;
       within = let w = s.within in omega (arith, w, n, l);
+      paid = omega (arith, permit, l);
+      owns = s.owns;
+      own = s.own;
       few_tickets = s.few_tickets;
       numbers = s.numbers;
-      few_conns = s.few_conns;
       once = λ c. let w = s.once c in let p = place c in omega (arith, w, p);
       opened = λ c k. let w = s.opened c k in let p = place c in omega (arith, w, p);
     }

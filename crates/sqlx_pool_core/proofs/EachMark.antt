@@ -14,7 +14,7 @@ use Rattle.sqlx_log.specs.View.{leaving}
 use Rattle.sqlx_pool_core.specs.Core.{Core, asking, loan, resting, is_out}
 use Rattle.sqlx_pool_core.specs.Sound.{holds, rests}
 use Rattle.sqlx_log.specs.Born.{IsBorn}
-use Rattle.sqlx_pool_core.specs.StandsFor.{StandsFor}
+use Rattle.sqlx_pool_core.specs.StandsFor.{StandsIn}
 use Rattle.sqlx_pool_core.specs.Edits.{without_ticket, with_ticket, without_loan, without_idle, is_another_ticket, is_another_loan, is_another_idle, ended, lent_to, unlent, kept as rested_last, took, asked, opened}
 use Rattle.sqlx_log.proofs.ListFacts.{or-false, or-true, same_number, number_comm, filter_none, filter-map, map-push, count_by-cons}
 use Rattle.sqlx_log.proofs.Pushed.{IsBorn-push, IsBorn-opened}
@@ -52,8 +52,8 @@ ticket_left t f (x ∷ xs) h = λ i. one (t == x.number) refl i ∷ ticket_left 
 
 -- ---- tickets
 
-pub stands-asked : {C : Type 0} (core : Core C) (marks : List Mark) (k deadline : ℕ) → StandsFor core marks
-    → StandsFor (asked k deadline core) (marks ++ Asked core.next_ticket k deadline ∷ [])
+pub stands-asked : {C : Type 0} (core : Core C) (marks : List Mark) (k deadline : ℕ) → StandsIn core marks
+    → StandsIn (asked k deadline core) (marks ++ Asked core.next_ticket k deadline ∷ [])
 stands-asked core marks k deadline s =
     let n = Asked core.next_ticket k deadline in
     let x : Ticket = record { number = core.next_ticket; client = k; deadline = deadline; phase = phase.Waiting; first_try = record { 0 = 0 }; last_wait = None } in
@@ -84,8 +84,8 @@ changed_born marks t f (x ∷ xs) h all =
     one true own = h x
     one false own = own
 
-pub stands-left : {C : Type 0} (core : Core C) (marks : List Mark) (t : ℕ) (f : Ticket → Ticket) → Leaves f → ((x : Ticket) → IsTicketBorn marks (f x)) → t < core.next_ticket → StandsFor core marks
-    → StandsFor (record core { tickets = with_ticket t f core.tickets }) (marks ++ Left t ∷ [])
+pub stands-left : {C : Type 0} (core : Core C) (marks : List Mark) (t : ℕ) (f : Ticket → Ticket) → Leaves f → ((x : Ticket) → IsTicketBorn marks (f x)) → t < core.next_ticket → StandsIn core marks
+    → StandsIn (record core { tickets = with_ticket t f core.tickets }) (marks ++ Left t ∷ [])
 stands-left core marks t f leaves born lt s =
     stands-push core (record core { tickets = with_ticket t f core.tickets }) marks (Left t) s record {
       tickets = ticket_left t f core.tickets leaves ∙ ap (map (leaving (Left t))) (kept (map asking core.tickets)) ∙ sym (append-nil (map (leaving (Left t)) (filter (λ a. true) (map asking core.tickets))));
@@ -103,7 +103,7 @@ stands-left core marks t f leaves born lt s =
       tested_born = tested_spared marks (Left t) (λ c. refl) (with_ticket t f core.tickets) (changed_born marks t f core.tickets born s.tested_born);
     }
 
-pub stands-ended : {C : Type 0} (core : Core C) (marks : List Mark) (t : ℕ) → t < core.next_ticket → StandsFor core marks → StandsFor (ended t core) (marks ++ Ended t ∷ [])
+pub stands-ended : {C : Type 0} (core : Core C) (marks : List Mark) (t : ℕ) → t < core.next_ticket → StandsIn core marks → StandsIn (ended t core) (marks ++ Ended t ∷ [])
 stands-ended core marks t lt s =
     stands-push core (ended t core) marks (Ended t) s record {
       tickets = ticket_gone t core.tickets ∙ sym (map-id (filter (λ (a : PendingTicket). not (a.ticket == t)) (map asking core.tickets)))
@@ -124,7 +124,7 @@ stands-ended core marks t lt s =
 
 -- ---- connections that come
 
-pub stands-opened : {C : Type 0} (core : Core C) (marks : List Mark) (m : ℕ) → StandsFor core marks → StandsFor (opened core) (marks ++ Opened core.next_conn m ∷ [])
+pub stands-opened : {C : Type 0} (core : Core C) (marks : List Mark) (m : ℕ) → StandsIn core marks → StandsIn (opened core) (marks ++ Opened core.next_conn m ∷ [])
 stands-opened core marks m s =
     let n = Opened core.next_conn m in
     stands-push core (opened core) marks n s record {
@@ -143,11 +143,11 @@ stands-opened core marks m s =
       tested_born = tested_spared marks n (λ c. refl) core.tickets s.tested_born;
     }
 
-pub born-opened : {C : Type 0} (core : Core C) (marks : List Mark) (m : ℕ) → StandsFor core marks → IsBorn (marks ++ Opened core.next_conn m ∷ []) core.next_conn m
+pub born-opened : {C : Type 0} (core : Core C) (marks : List Mark) (m : ℕ) → StandsIn core marks → IsBorn (marks ++ Opened core.next_conn m ∷ []) core.next_conn m
 born-opened core marks m s = IsBorn-opened core.next_ticket core.next_conn marks m s.named
 
 pub stands-lent : {C : Type 0} (core : Core C) (marks : List Mark) (k c : ℕ) (created : Moment) → count_by (holds c) core.held ≡ 0 → IsBorn marks c created.0 → c < core.next_conn
-    → StandsFor core marks → StandsFor (lent_to k c created core) (marks ++ Lent k c ∷ [])
+    → StandsIn core marks → StandsIn (lent_to k c created core) (marks ++ Lent k c ∷ [])
 stands-lent core marks k c created unowned born lt s =
     let n = Lent k c in
     let h : Held = record { conn = c; client = k; created = created } in
@@ -169,7 +169,7 @@ stands-lent core marks k c created unowned born lt s =
 
 -- a connection that rests, owned before or not
 pub stands-kept : {C : Type 0} (core : Core C) (marks : List Mark) (lent : LentValue C) (m : ℕ) → count_by (rests lent.id) core.idle ≡ 0 → IsBorn marks lent.id lent.created.0 → lent.id < core.next_conn
-    → StandsFor core marks → StandsFor (rested_last lent m (unlent lent.id core)) (marks ++ Kept lent.id m ∷ [])
+    → StandsIn core marks → StandsIn (rested_last lent m (unlent lent.id core)) (marks ++ Kept lent.id m ∷ [])
 stands-kept {C} core marks lent m restless born lt s =
     let n = Kept lent.id m in
     let i : Idle C = record { lent = lent; since = record { 0 = m } } in
@@ -190,9 +190,9 @@ stands-kept {C} core marks lent m restless born lt s =
     }
 
 pub stands-kept_new : {C : Type 0} (core : Core C) (marks : List Mark) (lent : LentValue C) (m : ℕ) → count_by (rests lent.id) core.idle ≡ 0 → count_by (holds lent.id) core.held ≡ 0
-    → IsBorn marks lent.id lent.created.0 → lent.id < core.next_conn → StandsFor core marks → StandsFor (rested_last lent m core) (marks ++ Kept lent.id m ∷ [])
+    → IsBorn marks lent.id lent.created.0 → lent.id < core.next_conn → StandsIn core marks → StandsIn (rested_last lent m core) (marks ++ Kept lent.id m ∷ [])
 stands-kept_new core marks lent m restless unowned born lt s =
-    subst (λ held. StandsFor (record core { held = held; idle = core.idle ++ (record { lent = lent; since = record { 0 = m } }) ∷ [] }) (marks ++ Kept lent.id m ∷ []))
+    subst (λ held. StandsIn (record core { held = held; idle = core.idle ++ (record { lent = lent; since = record { 0 = m } }) ∷ [] }) (marks ++ Kept lent.id m ∷ []))
     (filter_none (holds lent.id) core.held unowned) (stands-kept core marks lent m restless born lt s)
 
 -- ---- connections that are taken
@@ -206,7 +206,7 @@ drop_first i rest idle e le =
     ap (drop 1) e ∙ sym (ap (without_idle i.lent.id) e ∙ ap (λ (b : Bool). cond (not b) (i ∷ without_idle i.lent.id rest) (without_idle i.lent.id rest)) (same_number i.lent.id) ∙ filter_none (rests i.lent.id) rest others)
 
 pub stands-taken : {C : Type 0} (core : Core C) (marks : List Mark) (i : Idle C) (rest : List (Idle C)) → core.idle ≡ i ∷ rest → count_by (rests i.lent.id) core.idle ≤ 1 → i.lent.id < core.next_conn
-    → StandsFor core marks → StandsFor (took core) (marks ++ Taken i.lent.id ∷ [])
+    → StandsIn core marks → StandsIn (took core) (marks ++ Taken i.lent.id ∷ [])
 stands-taken {C} core marks i rest e once lt s =
     let n = Taken i.lent.id in
     let gone = drop_first i rest core.idle e once in
@@ -226,7 +226,7 @@ stands-taken {C} core marks i rest e once lt s =
       tested_born = tested_spared marks n (λ d. refl) core.tickets s.tested_born;
     }
 
-pub stands-shut : {C : Type 0} (core : Core C) (marks : List Mark) → StandsFor core marks → StandsFor (record core { shut = true }) (marks ++ Shut ∷ [])
+pub stands-shut : {C : Type 0} (core : Core C) (marks : List Mark) → StandsIn core marks → StandsIn (record core { shut = true }) (marks ++ Shut ∷ [])
 stands-shut core marks s =
     stands-push core (record core { shut = true }) marks Shut s record {
       tickets = same_tickets (map asking core.tickets);

@@ -24,6 +24,7 @@ options max = record {
   acquire_time_level = Off;
   acquire_slow_level = Off;
   acquire_slow_threshold = 2;
+  idle_tries = 1;
 }
 
 -- connection 1 rests since 5, connection 2 since 7

@@ -78,11 +78,15 @@ pub sound-unlent : {C : Type 0} (core : Core C) (c m : ℕ) → IsSound core →
 sound-unlent core c m s = record {
   some = s.some;
   few = s.few;
+  tries = s.tries;
+  few_tries = s.few_tries;
   rising = s.rising;
   within = let w = s.within in let l = length-without c core.held in omega (arith, w, l);
+  paid = let w = s.paid in let l = length-without c core.held in omega (arith, w, l);
+  owns = s.owns;
+  own = s.own;
   few_tickets = s.few_tickets;
   numbers = s.numbers;
-  few_conns = s.few_conns;
   once = λ d. let w = s.once d in let f = count-filter (holds d) (is_another_loan c) core.held in omega (arith, w, f);
   opened = λ d n. let w = s.opened d n in let f = count-filter (holds d) (is_another_loan c) core.held in omega (arith, w, f);
 }
@@ -93,11 +97,15 @@ sound-leaked core k c h m s found =
     record {
       some = u.some;
       few = u.few;
+      tries = u.tries;
+      few_tries = u.few_tries;
       rising = u.rising;
       within = let w = s.within in let l = length-without c core.held in let o = count-owned k c h core.held found in omega (arith, w, l, o);
+      paid = let w = s.paid in let l = length-without c core.held in let o = count-owned k c h core.held found in omega (arith, w, l, o);
+      owns = s.owns;
+      own = s.own;
       few_tickets = u.few_tickets;
       numbers = u.numbers;
-      few_conns = u.few_conns;
       once = u.once;
       opened = u.opened;
     }
@@ -112,11 +120,15 @@ sound-kept core k c h i m s found same =
     record {
       some = u.some;
       few = u.few;
+      tries = u.tries;
+      few_tries = u.few_tries;
       rising = u.rising;
       within = let w = s.within in omega (arith, w, l, o, n);
+      paid = let w = s.paid in omega (arith, w, l, o, n);
+      owns = s.owns;
+      own = s.own;
       few_tickets = u.few_tickets;
       numbers = u.numbers;
-      few_conns = u.few_conns;
       once = λ d. let w = u.once d in let p = count-push (rests d) core.idle i in
           elim (eqb_tells d i.lent.id) [
             | inl is ↦ let at_c : d ≡ c = is.1 ∙ same in let one_most = one-le (rests d) i in let v = s.once d in

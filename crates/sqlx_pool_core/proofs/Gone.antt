@@ -12,7 +12,7 @@ use Rattle.sqlx_log.specs.Marks.{Loan, IdleEntry, ends_conn}
 use Rattle.sqlx_pool_core.specs.Core.{Core, asking, loan, resting}
 use Rattle.sqlx_pool_core.specs.Sound.{holds, rests, tests, is_tested}
 use Rattle.sqlx_log.specs.Born.{IsBorn}
-use Rattle.sqlx_pool_core.specs.StandsFor.{StandsFor, IsTestedBorn}
+use Rattle.sqlx_pool_core.specs.StandsFor.{StandsIn, IsTestedBorn}
 use Rattle.sqlx_pool_core.specs.Edits.{without_loan, without_idle, is_another_loan, is_another_idle, unlent, took}
 use Rattle.sqlx_pool_core.specs.ReturnSteps.{leaked}
 use Rattle.sqlx_log.proofs.ListFacts.{or-false, number_comm, filter_none, All-filter_if, All-passing}
@@ -32,7 +32,7 @@ module _ (marks : List Mark) (n : Mark) (c : ℕ) (going : IsGoing c n) where
   stays d m e born = IsBorn-push marks n d m (going d ∙ number_comm d c ∙ not-true (c == d) e) born
 
   stays_tested : (p : Phase) → not (is_tested c p) ≡ true → IsTestedBorn marks p → IsTestedBorn (marks ++ n ∷ []) p
-  stays_tested (phase.Testing d created) e born = stays d created.0 e born
+  stays_tested (phase.Testing d created before) e born = stays d created.0 e born
   stays_tested phase.Waiting e born = tt
   stays_tested phase.Connecting e born = tt
   stays_tested (phase.Backoff until) e born = tt
@@ -56,8 +56,8 @@ module _ (marks : List Mark) (n : Mark) (c : ℕ) (going : IsGoing c n) where
 
 -- the connection is nowhere in the core behind its Closed
 stands-closed : {C : Type 0} (core : Core C) (marks : List Mark) (c : ℕ) (tickets : List Ticket) → map asking tickets ≡ map asking core.tickets → All (IsTicketBorn marks) tickets
-    → count_by (tests c) tickets ≡ 0 → c < core.next_conn → StandsFor core marks
-    → StandsFor (record core { tickets = tickets; held = without_loan c core.held; idle = without_idle c core.idle }) (marks ++ Closed c ∷ [])
+    → count_by (tests c) tickets ≡ 0 → c < core.next_conn → StandsIn core marks
+    → StandsIn (record core { tickets = tickets; held = without_loan c core.held; idle = without_idle c core.idle }) (marks ++ Closed c ∷ [])
 stands-closed core marks c tickets alike born untested lt s =
     let n = Closed c in
     stands-push core (record core { tickets = tickets; held = without_loan c core.held; idle = without_idle c core.idle }) marks n s record {
@@ -78,33 +78,33 @@ stands-closed core marks c tickets alike born untested lt s =
 
 -- an owned connection is closed
 pub stands-closed_owned : {C : Type 0} (core : Core C) (marks : List Mark) (c : ℕ) → count_by (tests c) core.tickets ≡ 0 → count_by (rests c) core.idle ≡ 0 → c < core.next_conn
-    → StandsFor core marks → StandsFor (unlent c core) (marks ++ Closed c ∷ [])
+    → StandsIn core marks → StandsIn (unlent c core) (marks ++ Closed c ∷ [])
 stands-closed_owned core marks c untested restless lt s =
-    subst (λ idle. StandsFor (record core { held = without_loan c core.held; idle = idle }) (marks ++ Closed c ∷ [])) (filter_none (rests c) core.idle restless)
+    subst (λ idle. StandsIn (record core { held = without_loan c core.held; idle = idle }) (marks ++ Closed c ∷ [])) (filter_none (rests c) core.idle restless)
     (stands-closed core marks c core.tickets refl s.tested_born untested lt s)
 
 -- the connection that was under test is closed, and its ticket has another phase
 pub stands-closed_tested : {C : Type 0} (core : Core C) (marks : List Mark) (c : ℕ) (tickets : List Ticket) → map asking tickets ≡ map asking core.tickets → All (IsTicketBorn marks) tickets
     → count_by (tests c) tickets ≡ 0 → count_by (holds c) core.held ≡ 0 → count_by (rests c) core.idle ≡ 0 → c < core.next_conn
-    → StandsFor core marks → StandsFor (record core { tickets = tickets }) (marks ++ Closed c ∷ [])
+    → StandsIn core marks → StandsIn (record core { tickets = tickets }) (marks ++ Closed c ∷ [])
 stands-closed_tested core marks c tickets alike born untested unowned restless lt s =
-    subst (λ held. StandsFor (record core { tickets = tickets; held = held }) (marks ++ Closed c ∷ [])) (filter_none (holds c) core.held unowned)
-    (subst (λ idle. StandsFor (record core { tickets = tickets; held = without_loan c core.held; idle = idle }) (marks ++ Closed c ∷ [])) (filter_none (rests c) core.idle restless)
+    subst (λ held. StandsIn (record core { tickets = tickets; held = held }) (marks ++ Closed c ∷ [])) (filter_none (holds c) core.held unowned)
+    (subst (λ idle. StandsIn (record core { tickets = tickets; held = without_loan c core.held; idle = idle }) (marks ++ Closed c ∷ [])) (filter_none (rests c) core.idle restless)
     (stands-closed core marks c tickets alike born untested lt s))
 
 -- the first idle connection is closed
 pub stands-closed_first : {C : Type 0} (core : Core C) (marks : List Mark) (i : Idle C) (rest : List (Idle C)) → core.idle ≡ i ∷ rest → count_by (rests i.lent.id) core.idle ≤ 1
     → count_by (tests i.lent.id) core.tickets ≡ 0 → count_by (holds i.lent.id) core.held ≡ 0 → i.lent.id < core.next_conn
-    → StandsFor core marks → StandsFor (took core) (marks ++ Closed i.lent.id ∷ [])
+    → StandsIn core marks → StandsIn (took core) (marks ++ Closed i.lent.id ∷ [])
 stands-closed_first core marks i rest e once untested unowned lt s =
-    subst (λ held. StandsFor (record core { held = held; idle = drop 1 core.idle }) (marks ++ Closed i.lent.id ∷ [])) (filter_none (holds i.lent.id) core.held unowned)
-    (subst (λ idle. StandsFor (record core { held = without_loan i.lent.id core.held; idle = idle }) (marks ++ Closed i.lent.id ∷ [])) (sym (drop_first i rest core.idle e once))
+    subst (λ held. StandsIn (record core { held = held; idle = drop 1 core.idle }) (marks ++ Closed i.lent.id ∷ [])) (filter_none (holds i.lent.id) core.held unowned)
+    (subst (λ idle. StandsIn (record core { held = without_loan i.lent.id core.held; idle = idle }) (marks ++ Closed i.lent.id ∷ [])) (sym (drop_first i rest core.idle e once))
     (stands-closed core marks i.lent.id core.tickets refl s.tested_born untested lt s))
 
 -- ---- reaped, detached, leaked
 
 pub stands-reaped : {C : Type 0} (core : Core C) (marks : List Mark) (c : ℕ) → count_by (tests c) core.tickets ≡ 0 → count_by (holds c) core.held ≡ 0 → c < core.next_conn
-    → StandsFor core marks → StandsFor (record core { idle = without_idle c core.idle }) (marks ++ Reaped c ∷ [])
+    → StandsIn core marks → StandsIn (record core { idle = without_idle c core.idle }) (marks ++ Reaped c ∷ [])
 stands-reaped core marks c untested unowned lt s =
     let n = Reaped c in
     stands-push core (record core { idle = without_idle c core.idle }) marks n s record {
@@ -124,7 +124,7 @@ stands-reaped core marks c untested unowned lt s =
     }
 
 pub stands-detached : {C : Type 0} (core : Core C) (marks : List Mark) (c : ℕ) → count_by (tests c) core.tickets ≡ 0 → count_by (rests c) core.idle ≡ 0 → c < core.next_conn
-    → StandsFor core marks → StandsFor (unlent c core) (marks ++ Detached c ∷ [])
+    → StandsIn core marks → StandsIn (unlent c core) (marks ++ Detached c ∷ [])
 stands-detached core marks c untested restless lt s =
     let n = Detached c in
     stands-push core (unlent c core) marks n s record {
@@ -144,7 +144,7 @@ stands-detached core marks c untested restless lt s =
     }
 
 pub stands-leaked : {C : Type 0} (core : Core C) (marks : List Mark) (c : ℕ) → count_by (tests c) core.tickets ≡ 0 → count_by (rests c) core.idle ≡ 0 → c < core.next_conn
-    → StandsFor core marks → StandsFor (leaked c true core) (marks ++ Leaked c ∷ [])
+    → StandsIn core marks → StandsIn (leaked c true core) (marks ++ Leaked c ∷ [])
 stands-leaked core marks c untested restless lt s =
     let n = Leaked c in
     stands-push core (leaked c true core) marks n s record {

@@ -8,12 +8,12 @@ use Rattle.sqlx_pool_core.specs.declared.steps.Idle.{Idle}
 use Rattle.sqlx_log.specs.Marks.{idle_of, loans_of, leaked_of, tickets_of}
 use Rattle.sqlx_log.specs.Counts.{left_in, free_of}
 use Rattle.sqlx_pool_core.specs.Core.{Core, resting, waiting, free}
-use Rattle.sqlx_pool_core.specs.StandsFor.{StandsFor}
+use Rattle.sqlx_pool_core.specs.StandsFor.{StandsIn, StandsFor}
 use Rattle.sqlx_log.specs.EventTable.{is_idle_too_long, may_pass, may_open, lacking}
 use Rattle.sqlx_pool_core.specs.KeepingSteps.{is_reaped_at, reap_answer, has_place, lacks, close_answer}
 use Rattle.sqlx_log.specs.EventTable.{may_pass_at, is_old_since, is_beyond_at, entry_conn, reaped_at, has_place_at, lacking_at, closed_at}
 use Rattle.sqlx_pool_core.specs.KeepingSteps.{idle_conn}
-use Rattle.sqlx_pool_core.proofs.Stands.{IsIdleBorn}
+use Rattle.sqlx_pool_core.proofs.Stands.{IsIdleBorn, stands-in}
 use Rattle.sqlx_pool_core.proofs.TurnAtMarks.{gone-stands, waiting-stands, owned-stands, size-stands}
 
 -- ---- found alike
@@ -40,17 +40,20 @@ numbers-alike (i ∷ idle) = ap (λ (l : List ℕ). i.lent.id ∷ l) (numbers-al
 -- ---- by the marks
 
 module _ {C : Type 0} (core : Core C) (marks : List Mark) (s : StandsFor core marks) where
+  inside : StandsIn core marks
+  inside = stands-in core marks s
+
   free-at : free core ≡ free_of core.options.max_connections (length (loans_of marks)) (leaked_of marks) (left_in (tickets_of marks)) core.places
-  free-at = λ i. free_of core.options.max_connections (owned-stands core marks s i) (s.leaked i) (gone-stands core marks s i) core.places
+  free-at = λ i. free_of (s.permits i) (owned-stands core marks inside i) (s.leaked i) (gone-stands core marks inside i) core.places
 
   pub passes-at : may_pass core.shut (waiting core.tickets) (free core) ≡ may_pass_at core.options.max_connections core.places marks
-  passes-at = λ i. may_pass (s.shut i) (waiting-stands core marks s i) (free-at i)
+  passes-at = λ i. may_pass (s.shut i) (waiting-stands core marks inside i) (free-at i)
 
   pub place-at : (minimum : ℕ) → has_place minimum core ≡ has_place_at (limits_of core.options) core.places marks minimum
-  place-at minimum = λ i. may_open (s.shut i) (waiting-stands core marks s i) (free-at i) (size-stands core marks s i) minimum core.options.max_connections (s.conn_number i)
+  place-at minimum = λ i. may_open (s.shut i) (waiting-stands core marks inside i) (free-at i) (size-stands core marks inside i) minimum core.options.max_connections (s.conn_number i)
 
   pub lacks-at : lacks core ≡ lacking_at (limits_of core.options) core.places marks
-  lacks-at = λ i. lacking (s.shut i) (waiting-stands core marks s i) (free-at i) (size-stands core marks s i) core.options.min_connections core.options.max_connections (s.conn_number i)
+  lacks-at = λ i. lacking (s.shut i) (waiting-stands core marks inside i) (free-at i) (size-stands core marks inside i) core.options.min_connections core.options.max_connections (s.conn_number i)
 
   reap_with : (m : ℕ) (may : Bool) → option_map idle_conn (reap_answer may core.options m core.idle) ≡ cond may (option_map entry_conn (find (is_beyond_at (limits_of core.options) m marks) (idle_of marks))) None
   reap_with m true = found-alike core.options m marks core.idle s.idle_born ∙ ap (λ l. option_map entry_conn (find (is_beyond_at (limits_of core.options) m marks) l)) s.idle

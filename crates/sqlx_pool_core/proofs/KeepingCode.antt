@@ -101,11 +101,15 @@ pub sound-without : {C : Type 0} (core : Core C) (c m : ℕ) → IsSound core �
 sound-without core c m s = record {
   some = s.some;
   few = s.few;
+  tries = s.tries;
+  few_tries = s.few_tries;
   rising = s.rising;
   within = let w = s.within in let l = length-filter_not (rests c) core.idle in omega (arith, w, l);
+  paid = s.paid;
+  owns = s.owns;
+  own = s.own;
   few_tickets = s.few_tickets;
   numbers = s.numbers;
-  few_conns = s.few_conns;
   once = λ d. let w = s.once d in let f = count-filter (rests d) (is_another_idle c) core.idle in omega (arith, w, f);
   opened = λ d n. let w = s.opened d n in let f = count-filter (rests d) (is_another_idle c) core.idle in omega (arith, w, f);
 }
@@ -143,11 +147,15 @@ sound-kept_new core i idle m s placed new put =
     record {
       some = s.some;
       few = s.few;
+      tries = s.tries;
+      few_tries = s.few_tries;
       rising = s.rising;
       within = let w = s.within in omega (arith, w, l, placed);
+      paid = let w = s.paid in omega (arith, w);
+      owns = s.owns;
+      own = s.own;
       few_tickets = s.few_tickets;
       numbers = omega arith;
-      few_conns = let w = s.few_conns in omega (arith, w, placed);
       once = λ c. let w = s.once c in let p = count c in
           elim (eqb_tells c i.lent.id) [
             | inl is ↦ let z = s.opened c (omega (arith, is.1, new)) in let o = one-le (rests c) i in omega (arith, z, p, o)
@@ -162,18 +170,22 @@ sound-kept_new core i idle m s placed new put =
 
 -- ---- closed
 
-pub sound-shut : {C : Type 0} (core : Core C) (idle : List (Idle C)) → IsSound core → idle ≡ [] → IsSound (record core { shut = true; idle = idle })
+pub sound-shut : {C : Type 0} (core : Core C) (idle : List (Idle C)) → IsSound core → idle ≡ [] → IsSound (record core { shut = true; closed = true; idle = idle })
 sound-shut core idle s none =
     let l : length idle ≡ 0 = ap length none in
     let count : (c : ℕ) → count_by (rests c) idle ≡ 0 = λ c. ap (count_by (rests c)) none in
     record {
       some = s.some;
       few = s.few;
+      tries = s.tries;
+      few_tries = s.few_tries;
       rising = s.rising;
       within = let w = s.within in omega (arith, w, l);
+      paid = s.paid;
+      owns = s.owns;
+      own = λ (e : true ≡ false). absurd cc;
       few_tickets = s.few_tickets;
       numbers = s.numbers;
-      few_conns = s.few_conns;
       once = λ c. let w = s.once c in let k = count c in omega (arith, w, k);
       opened = λ c n. let w = s.opened c n in let k = count c in omega (arith, w, k);
     }

@@ -5,7 +5,7 @@ use Rattle.sqlx_log.specs.Counts.{free_of}
 use Rattle.sqlx_pool_core.specs.Core.{Core, waiting, gone, free, size}
 use Rattle.sqlx_log.specs.EventTable.{may_pass, may_open, lacking}
 use Rattle.sqlx_pool_core.specs.KeepingSteps.{has_place, lacks}
-use Rattle.sqlx_pool_core.specs.KeepWith.{Opens}
+use Rattle.sqlx_pool_core.specs.Minimum.{Opens}
 
 counted : (size least next k : ℕ) (b c : Bool) → nat_lt (size + k) least ≡ b → nat_lt (2 ^ 63) (next + k) ≡ c → (b && not c) ≡ nat_lt k (min (least - size) (2 ^ 63 + 1 - next))
 counted size least next k false c small few = let all = ltb-false (size + k) least small in sym (le-ltb k (min (least - size) (2 ^ 63 + 1 - next)) (omega (arith, all)))
@@ -20,22 +20,6 @@ opens-left : (passes : Bool) (size least next k : ℕ) → (passes && nat_lt (si
 opens-left true size least next k = counted size least next k (nat_lt (size + k) least) (nat_lt (2 ^ 63) (next + k)) refl refl
 opens-left false size least next k = sym (le-ltb k 0 (omega arith))
 
-within : (passes : Bool) (size minimum maximum next : ℕ) → (if passes then min (min minimum maximum - size) (2 ^ 63 + 1 - next) else 0) ≤ maximum
-within true size minimum maximum next = omega arith
-within false size minimum maximum next = omega arith
-
--- a pool lacks at most its maximum
-pub lacks-within : {C : Type 0} (core : Core C) → lacks core ≤ core.options.max_connections
-lacks-within core = within (may_pass core.shut (waiting core.tickets) (free core)) (size core) core.options.min_connections core.options.max_connections core.next_conn
-
-unnot_true : (b : Bool) → false ≡ not b → b ≡ true
-unnot_true true e = refl
-unnot_true false e = absurd cc
-
-unnot_false : (b : Bool) → true ≡ not b → b ≡ false
-unnot_false true e = absurd cc
-unnot_false false e = refl
-
 module _ {C X : Type 0} (depth : X → C → ℕ) (core mid : Core C) (k now : ℕ) (so_far : Opens depth core mid k now) where
   size-left : size mid ≡ size core + k
   size-left =
@@ -47,23 +31,15 @@ module _ {C X : Type 0} (depth : X → C → ℕ) (core mid : Core C) (k now : �
   pub place-left : has_place core.options.min_connections mid ≡ nat_lt k (lacks core)
   place-left =
       let o = so_far in
-      (λ i. may_open (o.shut i) (waiting (o.tickets i)) (free_of (o.options i).max_connections (length (o.held i)) (o.leaked i) (gone (o.tickets i)) (o.places i)) (size-left i) core.options.min_connections (o.options i).max_connections (o.next_conn i))
+      (λ i. may_open (o.shut i) (waiting (o.tickets i)) (free_of (o.permits i) (length (o.held i)) (o.leaked i) (gone (o.tickets i)) (o.places i)) (size-left i) core.options.min_connections (o.options i).max_connections (o.next_conn i))
       ∙ opens-left (may_pass core.shut (waiting core.tickets) (free core)) (size core) (min core.options.min_connections core.options.max_connections) core.next_conn k
 
   same-minimum : has_place mid.options.min_connections mid ≡ nat_lt k (lacks core)
   same-minimum = ap (λ o. has_place o.min_connections mid) so_far.options ∙ place-left
 
-  -- a try that found a place
-  pub below-lack : false ≡ not (has_place mid.options.min_connections mid) → k < lacks core
-  below-lack found = ltb-true k (lacks core) (sym same-minimum ∙ unnot_true (has_place mid.options.min_connections mid) found)
-
-  -- a try that found none
-  pub above-lack : true ≡ not (has_place mid.options.min_connections mid) → lacks core ≤ k
-  above-lack none = ltb-false k (lacks core) (sym same-minimum ∙ unnot_false (has_place mid.options.min_connections mid) none)
-
-  -- where more lack, a place is there
-  pub place-short : k < lacks core → has_place core.options.min_connections mid ≡ true
-  place-short fewer = place-left ∙ lt-ltb k (lacks core) fewer
+  -- a place was found
+  pub below-lack : has_place mid.options.min_connections mid ≡ true → k < lacks core
+  below-lack found = ltb-true k (lacks core) (sym same-minimum ∙ found)
 
 -- where so many connections are still to be numbered, the numbers don't matter
 pub openings-numbered : (shut : Bool) (waiting free size minimum maximum next_conn k : ℕ) → next_conn + k ≤ 2 ^ 63 + 1

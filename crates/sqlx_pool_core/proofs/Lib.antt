@@ -21,11 +21,16 @@ pub mod GiveCode
 pub mod AskCode
 pub mod KeepingCode
 pub mod Moving
+pub mod Drawn
+pub mod Alone
 pub mod KeepingAtMarks
 pub mod AnswersAtMarks
 mod EventRows
 pub mod WholePoll
-pub mod PollOutcome
-pub mod KeepRuns
-pub mod ToldTries
+pub mod Polling
+pub mod CallsKeep
+pub mod PollEnds
+pub mod Keeping
 pub mod Lacking
+pub mod KeepEnds
+pub mod KeepRuns

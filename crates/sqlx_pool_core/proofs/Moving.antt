@@ -20,22 +20,22 @@ use Rattle.sqlx_pool_core.specs.declared.steps.Tried.TheVariants as tried
 use Rattle.sqlx_pool_core.specs.declared.steps.AfterConnect.{AfterConnect}
 use Rattle.sqlx_pool_core.specs.declared.steps.Given.{Given}
 use Rattle.sqlx_pool_core.specs.declared.steps.Given.TheVariants as given
-use Rattle.sqlx_pool_core.specs.Core.{Core, is_out, waits, ticket_of, loan_of, waiting, free}
+use Rattle.sqlx_pool_core.specs.Core.{Core, is_out, waits, ticket_of, loan_of}
 use Rattle.sqlx_pool_core.specs.Sound.{IsSound, holds, rests}
 use Rattle.sqlx_pool_core.specs.Place.{IsAmong}
-use Rattle.sqlx_pool_core.specs.OwnTurn.{is_first_in_line, turn_of, own_turn}
+use Rattle.sqlx_pool_core.specs.OwnTurn.{turn_of}
 use Rattle.sqlx_log.specs.PollTable.{in_time, first_idle}
 use Rattle.sqlx_pool_core.specs.PollTable.{is_at_rest, backs_off_until}
-use Rattle.sqlx_log.specs.EventTable.{may_pass}
-use Rattle.sqlx_pool_core.specs.Edits.{with_ticket, without_ticket, is_another_ticket, without_loan, without_idle, to_test, to_try, to_try_at, to_connect, to_back_off, ended, asked, at_moment}
-use Rattle.sqlx_pool_core.specs.PollSteps.{phase_for, lent_since, start_answer, start_marks, started, judged, tested_at, test_answer, test_marks, after_test, wait_of, try_answer_at, connect_answer, connect_marks, after_connect, may_cancel, cancel_marks, cancelled, try_lent, try_marks, after_try}
+use Rattle.sqlx_pool_core.specs.Edits.{with_ticket, without_ticket, is_another_ticket, without_loan, without_idle, tested_so_far, to_test, to_next, to_try, to_try_at, to_connect, to_back_off, ended, asked, at_moment}
+use Rattle.sqlx_pool_core.specs.PollSteps.{phase_for, lent_since, start_answer, start_marks, started, judged, tested_at, may_test_next, after_refusal, test_answer, test_marks, after_test, wait_of, try_answer_at, connect_answer, connect_marks, after_connect, may_cancel, cancel_marks, cancelled, try_lent, try_marks, after_try}
 use Rattle.sqlx_log.specs.EventTable.{closes}
 use Rattle.sqlx_pool_core.specs.ReturnSteps.{give_answer, give_marks, gave, end_marks, detach_marks, leak_marks, released, leaked}
 use Rattle.sqlx_pool_core.specs.KeepingSteps.{is_reaped_at, reap_answer, reap_marks, reaped, placed, placed_back, done_marks, done_at, done, closed_idle, close_answer, close_marks, closed_from}
-use Rattle.sqlx_pool_core.specs.Moves.{tests_one, is_testing, is_asked, is_ended, is_lent, ask_room, asks, ends, lents, Moves, one_if, given_back, try_room, place_room}
+use Rattle.sqlx_pool_core.specs.Moves.{tests_one, is_testing, tests_left, left_to_test, all_left_to_test, is_asked, is_ended, is_lent, ask_room, asks, ends, lents, Moves, one_if, given_back, try_room, place_room}
 use Rattle.sqlx_log.proofs.ListFacts.{found_counts, length-filter_not, length-push, length_map, count_by-cons, same_number}
 use Rattle.sqlx_log.proofs.Counting.{one, count-filter, count-push}
-use Rattle.sqlx_pool_core.proofs.Counting.{count-changed}
+use Rattle.std.proofs.lemmas.Bool.{ltb-true}
+use Rattle.sqlx_pool_core.proofs.Counting.{count-changed, sum-changed, sum-ended, sum-push}
 use Rattle.sqlx_pool_core.proofs.PollCode.{among}
 use Rattle.sqlx_pool_core.proofs.Known.{loan-found}
 
@@ -81,26 +81,29 @@ module _ {C : Type 0} (core : Core C) (sound : IsSound core) (k t : ℕ) (x : Ti
       let fewer = length-ended t x core.tickets here in
       let w = count-filter waits (is_another_ticket t) core.tickets in
       let u = count-filter is_testing (is_another_ticket t) core.tickets in
+      let l = sum-ended (left_to_test core.options.idle_tries) t x core.tickets here in
       record {
         tickets = omega (arith, fewer, none_asked, one_ended);
         numbers = omega (arith, none_asked);
         held = omega (arith, loans);
-        paid = omega (arith, fewer, w, u, loans, few);
+        paid = omega (arith, fewer, w, u, l, loans, few);
       }
 
   -- it changes, and the idle connections become these
   pub moves-changed : (f : Ticket → Ticket) (idle : List (Idle C)) (last : ℕ) (made : List Mark) → asks made ≡ 0 → ends made ≡ 0 → lents made ≡ 0
-      → 2 * one waits (f x) + one is_testing (f x) + length idle + length made ≤ 2 * one waits x + one is_testing x + length core.idle
+      → 2 * one waits (f x) + one is_testing (f x) + 2 * left_to_test core.options.idle_tries (f x) + length idle + length made
+      ≤ 2 * one waits x + one is_testing x + 2 * left_to_test core.options.idle_tries x + length core.idle
       → Moves core (record core { tickets = with_ticket t f core.tickets; idle = idle; last = last }) made 0 0
   moves-changed f idle last made none_asked none_ended none_lent fits =
       let same = length-changed t f core.tickets in
       let w = count-changed waits t x core.tickets f here in
       let u = count-changed is_testing t x core.tickets f here in
+      let l = sum-changed (left_to_test core.options.idle_tries) t x core.tickets f here in
       record {
         tickets = omega (arith, same, none_asked, none_ended);
         numbers = omega (arith, none_asked);
         held = omega (arith, none_lent);
-        paid = omega (arith, same, w, u, fits);
+        paid = omega (arith, same, w, u, l, fits);
       }
 
   over : (last : ℕ) → Moves core (record (ended t core) { last = last }) (Ended t ∷ []) 0 0
@@ -115,19 +118,22 @@ module _ {C : Type 0} (core : Core C) (sound : IsSound core) (k t : ℕ) (x : Ti
       let w : one waits x ≡ 1 = ap (λ (p : Phase). cond {A = ℕ} (not (is_out p)) 1 0) is in
       let v : one waits (to_try m x) ≡ 0 = ap (one waits) f in
       let u : one is_testing (to_try m x) ≡ 0 = ap (one is_testing) f in
-      moves-changed (to_try m) core.idle m (Left t ∷ []) refl refl refl (omega (arith, w, v, u))
+      let l : left_to_test core.options.idle_tries (to_try m x) ≡ 0 = ap (left_to_test core.options.idle_tries) f in
+      moves-changed (to_try m) core.idle m (Left t ∷ []) refl refl refl (omega (arith, w, v, u, l))
   start-idle m is (i ∷ rest) first =
       let w : one waits x ≡ 1 = ap (λ (p : Phase). cond {A = ℕ} (not (is_out p)) 1 0) is in
       let long : length core.idle ≡ suc (length rest) = ap length first in
       let short : length (drop 1 core.idle) ≡ length rest = ap (λ l. length (drop 1 l)) first in
-      moves-changed (to_test m i) (drop 1 core.idle) m (Left t ∷ Taken i.lent.id ∷ []) refl refl refl (omega (arith, w, long, short))
+      let l : left_to_test core.options.idle_tries x ≡ core.options.idle_tries - 1 = ap (tests_left core.options.idle_tries) is in
+      moves-changed (to_test m i) (drop 1 core.idle) m (Left t ∷ Taken i.lent.id ∷ []) refl refl refl (omega (arith, w, l, long, short))
 
   start-again : (m until : ℕ) → x.phase ≡ phase.Backoff until → Moves core (at_moment m (record core { tickets = with_ticket t (to_try m) core.tickets })) [] 0 0
   start-again m until is =
       let f : to_try m x ≡ to_connect x = ap (λ (p : Phase). to_try_at m p x) is in
       let v : one waits (to_try m x) ≡ 0 = ap (one waits) f in
       let u : one is_testing (to_try m x) ≡ 0 = ap (one is_testing) f in
-      moves-changed (to_try m) core.idle m [] refl refl refl (omega (arith, v, u))
+      let l : left_to_test core.options.idle_tries (to_try m x) ≡ 0 = ap (left_to_test core.options.idle_tries) f in
+      moves-changed (to_try m) core.idle m [] refl refl refl (omega (arith, v, u, l))
 
   start-waiting : (m : ℕ) → x.phase ≡ phase.Waiting → (shut late entitled used : Bool)
       → Moves core (started t m (start_answer (cond shut turned.Closed (cond late turned.TimedOut (cond entitled (cond used turned.Exhausted (first_idle core.idle)) turned.Waiting))) core.idle) core)
@@ -147,36 +153,55 @@ module _ {C : Type 0} (core : Core C) (sound : IsSound core) (k t : ℕ) (x : Ti
   start-backoff m until is false false false true = over m
   start-backoff m until is false false false false = start-again m until is
 
-  start-phase : (m : ℕ) (p : Phase) → x.phase ≡ p
-      → Moves core (started t m (start_answer (cond (is_at_rest p) (cond core.shut turned.Closed (cond (nat_le x.deadline m) turned.TimedOut (in_time m (is_first_in_line t core) core.next_conn core.idle (is_out p) (backs_off_until p)))) turned.NotHeld) core.idle) core)
-      (start_marks t (Some p) (start_answer (cond (is_at_rest p) (cond core.shut turned.Closed (cond (nat_le x.deadline m) turned.TimedOut (in_time m (is_first_in_line t core) core.next_conn core.idle (is_out p) (backs_off_until p)))) turned.NotHeld) core.idle)) 0 0
-  start-phase m phase.Waiting is = start-waiting m is core.shut (nat_le x.deadline m) (is_first_in_line t core) (nat_lt (2 ^ 63) core.next_conn)
-  start-phase m (phase.Testing c created) is = moves-none core
-  start-phase m phase.Connecting is = moves-none core
-  start-phase m (phase.Backoff until) is = start-backoff m until is core.shut (nat_le x.deadline m) (nat_lt m until) (nat_lt (2 ^ 63) core.next_conn)
+  start-phase : (q : Bool) (m : ℕ) (p : Phase) → x.phase ≡ p
+      → Moves core (started t m (start_answer (cond (is_at_rest p) (cond core.closed turned.Closed (cond (nat_le x.deadline m) turned.TimedOut (in_time m q core.next_conn core.idle (is_out p) (backs_off_until p)))) turned.NotHeld) core.idle) core)
+      (start_marks t (Some p) (start_answer (cond (is_at_rest p) (cond core.closed turned.Closed (cond (nat_le x.deadline m) turned.TimedOut (in_time m q core.next_conn core.idle (is_out p) (backs_off_until p)))) turned.NotHeld) core.idle)) 0 0
+  start-phase q m phase.Waiting is = start-waiting m is core.closed (nat_le x.deadline m) q (nat_lt (2 ^ 63) core.next_conn)
+  start-phase q m (phase.Testing c created before) is = moves-none core
+  start-phase q m phase.Connecting is = moves-none core
+  start-phase q m (phase.Backoff until) is = start-backoff m until is core.closed (nat_le x.deadline m) (nat_lt m until) (nat_lt (2 ^ 63) core.next_conn)
 
   -- ---- finish_test
 
-  test-answer : (v : Verdict C) (created : Moment) → is_testing x ≡ true → (shut : Bool)
-      → Moves core (after_test k t (test_answer (Some created) shut v) core) (test_marks k t (judged v) (test_answer (Some created) shut v)) 0 0
-  test-answer (verdict.Accepted lent) created is true = moves-ended core.held core.next_conn core.last (Closed lent.id ∷ Ended t ∷ []) refl refl (omega arith) (omega arith)
-  test-answer (verdict.Refused c) created is true = moves-ended core.held core.next_conn core.last (Closed c ∷ Ended t ∷ []) refl refl (omega arith) (omega arith)
-  test-answer (verdict.Accepted lent) created is false =
+  test-over : (c d before : ℕ) (created : Moment) → x.phase ≡ phase.Testing d created before → Moves core (record core { tickets = with_ticket t to_connect core.tickets }) (Closed c ∷ []) 0 0
+  test-over c d before created is =
+      let u : one is_testing x ≡ 1 = ap (λ (p : Phase). cond {A = ℕ} (tests_one p) 1 0) is in
+      moves-changed to_connect core.idle core.last (Closed c ∷ []) refl refl refl (omega (arith, u))
+
+  test-next : (c d before : ℕ) (created : Moment) → x.phase ≡ phase.Testing d created before → (next : Bool) → nat_lt (before + 1) core.options.idle_tries ≡ next → (idle : List (Idle C)) → core.idle ≡ idle
+      → Moves core (after_test k t (after_refusal next idle) core) (test_marks k t c (after_refusal next idle)) 0 0
+  test-next c d before created is true may (i ∷ rest) first =
+      let u : one is_testing x ≡ 1 = ap (λ (p : Phase). cond {A = ℕ} (tests_one p) 1 0) is in
+      let so_far : tested_so_far x.phase ≡ before + 1 = ap tested_so_far is in
+      let fewer = ltb-true (before + 1) core.options.idle_tries may in
+      let l : left_to_test core.options.idle_tries x ≡ core.options.idle_tries - (before + 1) = ap (tests_left core.options.idle_tries) is in
+      let long : length core.idle ≡ suc (length rest) = ap length first in
+      let short : length (drop 1 core.idle) ≡ length rest = ap (λ l. length (drop 1 l)) first in
+      moves-changed (to_next i) (drop 1 core.idle) core.last (Closed c ∷ Taken i.lent.id ∷ []) refl refl refl (omega (arith, u, so_far, fewer, l, long, short))
+  test-next c d before created is true may [] first = test-over c d before created is
+  test-next c d before created is false may [] first = test-over c d before created is
+  test-next c d before created is false may (i ∷ rest) first = test-over c d before created is
+
+  test-answer : (v : Verdict C) (d before : ℕ) (created : Moment) → x.phase ≡ phase.Testing d created before → (shut : Bool)
+      → Moves core (after_test k t (test_answer (Some created) shut (nat_lt (before + 1) core.options.idle_tries) core.idle v) core) (test_marks k t (judged v) (test_answer (Some created) shut (nat_lt (before + 1) core.options.idle_tries) core.idle v)) 0 0
+  test-answer (verdict.Accepted lent) d before created is true = moves-ended core.held core.next_conn core.last (Closed lent.id ∷ Ended t ∷ []) refl refl (omega arith) (omega arith)
+  test-answer (verdict.Refused c) d before created is true = moves-ended core.held core.next_conn core.last (Closed c ∷ Ended t ∷ []) refl refl (omega arith) (omega arith)
+  test-answer (verdict.Accepted lent) d before created is false =
       let h : Held = record { conn = lent.id; client = k; created = created } in
       let more = length-push core.held h in
       moves-ended (core.held ++ h ∷ []) core.next_conn core.last (Lent k lent.id ∷ Ended t ∷ []) refl refl (omega (arith, more)) (omega arith)
-  test-answer (verdict.Refused c) created is false =
-      let u : one is_testing x ≡ 1 = ap (λ (b : Bool). cond {A = ℕ} b 1 0) is in
-      moves-changed to_connect core.idle core.last (Closed c ∷ []) refl refl refl (omega (arith, u))
+  test-answer (verdict.Refused c) d before created is false = test-next c d before created is (nat_lt (before + 1) core.options.idle_tries) refl core.idle refl
 
-  test-at : (v : Verdict C) (created : Moment) → is_testing x ≡ true → (b : Bool)
-      → Moves core (after_test k t (test_answer (cond b (Some created) None) core.shut v) core) (test_marks k t (judged v) (test_answer (cond b (Some created) None) core.shut v)) 0 0
-  test-at v created is true = test-answer v created is core.shut
-  test-at v created is false = moves-none core
+  test-at : (v : Verdict C) (d before : ℕ) (created : Moment) → x.phase ≡ phase.Testing d created before → (b : Bool)
+      → Moves core (after_test k t (test_answer (cond b (Some created) None) core.closed (nat_lt (before + 1) core.options.idle_tries) core.idle v) core)
+      (test_marks k t (judged v) (test_answer (cond b (Some created) None) core.closed (nat_lt (before + 1) core.options.idle_tries) core.idle v)) 0 0
+  test-at v d before created is true = test-answer v d before created is core.closed
+  test-at v d before created is false = moves-none core
 
   test-phase : (v : Verdict C) (p : Phase) → x.phase ≡ p
-      → Moves core (after_test k t (test_answer (tested_at (judged v) (Some p)) core.shut v) core) (test_marks k t (judged v) (test_answer (tested_at (judged v) (Some p)) core.shut v)) 0 0
-  test-phase v (phase.Testing d created) is = test-at v created (ap tests_one is) (judged v == d)
+      → Moves core (after_test k t (test_answer (tested_at (judged v) (Some p)) core.closed (may_test_next core.options.idle_tries (Some p)) core.idle v) core)
+      (test_marks k t (judged v) (test_answer (tested_at (judged v) (Some p)) core.closed (may_test_next core.options.idle_tries (Some p)) core.idle v)) 0 0
+  test-phase v (phase.Testing d created before) is = test-at v d before created is (judged v == d)
   test-phase v phase.Waiting is = moves-none core
   test-phase v phase.Connecting is = moves-none core
   test-phase v (phase.Backoff until) is = moves-none core
@@ -195,10 +220,10 @@ module _ {C : Type 0} (core : Core C) (sound : IsSound core) (k t : ℕ) (x : Ti
   connect-answer m tried.Fatal false = over m
 
   connect-phase : (m : ℕ) (tried : Tried C) (p : Phase)
-      → Moves core (after_connect k t m (try_answer_at p x core.shut core.next_conn m tried) core) (connect_marks k t m (try_answer_at p x core.shut core.next_conn m tried)) 0 0
-  connect-phase m tried phase.Connecting = connect-answer m tried core.shut
+      → Moves core (after_connect k t m (try_answer_at p x core.closed core.next_conn m tried) core) (connect_marks k t m (try_answer_at p x core.closed core.next_conn m tried)) 0 0
+  connect-phase m tried phase.Connecting = connect-answer m tried core.closed
   connect-phase m tried phase.Waiting = moves-none core
-  connect-phase m tried (phase.Testing c created) = moves-none core
+  connect-phase m tried (phase.Testing c created before) = moves-none core
   connect-phase m tried (phase.Backoff until) = moves-none core
 
   -- ---- cancel
@@ -207,23 +232,24 @@ module _ {C : Type 0} (core : Core C) (sound : IsSound core) (k t : ℕ) (x : Ti
   cancel-phase phase.Waiting = over core.last
   cancel-phase (phase.Backoff until) = over core.last
   cancel-phase phase.Connecting = moves-none core
-  cancel-phase (phase.Testing c created) = moves-none core
+  cancel-phase (phase.Testing c created before) = moves-none core
 
 -- ---- whatever the look-up finds
 
 module _ {C : Type 0} (core : Core C) (sound : IsSound core) (k t : ℕ) where
-  start-found : (m : ℕ) (o : Option Ticket) → ticket_of k t core.tickets ≡ o
-      → Moves core (started t m (start_answer (turn_of (is_first_in_line t core) m core o) core.idle) core) (start_marks t (option_map (λ (x : Ticket). x.phase) o) (start_answer (turn_of (is_first_in_line t core) m core o) core.idle)) 0 0
-  start-found m None e = moves-none core
-  start-found m (Some x) e = start-phase core sound k t x e m x.phase refl
+  start-found : (q : Bool) (m : ℕ) (o : Option Ticket) → ticket_of k t core.tickets ≡ o
+      → Moves core (started t m (start_answer (turn_of q core.closed m core o) core.idle) core) (start_marks t (option_map (λ (x : Ticket). x.phase) o) (start_answer (turn_of q core.closed m core o) core.idle)) 0 0
+  start-found q m None e = moves-none core
+  start-found q m (Some x) e = start-phase core sound k t x e q m x.phase refl
 
   test-found : (v : Verdict C) (o : Option Ticket) → ticket_of k t core.tickets ≡ o
-      → Moves core (after_test k t (test_answer (tested_at (judged v) (option_map (λ (x : Ticket). x.phase) o)) core.shut v) core) (test_marks k t (judged v) (test_answer (tested_at (judged v) (option_map (λ (x : Ticket). x.phase) o)) core.shut v)) 0 0
+      → Moves core (after_test k t (test_answer (tested_at (judged v) (option_map (λ (x : Ticket). x.phase) o)) core.closed (may_test_next core.options.idle_tries (option_map (λ (x : Ticket). x.phase) o)) core.idle v) core)
+      (test_marks k t (judged v) (test_answer (tested_at (judged v) (option_map (λ (x : Ticket). x.phase) o)) core.closed (may_test_next core.options.idle_tries (option_map (λ (x : Ticket). x.phase) o)) core.idle v)) 0 0
   test-found v None e = moves-none core
   test-found v (Some x) e = test-phase core sound k t x e v x.phase refl
 
   connect-found : (m : ℕ) (tried : Tried C) (o : Option Ticket) → ticket_of k t core.tickets ≡ o
-      → Moves core (after_connect k t m (connect_answer o core.shut core.next_conn m tried) core) (connect_marks k t m (connect_answer o core.shut core.next_conn m tried)) 0 0
+      → Moves core (after_connect k t m (connect_answer o core.closed core.next_conn m tried) core) (connect_marks k t m (connect_answer o core.closed core.next_conn m tried)) 0 0
   connect-found m tried None e = moves-none core
   connect-found m tried (Some x) e = connect-phase core sound k t x e m tried x.phase
 
@@ -284,9 +310,9 @@ module _ {C : Type 0} (core : Core C) (sound : IsSound core) where
   give-found k lent m h e false = loan-ended k lent.id h e core.leaked m (Closed lent.id ∷ []) refl refl refl (omega arith)
 
   give-loan : (k : ℕ) (lent : LentValue C) (m : ℕ) (accepted : Bool) (o : Option Held) → loan_of k lent.id core.held ≡ o
-      → Moves core (gave o lent m (give_answer core.options core.shut m accepted o lent) core) (give_marks lent.id m (give_answer core.options core.shut m accepted o lent)) (given_back (give_answer core.options core.shut m accepted o lent)) 0
+      → Moves core (gave o lent m (give_answer core.options core.closed m accepted o lent) core) (give_marks lent.id m (give_answer core.options core.closed m accepted o lent)) (given_back (give_answer core.options core.closed m accepted o lent)) 0
   give-loan k lent m accepted None e = moves-none core
-  give-loan k lent m accepted (Some h) e = give-found k lent m h e (accepted && not (closes (limits_of core.options) core.shut h.created.0 m))
+  give-loan k lent m accepted (Some h) e = give-found k lent m h e (accepted && not (closes (limits_of core.options) core.closed h.created.0 m))
 
   reap-found : (m : ℕ) (o : Option (Idle C)) → find (is_reaped_at core.options m) core.idle ≡ o → Moves core (reaped m o core) (reap_marks o) 0 0
   reap-found m None e = moves-none core
@@ -344,25 +370,25 @@ moved core new made becomes backs room r answer is left moves =
     subst (λ n. Moves core n (made r) (backs r) (room r)) (sym left) (subst (λ x. Moves core (becomes x) (made x) (backs x) (room x)) (sym is) moves)
 
 module _ {C : Type 0} (core new : Core C) (sound : IsSound core) where
-  pub start-moves : (k t m : ℕ) (r : Start C) → r ≡ start_answer (own_turn core k t m) core.idle → new ≡ started t m r core → Moves core new (start_marks t (phase_for k t core.tickets) r) 0 0
-  start-moves k t m r is left = moved core new (start_marks t (phase_for k t core.tickets)) (λ x. started t m x core) (λ x. 0) (λ x. 0) r _ is left (start-found core sound k t m (ticket_of k t core.tickets) refl)
+  pub start-moves : (q : Bool) (k t m : ℕ) (r : Start C) → r ≡ start_answer (turn_of q core.closed m core (ticket_of k t core.tickets)) core.idle → new ≡ started t m r core → Moves core new (start_marks t (phase_for k t core.tickets) r) 0 0
+  start-moves q k t m r is left = moved core new (start_marks t (phase_for k t core.tickets)) (λ x. started t m x core) (λ x. 0) (λ x. 0) r _ is left (start-found core sound k t q m (ticket_of k t core.tickets) refl)
 
-  pub test-moves : (k t : ℕ) (verdict : Verdict C) (r : AfterTest C) → r ≡ test_answer (tested_at (judged verdict) (phase_for k t core.tickets)) core.shut verdict → new ≡ after_test k t r core
+  pub test-moves : (k t : ℕ) (verdict : Verdict C) (r : AfterTest C) → r ≡ test_answer (tested_at (judged verdict) (phase_for k t core.tickets)) core.closed (may_test_next core.options.idle_tries (phase_for k t core.tickets)) core.idle verdict → new ≡ after_test k t r core
       → Moves core new (test_marks k t (judged verdict) r) 0 0
   test-moves k t v r is left = moved core new (test_marks k t (judged v)) (λ x. after_test k t x core) (λ x. 0) (λ x. 0) r _ is left (test-found core sound k t v (ticket_of k t core.tickets) refl)
 
-  pub connect-moves : (k t m : ℕ) (tried : Tried C) (r : AfterConnect C) → r ≡ connect_answer (ticket_of k t core.tickets) core.shut core.next_conn m tried → new ≡ after_connect k t m r core
+  pub connect-moves : (k t m : ℕ) (tried : Tried C) (r : AfterConnect C) → r ≡ connect_answer (ticket_of k t core.tickets) core.closed core.next_conn m tried → new ≡ after_connect k t m r core
       → Moves core new (connect_marks k t m r) 0 0
   connect-moves k t m tried r is left = moved core new (connect_marks k t m) (λ x. after_connect k t m x core) (λ x. 0) (λ x. 0) r _ is left (connect-found core sound k t m tried (ticket_of k t core.tickets) refl)
 
   pub cancel-moves : (k t : ℕ) (r : Bool) → r ≡ may_cancel (phase_for k t core.tickets) → new ≡ cancelled t r core → Moves core new (cancel_marks t r) 0 0
   cancel-moves k t r is left = moved core new (cancel_marks t) (λ x. cancelled t x core) (λ x. 0) (λ x. 0) r _ is left (cancel-found core sound k t (ticket_of k t core.tickets) refl)
 
-  pub try-moves : (k m : ℕ) (r : Option (LentValue C)) → r ≡ try_lent (may_pass core.shut (waiting core.tickets) (free core)) core.idle → new ≡ after_try k m r core
+  pub try-moves : (passes : Bool) (k m : ℕ) (r : Option (LentValue C)) → r ≡ try_lent passes core.idle → new ≡ after_try k m r core
       → Moves core new (try_marks k r) 0 (try_room r)
-  try-moves k m r is left = moved core new (try_marks k) (λ x. after_try k m x core) (λ x. 0) try_room r _ is left (try-idle core sound k m (may_pass core.shut (waiting core.tickets) (free core)) core.idle refl)
+  try-moves passes k m r is left = moved core new (try_marks k) (λ x. after_try k m x core) (λ x. 0) try_room r _ is left (try-idle core sound k m passes core.idle refl)
 
-  pub give-moves : (k m : ℕ) (lent : LentValue C) (accepted : Bool) (r : Given C) → r ≡ give_answer core.options core.shut m accepted (loan_of k lent.id core.held) lent
+  pub give-moves : (k m : ℕ) (lent : LentValue C) (accepted : Bool) (r : Given C) → r ≡ give_answer core.options core.closed m accepted (loan_of k lent.id core.held) lent
       → new ≡ gave (loan_of k lent.id core.held) lent m r core → Moves core new (give_marks lent.id m r) (given_back r) 0
   give-moves k m lent accepted r is left = moved core new (give_marks lent.id m) (λ x. gave (loan_of k lent.id core.held) lent m x core) given_back (λ x. 0) r _ is left (give-loan core sound k lent m accepted (loan_of k lent.id core.held) refl)
 
@@ -375,15 +401,15 @@ module _ {C : Type 0} (core new : Core C) (sound : IsSound core) where
   pub leak-moves : (k c : ℕ) (r : Bool) → r ≡ is_some (loan_of k c core.held) → new ≡ leaked c r core → Moves core new (leak_marks c r) (one_if r) 0
   leak-moves k c r is left = moved core new (leak_marks c) (λ x. leaked c x core) one_if (λ x. 0) r _ is left (leak-found core sound k c (loan_of k c core.held) refl)
 
-  pub reap-moves : (m : ℕ) (r : Option (Idle C)) → r ≡ reap_answer (may_pass core.shut (waiting core.tickets) (free core)) core.options m core.idle → new ≡ reaped m r core
+  pub reap-moves : (passes : Bool) (m : ℕ) (r : Option (Idle C)) → r ≡ reap_answer passes core.options m core.idle → new ≡ reaped m r core
       → Moves core new (reap_marks r) 0 0
-  reap-moves m r is left = moved core new reap_marks (λ x. reaped m x core) (λ x. 0) (λ x. 0) r _ is left (reap-may core sound m (may_pass core.shut (waiting core.tickets) (free core)))
+  reap-moves passes m r is left = moved core new reap_marks (λ x. reaped m x core) (λ x. 0) (λ x. 0) r _ is left (reap-may core sound m passes)
 
   pub place-moves : (r : Bool) → new ≡ placed r core → Moves core new [] 0 (place_room r)
   place-moves r left = subst (λ n. Moves core n [] 0 (place_room r)) (sym left) (place-held core sound r)
 
-  pub done-moves : (m : ℕ) (raw : Option C) → 1 ≤ core.places → new ≡ done m raw core → Moves core new (done_marks core.shut core.next_conn m raw) 0 0
-  done-moves m raw some left = subst (λ n. Moves core n (done_marks core.shut core.next_conn m raw) 0 0) (sym left) (done-with core sound m raw some core.shut)
+  pub done-moves : (m : ℕ) (raw : Option C) → 1 ≤ core.places → new ≡ done core.closed m raw core → Moves core new (done_marks core.closed core.next_conn m raw) 0 0
+  done-moves m raw some left = subst (λ n. Moves core n (done_marks core.closed core.next_conn m raw) 0 0) (sym left) (done-with core sound m raw some core.closed)
 
   same_marks : (shut : Bool) → close_marks shut core.idle ≡ close_marks shut (close_answer shut core.idle)
   same_marks true = refl
@@ -395,24 +421,25 @@ module _ {C : Type 0} (core new : Core C) (sound : IsSound core) where
       subst (λ n. Moves core n (close_marks core.shut r) 0 0) (sym left) made
 
 -- an ask that made a ticket
-pub ask-moves : {C : Type 0} (core new : Core C) (k deadline m : ℕ) → new ≡ at_moment m (asked k deadline core) → Moves core new (Asked core.next_ticket k deadline ∷ []) 0 ask_room
-ask-moves core new k deadline m left =
+pub ask-moves : {C : Type 0} (core new : Core C) (k deadline m : ℕ) → 1 ≤ core.options.idle_tries → new ≡ at_moment m (asked k deadline core) → Moves core new (Asked core.next_ticket k deadline ∷ []) 0 (ask_room core.options.idle_tries)
+ask-moves core new k deadline m some left =
     let x : Ticket = record { number = core.next_ticket; client = k; deadline = deadline; phase = phase.Waiting; first_try = record { 0 = 0 }; last_wait = None } in
     let more = length-push core.tickets x in
     let w : count_by waits (core.tickets ++ x ∷ []) ≡ count_by waits core.tickets + 1 = count-push waits core.tickets x in
     let u : count_by is_testing (core.tickets ++ x ∷ []) ≡ count_by is_testing core.tickets + 0 = count-push is_testing core.tickets x in
-    subst (λ n. Moves core n (Asked core.next_ticket k deadline ∷ []) 0 9) (sym left) (record {
+    let l : all_left_to_test core.options.idle_tries (core.tickets ++ x ∷ []) ≡ all_left_to_test core.options.idle_tries core.tickets + (core.options.idle_tries - 1) = sum-push (left_to_test core.options.idle_tries) core.tickets x in
+    subst (λ n. Moves core n (Asked core.next_ticket k deadline ∷ []) 0 (ask_room core.options.idle_tries)) (sym left) (record {
       tickets = omega (arith, more);
       numbers = omega arith;
       held = refl;
-      paid = omega (arith, more, w, u);
+      paid = omega (arith, more, w, u, l, some);
     })
 
 -- by the core before the ask
-pub asking-moves : {C : Type 0} (core now : Core C) (k deadline m : ℕ) (tickets : List Ticket) → core ≡ now
+pub asking-moves : {C : Type 0} (core now : Core C) (k deadline m : ℕ) (tickets : List Ticket) → 1 ≤ core.options.idle_tries → core ≡ now
     → tickets ≡ core.tickets ++ (record { number = core.next_ticket; client = k; deadline = deadline; phase = phase.Waiting; first_try = record { 0 = 0 }; last_wait = None }) ∷ []
-    → Moves now (record core { tickets = tickets; next_ticket = core.next_ticket + 1; last = m }) (Asked now.next_ticket k deadline ∷ []) 0 ask_room
-asking-moves {C} core now k deadline m tickets view put =
-    subst (λ (n : Core C). Moves n (record core { tickets = tickets; next_ticket = core.next_ticket + 1; last = m }) (Asked n.next_ticket k deadline ∷ []) 0 ask_room) view
-    (ask-moves core (record core { tickets = tickets; next_ticket = core.next_ticket + 1; last = m }) k deadline m
+    → Moves now (record core { tickets = tickets; next_ticket = core.next_ticket + 1; last = m }) (Asked now.next_ticket k deadline ∷ []) 0 (ask_room now.options.idle_tries)
+asking-moves {C} core now k deadline m tickets some view put =
+    subst (λ (n : Core C). Moves n (record core { tickets = tickets; next_ticket = core.next_ticket + 1; last = m }) (Asked n.next_ticket k deadline ∷ []) 0 (ask_room n.options.idle_tries)) view
+    (ask-moves core (record core { tickets = tickets; next_ticket = core.next_ticket + 1; last = m }) k deadline m some
     (ap (λ (l : List Ticket). record core { tickets = l; next_ticket = core.next_ticket + 1; last = m }) put))

@@ -27,49 +27,49 @@ among core k t x s found = found-among k t x 1 core.tickets core.next_ticket s.r
 
 begins_test : {C : Type 0} (q : Bool) (core : Core C) (x : Ticket) (m : ℕ) (i : Idle C) (rest : List (Idle C)) (tickets : List Ticket)
     → IsSound core → core.idle ≡ i ∷ rest → tickets ≡ with_ticket x.number (λ _. to_test m i x) core.tickets
-    → turn_of q m core (Some x) ≡ turn.Test → (q ≡ true → 0 < free core) → ticket_of x.client x.number core.tickets ≡ Some x
+    → turn_of q core.closed m core (Some x) ≡ turn.Test → (q ≡ true → 0 < free core) → ticket_of x.client x.number core.tickets ≡ Some x
     → IsSound (record core { tickets = tickets; idle = rest; last = m }) × (record core { tickets = tickets; idle = rest; last = m } ≡ started x.number m (start.Test i) core)
 begins_test {C} q core x m i rest tickets s first put t permit found =
     let is = among core x.client x.number x s found in
     let e : tickets ≡ with_ticket x.number (to_test m i) core.tickets = put ∙ changed-const x.number x (to_test m i x) core.tickets (to_test m i) is refl in
-    let at_test = turn-test q core m x t in
+    let at_test = turn-test q core.closed core m x t in
     let r : drop 1 core.idle ≡ rest = ap (λ (l : List (Idle C)). drop 1 l) first in
-    (rw e (sound-to_test core x.number x i rest m s is first at_test.leaves.numbers), rw (e, r) refl)
+    (rw e (sound-to_test core x.number x i rest m s is first (permit at_test.leaves.entitled)), rw (e, r) refl)
 
 pub begun-test : {C : Type 0} (q : Bool) (core now : Core C) (x : Ticket) (m : ℕ) (i : Idle C) (rest : List (Idle C)) (tickets : List Ticket)
     → core ≡ now → IsSound core → core.idle ≡ i ∷ rest → tickets ≡ with_ticket x.number (λ _. to_test m i x) core.tickets
-    → turn_of q m now (Some x) ≡ turn.Test → (q ≡ true → 0 < free now) → ticket_of x.client x.number now.tickets ≡ Some x
+    → turn_of q now.closed m now (Some x) ≡ turn.Test → (q ≡ true → 0 < free now) → ticket_of x.client x.number now.tickets ≡ Some x
     → IsSound (record core { tickets = tickets; idle = rest; last = m }) × (record core { tickets = tickets; idle = rest; last = m } ≡ started x.number m (start.Test i) now)
 begun-test {C} q core now x m i rest tickets view s first put =
-    subst (λ (n : Core C). turn_of q m n (Some x) ≡ turn.Test → (q ≡ true → 0 < free n) → ticket_of x.client x.number n.tickets ≡ Some x
+    subst (λ (n : Core C). turn_of q n.closed m n (Some x) ≡ turn.Test → (q ≡ true → 0 < free n) → ticket_of x.client x.number n.tickets ≡ Some x
     → IsSound (record core { tickets = tickets; idle = rest; last = m }) × (record core { tickets = tickets; idle = rest; last = m } ≡ started x.number m (start.Test i) n)) view (begins_test q core x m i rest tickets s first put)
 
 number-to_try : (m : ℕ) (x : Ticket) (p : Phase) → (to_try_at m p x).number ≡ x.number
 number-to_try m x phase.Waiting = refl
-number-to_try m x (phase.Testing c created) = refl
+number-to_try m x (phase.Testing c created before) = refl
 number-to_try m x phase.Connecting = refl
 number-to_try m x (phase.Backoff until) = refl
 
 begins_connect : {C : Type 0} (q : Bool) (core : Core C) (x y : Ticket) (m : ℕ) (tickets : List Ticket)
     → IsSound core → y ≡ to_try m x → tickets ≡ with_ticket y.number (λ _. y) core.tickets
-    → turn_of q m core (Some x) ≡ turn.Connect → (q ≡ true → 0 < free core) → ticket_of x.client x.number core.tickets ≡ Some x
+    → turn_of q core.closed m core (Some x) ≡ turn.Connect → (q ≡ true → 0 < free core) → ticket_of x.client x.number core.tickets ≡ Some x
     → IsSound (record core { tickets = tickets; last = m }) × (record core { tickets = tickets; last = m } ≡ started x.number m start.Connect core)
 begins_connect {C} q core x y m tickets s tries put t permit found =
     let is = among core x.client x.number x s found in
     let same : y.number ≡ x.number = ap number_of tries ∙ number-to_try m x x.phase in
     let e : tickets ≡ with_ticket x.number (to_try m) core.tickets = put ∙ ap (λ (n : ℕ). with_ticket n (λ _. y) core.tickets) same ∙ changed-const x.number x y core.tickets (to_try m) is tries in
-    let sound : IsSound (record core { tickets = with_ticket x.number (to_try m) core.tickets; last = m }) = elim (turn-connect q core m x t) [
-      | inl first ↦ sound-to_try_first core x.number x m s is first.leaves.waits (permit first.leaves.entitled) first.none first.leaves.numbers
+    let sound : IsSound (record core { tickets = with_ticket x.number (to_try m) core.tickets; last = m }) = elim (turn-connect q core.closed core m x t) [
+      | inl first ↦ sound-to_try_first core x.number x m s is first.leaves.waits (permit first.leaves.entitled) first.none
       | inr again ↦ sound-to_try_again core x.number x m again.until s is again.backs_off
     ] in
     (rw e sound, rw e refl)
 
 pub begun-connect : {C : Type 0} (q : Bool) (core now : Core C) (x y : Ticket) (m : ℕ) (tickets : List Ticket)
     → core ≡ now → IsSound core → y ≡ to_try m x → tickets ≡ with_ticket y.number (λ _. y) core.tickets
-    → turn_of q m now (Some x) ≡ turn.Connect → (q ≡ true → 0 < free now) → ticket_of x.client x.number now.tickets ≡ Some x
+    → turn_of q now.closed m now (Some x) ≡ turn.Connect → (q ≡ true → 0 < free now) → ticket_of x.client x.number now.tickets ≡ Some x
     → IsSound (record core { tickets = tickets; last = m }) × (record core { tickets = tickets; last = m } ≡ started x.number m start.Connect now)
 begun-connect {C} q core now x y m tickets view s tries put =
-    subst (λ (n : Core C). turn_of q m n (Some x) ≡ turn.Connect → (q ≡ true → 0 < free n) → ticket_of x.client x.number n.tickets ≡ Some x
+    subst (λ (n : Core C). turn_of q n.closed m n (Some x) ≡ turn.Connect → (q ≡ true → 0 < free n) → ticket_of x.client x.number n.tickets ≡ Some x
     → IsSound (record core { tickets = tickets; last = m }) × (record core { tickets = tickets; last = m } ≡ started x.number m start.Connect n)) view (begins_connect q core x y m tickets s tries put)
 
 -- ---- the ticket that a look-up finds

@@ -1,5 +1,5 @@
 -- A core's value goes on standing for the marks, one more mark at a time.
-use Rattle.std.proofs.Common.{◌≡◌, ℕ, ◌≤◌, false, ◌||◌, List, [], ◌∷◌, ◌++◌, map, All, sym, ap, ◌∙◌, arith}
+use Rattle.std.proofs.Common.{◌≡◌, ℕ, ◌≤◌, Bool, false, ◌||◌, List, [], ◌∷◌, ◌++◌, map, All, Option, Some, None, sym, ap, ◌∙◌, arith}
 use Rattle.std.proofs.lemmas.List.Elements.{All-push, All-weaker}
 use Rattle.sqlx_log.specs.declared.mark.Mark.{Mark}
 use Rattle.sqlx_log.specs.declared.mark.Mark.TheVariants.{Asked, Left, Taken, Reaped, Opened, Lent, Kept, Closed, Detached, Leaked, Ended, Shut}
@@ -10,11 +10,11 @@ use Rattle.sqlx_pool_core.specs.declared.ticket.Phase.{Phase}
 use Rattle.sqlx_pool_core.specs.declared.ticket.Phase.TheVariants as phase
 use Rattle.sqlx_pool_core.specs.declared.steps.Idle.{Idle}
 use Rattle.sqlx_log.specs.Standing.{next_after}
-use Rattle.sqlx_log.specs.Marks.{lends, ends_loan, keeps, ends_rest, ends_conn, is_shut, asked_number, opened_number}
+use Rattle.sqlx_log.specs.Marks.{lends, ends_loan, keeps, ends_rest, ends_conn, is_shut, asked_number, opened_number, next_ticket, next_conn}
 use Rattle.sqlx_log.specs.View.{stands_after, tickets_after, leaked_after}
 use Rattle.sqlx_pool_core.specs.Core.{Core, asking, loan, resting}
 use Rattle.sqlx_log.specs.Born.{IsNamedBelow, IsBorn}
-use Rattle.sqlx_pool_core.specs.StandsFor.{StandsFor, IsTestedBorn}
+use Rattle.sqlx_pool_core.specs.StandsFor.{StandsIn, StandsFor, IsTestedBorn}
 use Rattle.sqlx_log.proofs.Pushed.{loans_of-push, idle_of-push, tickets_of-push, leaked_of-push, shut-push, next_ticket-push, next_conn-push, IsBorn-push}
 
 -- ---- what the core keeps of births
@@ -60,15 +60,19 @@ IsNamedBelow-weaker t c u d tu cd (Leaked x) h = omega arith
 IsNamedBelow-weaker t c u d tu cd (Ended x) h = omega arith
 IsNamedBelow-weaker t c u d tu cd Shut h = tt
 
-pub stands-push : {C : Type 0} (old new : Core C) (marks : List Mark) (n : Mark) → StandsFor old marks → After marks old n new → StandsFor new (marks ++ n ∷ [])
+next_after-le : (o : Option ℕ) (a b : ℕ) → a ≤ b → next_after o a ≤ next_after o b
+next_after-le None a b le = le
+next_after-le (Some n) a b le = omega arith
+
+pub stands-push : {C : Type 0} (old new : Core C) (marks : List Mark) (n : Mark) → StandsIn old marks → After marks old n new → StandsIn new (marks ++ n ∷ [])
 stands-push old new marks n s a = record {
   tickets = a.tickets ∙ ap (λ l. tickets_after l n) s.tickets ∙ sym (tickets_of-push marks n);
   loans = a.loans ∙ ap (λ l. stands_after lends ends_loan l n) s.loans ∙ sym (loans_of-push marks n);
   idle = a.idle ∙ ap (λ l. stands_after keeps ends_rest l n) s.idle ∙ sym (idle_of-push marks n);
   leaked = a.leaked ∙ ap (λ l. leaked_after l n) s.leaked ∙ sym (leaked_of-push marks n);
   shut = a.shut ∙ ap (λ b. b || is_shut n) s.shut ∙ sym (shut-push marks n);
-  ticket_number = a.ticket_number ∙ ap (next_after (asked_number n)) s.ticket_number ∙ sym (next_ticket-push marks n);
-  conn_number = a.conn_number ∙ ap (next_after (opened_number n)) s.conn_number ∙ sym (next_conn-push marks n);
+  ticket_number = let e = a.ticket_number in let f = next_ticket-push marks n in let le = next_after-le (asked_number n) (next_ticket marks) old.next_ticket s.ticket_number in omega (arith, e, f, le);
+  conn_number = let e = a.conn_number in let f = next_conn-push marks n in let le = next_after-le (opened_number n) (next_conn marks) old.next_conn s.conn_number in omega (arith, e, f, le);
   named = All-push (IsNamedBelow new.next_ticket new.next_conn) marks n
       (All-weaker (IsNamedBelow old.next_ticket old.next_conn) (IsNamedBelow new.next_ticket new.next_conn)
       (IsNamedBelow-weaker old.next_ticket old.next_conn new.next_ticket new.next_conn a.more_tickets a.more_conns) marks s.named)
@@ -81,7 +85,7 @@ stands-push old new marks n s a = record {
 -- ---- what a mark leaves as it is
 
 tested_push : (marks : List Mark) (n : Mark) → ((c : ℕ) → ends_conn c n ≡ false) → (p : Phase) → IsTestedBorn marks p → IsTestedBorn (marks ++ n ∷ []) p
-tested_push marks n spares (phase.Testing c created) h = IsBorn-push marks n c created.0 (spares c) h
+tested_push marks n spares (phase.Testing c created before) h = IsBorn-push marks n c created.0 (spares c) h
 tested_push marks n spares phase.Waiting h = tt
 tested_push marks n spares phase.Connecting h = tt
 tested_push marks n spares (phase.Backoff until) h = tt
@@ -100,7 +104,7 @@ module _ (marks : List Mark) (n : Mark) (spares : (c : ℕ) → ends_conn c n �
 
 -- other options, another moment, other places
 pub stands-beside : {C : Type 0} (core : Core C) (marks : List Mark) (options : PoolOptions) (places last : ℕ)
-    → StandsFor core marks → StandsFor (record core { options = options; places = places; last = last }) marks
+    → StandsIn core marks → StandsIn (record core { options = options; places = places; last = last }) marks
 stands-beside core marks options places last s = record {
   tickets = s.tickets;
   loans = s.loans;
@@ -117,7 +121,7 @@ stands-beside core marks options places last s = record {
 
 -- tickets that say the same
 pub stands-alike : {C : Type 0} (core : Core C) (marks : List Mark) (tickets : List Ticket) → map asking tickets ≡ map asking core.tickets
-    → All (IsTicketBorn marks) tickets → StandsFor core marks → StandsFor (record core { tickets = tickets }) marks
+    → All (IsTicketBorn marks) tickets → StandsIn core marks → StandsIn (record core { tickets = tickets }) marks
 stands-alike core marks tickets alike born s = record {
   tickets = alike ∙ s.tickets;
   loans = s.loans;
@@ -130,4 +134,36 @@ stands-alike core marks tickets alike born s = record {
   held_born = s.held_born;
   idle_born = s.idle_born;
   tested_born = born;
+}
+
+-- whether the pool counts as closed is nothing to its log
+pub stands-counted : {C : Type 0} (core : Core C) (marks : List Mark) (closed : Bool) → StandsIn core marks → StandsIn (record core { closed = closed }) marks
+stands-counted core marks closed s = record {
+  tickets = s.tickets;
+  loans = s.loans;
+  idle = s.idle;
+  leaked = s.leaked;
+  shut = s.shut;
+  ticket_number = s.ticket_number;
+  conn_number = s.conn_number;
+  named = s.named;
+  held_born = s.held_born;
+  idle_born = s.idle_born;
+  tested_born = s.tested_born;
+}
+
+-- a lone pool's log is one that it stands for as any pool does
+pub stands-in : {C : Type 0} (core : Core C) (marks : List Mark) → StandsFor core marks → StandsIn core marks
+stands-in core marks s = record {
+  tickets = s.tickets;
+  loans = s.loans;
+  idle = s.idle;
+  leaked = s.leaked;
+  shut = s.shut;
+  ticket_number = let e = s.ticket_number in omega (arith, e);
+  conn_number = let e = s.conn_number in omega (arith, e);
+  named = s.named;
+  held_born = s.held_born;
+  idle_born = s.idle_born;
+  tested_born = s.tested_born;
 }

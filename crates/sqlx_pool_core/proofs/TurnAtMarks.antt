@@ -15,8 +15,9 @@ use Rattle.sqlx_log.specs.PollTable.{first_idle, numbered, turn_at_rest, is_firs
 use Rattle.sqlx_pool_core.specs.PollTable.{is_at_rest, backs_off_until, phase_turn}
 use Rattle.sqlx_pool_core.specs.OwnTurn.{before, is_first_in_line, turn_of, own_turn}
 use Rattle.sqlx_pool_core.specs.PollSteps.{phase_for}
-use Rattle.sqlx_pool_core.specs.StandsFor.{StandsFor}
+use Rattle.sqlx_pool_core.specs.StandsFor.{StandsIn, StandsFor}
 use Rattle.sqlx_log.proofs.ListFacts.{count_by-map, length_map, find-map, found_passes}
+use Rattle.sqlx_pool_core.proofs.Stands.{stands-in}
 
 -- ---- counts
 
@@ -26,7 +27,7 @@ left-asking tickets = sym (count_by-map asking has_left tickets)
 pub waiting-asking : (tickets : List Ticket) → waiting tickets ≡ waiting_in (map asking tickets)
 waiting-asking tickets = sym (count_by-map asking is_waiting tickets)
 
-module _ {C : Type 0} (core : Core C) (marks : List Mark) (s : StandsFor core marks) where
+module _ {C : Type 0} (core : Core C) (marks : List Mark) (s : StandsIn core marks) where
   pub gone-stands : gone core.tickets ≡ left_in (tickets_of marks)
   gone-stands = left-asking core.tickets ∙ ap left_in s.tickets
 
@@ -39,11 +40,11 @@ module _ {C : Type 0} (core : Core C) (marks : List Mark) (s : StandsFor core ma
   pub idle-stands : length core.idle ≡ length (idle_of marks)
   idle-stands = sym (length_map resting core.idle) ∙ ap length s.idle
 
-  pub free-stands : free core ≡ free_of core.options.max_connections (length (loans_of marks)) (leaked_of marks) (left_in (tickets_of marks)) core.places
-  free-stands = λ i. free_of core.options.max_connections (owned-stands i) (s.leaked i) (gone-stands i) core.places
+  pub free-stands : free core ≡ free_of core.permits (length (loans_of marks)) (leaked_of marks) (left_in (tickets_of marks)) core.places
+  free-stands = λ i. free_of core.permits (owned-stands i) (s.leaked i) (gone-stands i) core.places
 
   -- the permits that places for the minimum have are free to the marks
-  pub free-places : free core ≡ free_in core.options.max_connections (view_of marks) - core.places
+  pub free-places : free core ≡ free_in core.permits (view_of marks) - core.places
   free-places = free-stands ∙ omega arith
 
   pub size-stands : size core ≡ size_in (view_of marks) + core.places
@@ -75,9 +76,12 @@ at_rest-map f moment entitled shut conn idle deadline left until =
     (first_idle-map f idle)
 
 module _ {C : Type 0} (core : Core C) (marks : List Mark) (s : StandsFor core marks) (k t moment : ℕ) where
+  own-free : free core ≡ free_of core.options.max_connections (length (loans_of marks)) (leaked_of marks) (left_in (tickets_of marks)) core.places
+  own-free = free-stands core marks (stands-in core marks s) ∙ ap (λ (n : ℕ). free_of n (length (loans_of marks)) (leaked_of marks) (left_in (tickets_of marks)) core.places) s.permits
+
   -- who is first in the core's own line is so by its marks
   first-stands : is_first_in_line t core ≡ is_first_at core.options.max_connections core.places marks t
-  first-stands = λ i. nat_lt ((before-asking t core.tickets ∙ ap (before_in t) s.tickets) i) (free-stands core marks s i)
+  first-stands = λ i. nat_lt ((before-asking t core.tickets ∙ ap (before_in t) s.tickets) i) (own-free i)
 
   asked-is : (x : Ticket) → ticket_of k t core.tickets ≡ Some x → asked_in k t (tickets_of marks) ≡ Some (asking x)
   asked-is x e = ap (asked_in k t) (sym s.tickets) ∙ find-map asking (is_asked_by k t) core.tickets ∙ ap (option_map asking) e
@@ -95,7 +99,7 @@ module _ {C : Type 0} (core : Core C) (marks : List Mark) (s : StandsFor core ma
       ∙ sym (ap (turn_of_asked core.options.max_connections core.places marks moment (backs_off_until x.phase)) (asked-is x e))
 
   turn-found : (o : Option Ticket) → ticket_of k t core.tickets ≡ o
-      → turn_of (is_first_in_line t core) moment core o ≡ phase_turn core.options.max_connections core.places marks k t moment (option_map (λ (x : Ticket). x.phase) o)
+      → turn_of (is_first_in_line t core) core.shut moment core o ≡ phase_turn core.options.max_connections core.places marks k t moment (option_map (λ (x : Ticket). x.phase) o)
   turn-found None e = refl
   turn-found (Some x) e = ap (λ (w : Turn). cond (is_at_rest x.phase) w turned.NotHeld) (rests-at x e)
 

@@ -71,33 +71,33 @@ again_tests q core m until x t =
     let n = unless_first (ltb (2 ^ 63) core.next_conn) turn.Exhausted turn.Connect turn.Test w.1 (λ q. cc) in
     let e : turn.Connect ≡ turn.Test = n.1 in cc
 
-test_at : {C : Type 0} (q : Bool) (core : Core C) (m : ℕ) (x : Ticket) (p : Phase) → x.phase ≡ p
-    → (if is_at_rest p then (if core.shut then turn.Closed else (if leb x.deadline m then turn.TimedOut else in_time m q core.next_conn core.idle (is_out p) (backs_off_until p))) else turn.NotHeld) ≡ turn.Test
+test_at : {C : Type 0} (q closed : Bool) (core : Core C) (m : ℕ) (x : Ticket) (p : Phase) → x.phase ≡ p
+    → (if is_at_rest p then (if closed then turn.Closed else (if leb x.deadline m then turn.TimedOut else in_time m q core.next_conn core.idle (is_out p) (backs_off_until p))) else turn.NotHeld) ≡ turn.Test
     → Tests q core x
-test_at q core m x phase.Waiting e t =
-    let s = unless_first core.shut turn.Closed (if leb x.deadline m then turn.TimedOut else in_time m q core.next_conn core.idle false 0) turn.Test t (λ q. cc) in
+test_at q closed core m x phase.Waiting e t =
+    let s = unless_first closed turn.Closed (if leb x.deadline m then turn.TimedOut else in_time m q core.next_conn core.idle false 0) turn.Test t (λ q. cc) in
     let d = unless_first (leb x.deadline m) turn.TimedOut (in_time m q core.next_conn core.idle false 0) turn.Test s.1 (λ q. cc) in
     first_tests q core m x e d.1
-test_at q core m x (phase.Backoff until) e t =
-    let s = unless_first core.shut turn.Closed (if leb x.deadline m then turn.TimedOut else in_time m q core.next_conn core.idle true until) turn.Test t (λ q. cc) in
+test_at q closed core m x (phase.Backoff until) e t =
+    let s = unless_first closed turn.Closed (if leb x.deadline m then turn.TimedOut else in_time m q core.next_conn core.idle true until) turn.Test t (λ q. cc) in
     let d = unless_first (leb x.deadline m) turn.TimedOut (in_time m q core.next_conn core.idle true until) turn.Test s.1 (λ q. cc) in
     absurd (again_tests q core m until x d.1)
-test_at q core m x (phase.Testing c created) e t = absurd cc
-test_at q core m x phase.Connecting e t = absurd cc
+test_at q closed core m x (phase.Testing c created before) e t = absurd cc
+test_at q closed core m x phase.Connecting e t = absurd cc
 
-connect_at : {C : Type 0} (q : Bool) (core : Core C) (m : ℕ) (x : Ticket) (p : Phase) → x.phase ≡ p
-    → (if is_at_rest p then (if core.shut then turn.Closed else (if leb x.deadline m then turn.TimedOut else in_time m q core.next_conn core.idle (is_out p) (backs_off_until p))) else turn.NotHeld) ≡ turn.Connect
+connect_at : {C : Type 0} (q closed : Bool) (core : Core C) (m : ℕ) (x : Ticket) (p : Phase) → x.phase ≡ p
+    → (if is_at_rest p then (if closed then turn.Closed else (if leb x.deadline m then turn.TimedOut else in_time m q core.next_conn core.idle (is_out p) (backs_off_until p))) else turn.NotHeld) ≡ turn.Connect
     → ConnectsFirst q core x ⊎ ConnectsAgain core x
-connect_at q core m x phase.Waiting e t =
-    let s = unless_first core.shut turn.Closed (if leb x.deadline m then turn.TimedOut else in_time m q core.next_conn core.idle false 0) turn.Connect t (λ q. cc) in
+connect_at q closed core m x phase.Waiting e t =
+    let s = unless_first closed turn.Closed (if leb x.deadline m then turn.TimedOut else in_time m q core.next_conn core.idle false 0) turn.Connect t (λ q. cc) in
     let d = unless_first (leb x.deadline m) turn.TimedOut (in_time m q core.next_conn core.idle false 0) turn.Connect s.1 (λ q. cc) in
     inl (first_connects q core m x e d.1)
-connect_at q core m x (phase.Backoff until) e t = inr (record { until = until; backs_off = e })
-connect_at q core m x (phase.Testing c created) e t = absurd cc
-connect_at q core m x phase.Connecting e t = absurd cc
+connect_at q closed core m x (phase.Backoff until) e t = inr (record { until = until; backs_off = e })
+connect_at q closed core m x (phase.Testing c created before) e t = absurd cc
+connect_at q closed core m x phase.Connecting e t = absurd cc
 
-pub turn-test : {C : Type 0} (q : Bool) (core : Core C) (m : ℕ) (x : Ticket) → turn_of q m core (Some x) ≡ turn.Test → Tests q core x
-turn-test q core m x t = test_at q core m x x.phase refl t
+pub turn-test : {C : Type 0} (q closed : Bool) (core : Core C) (m : ℕ) (x : Ticket) → turn_of q closed m core (Some x) ≡ turn.Test → Tests q core x
+turn-test q closed core m x t = test_at q closed core m x x.phase refl t
 
-pub turn-connect : {C : Type 0} (q : Bool) (core : Core C) (m : ℕ) (x : Ticket) → turn_of q m core (Some x) ≡ turn.Connect → ConnectsFirst q core x ⊎ ConnectsAgain core x
-turn-connect q core m x t = connect_at q core m x x.phase refl t
+pub turn-connect : {C : Type 0} (q closed : Bool) (core : Core C) (m : ℕ) (x : Ticket) → turn_of q closed m core (Some x) ≡ turn.Connect → ConnectsFirst q core x ⊎ ConnectsAgain core x
+turn-connect q closed core m x t = connect_at q closed core m x x.phase refl t

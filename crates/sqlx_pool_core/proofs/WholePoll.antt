@@ -1,21 +1,10 @@
 -- What a whole poll comes to, from what each of its steps came to.
-use Rattle.std.proofs.Common.{◌≡◌, ℕ, ◌+◌, ◌≤◌, max, Bool, true, false, ◌&&◌, ◌==◌, cond, List, [], ◌∷◌, ◌++◌, Option, Some, None, option_map, refl, sym, ap, ◌∙◌, arith, eq-eqb, ◌⊎◌, inl, inr, if◌then◌else◌, nat_le}
+use Rattle.std.proofs.Common.{◌≡◌, ℕ, Bool, true, false, ◌&&◌, ◌==◌, cond, List, [], ◌∷◌, Option, Some, None, option_map, refl, sym, ap, ◌∙◌, ◌⊎◌, inl, inr, if◌then◌else◌, nat_le}
 use Rattle.sqlx_pool_core.specs.declared.ticket.Ticket.{Ticket}
 use Rattle.sqlx_pool_core.specs.declared.ticket.Phase.{Phase}
 use Rattle.sqlx_pool_core.specs.declared.ticket.Phase.TheVariants as phase
-use Rattle.sqlx_text.specs.declared.Moment.{Moment}
-use Rattle.sqlx_pool_core.specs.declared.steps.Verdict.{Verdict}
-use Rattle.sqlx_pool_core.specs.declared.steps.Verdict.TheVariants as verdict
 use Rattle.sqlx_pool_core.specs.declared.steps.Tried.{Tried}
 use Rattle.sqlx_pool_core.specs.declared.steps.Tried.TheVariants as tried
-use Rattle.sqlx_pool_core.specs.declared.steps.AfterConnect.{AfterConnect}
-use Rattle.sqlx_pool_core.specs.declared.steps.AfterConnect.TheVariants as connected
-use Rattle.sqlx_pool_core.specs.declared.steps.Polled.{Polled}
-use Rattle.sqlx_pool_core.specs.declared.probe.Opening.{Opening}
-use Rattle.sqlx_pool_core.specs.declared.probe.Opening.TheVariants as opening
-use Rattle.sqlx_pool_core.specs.declared.options.PoolOptions.{PoolOptions}
-use Rattle.sqlx_text.specs.declared.error.Error.TheVariants.{OutOfMemory}
-use Rattle.sqlx_pool_core.specs.Outside.{Reach}
 use Rattle.sqlx_pool_core.specs.Core.{Core, is_of, is_out, ticket_of}
 use Rattle.sqlx_log.specs.declared.turn.Turn.{Turn}
 use Rattle.sqlx_log.specs.declared.turn.Turn.TheVariants as turn
@@ -25,34 +14,9 @@ use Rattle.sqlx_pool_core.specs.OwnTurn.{is_first_in_line, turn_of, own_turn}
 use Rattle.sqlx_log.specs.PollTable.{in_time}
 use Rattle.sqlx_pool_core.specs.PollTable.{is_at_rest, backs_off_until}
 use Rattle.sqlx_pool_core.proofs.TurnCases.{unless_first, turn-test}
-use Rattle.sqlx_pool_core.specs.Sound.{IsSound}
-use Rattle.sqlx_pool_core.specs.Place.{IsAmong}
-use Rattle.sqlx_pool_core.specs.Edits.{with_ticket, to_test, to_try, to_try_at, to_connect, to_back_off}
-use Rattle.sqlx_pool_core.specs.PollSteps.{start_answer, started, judged, tested_at, test_answer, connect_answer, try_answer_at, after_connect, phase_for, wait_of}
-use Rattle.sqlx_pool_core.specs.PollWith.{Again, after_try, told_try, IsWant, untested}
-use Rattle.sqlx_pool_core.specs.PollParts.{IsTested, judged_answer, due, tried_answer, polled_of, try_of, try_shown}
-use Rattle.sqlx_pool_core.proofs.PollCode.{among}
-
--- ---- a ticket under test
-
-tested_found : (b : Bool) (created : Moment) → b ≡ true → (if b then Some created else None) ≡ Some created
-tested_found true created e = refl
-tested_found false created e = absurd cc
-
-tested_answer : {C : Type 0} (o : Option Moment) (shut : Bool) (created : Moment) (c d : ℕ) (verdict : Verdict C) → o ≡ Some created → shut ≡ false
-    → test_answer o shut verdict ≡ judged_answer (Some (phase.Testing d created)) verdict
-tested_answer o shut created c d (verdict.Accepted lent) e open_is = rw (e, open_is) refl
-tested_answer o shut created c d (verdict.Refused n) e open_is = rw (e, open_is) refl
-
--- the answer of the step after a test, where the connection is under test and the pool is open
-pub judged-answer : {C : Type 0} (p : Option Phase) (shut : Bool) (verdict : Verdict C) → IsTested (judged verdict) p → shut ≡ false
-    → test_answer (tested_at (judged verdict) p) shut verdict ≡ judged_answer p verdict
-judged-answer (Some (phase.Testing d created)) shut verdict is open_is =
-    tested_answer (tested_at (judged verdict) (Some (phase.Testing d created))) shut created (judged verdict) d verdict (tested_found (judged verdict == d) created (eq-eqb (judged verdict) d is)) open_is
-judged-answer (Some phase.Waiting) shut verdict is open_is = absurd is
-judged-answer (Some phase.Connecting) shut verdict is open_is = absurd is
-judged-answer (Some (phase.Backoff until)) shut verdict is open_is = absurd is
-judged-answer None shut verdict is open_is = absurd is
+use Rattle.sqlx_pool_core.specs.Edits.{with_ticket, to_test, to_try, to_try_at, to_connect}
+use Rattle.sqlx_pool_core.specs.PollSteps.{start_answer, started, connect_answer, try_answer_at, phase_for}
+use Rattle.sqlx_pool_core.specs.PollParts.{untested, due, tried_answer}
 
 -- ---- a ticket that connects
 
@@ -72,40 +36,6 @@ pub connecting-answer : {C : Type 0} (o : Option Ticket) (shut : Bool) (n m : �
 connecting-answer None shut n m tried e open_is = absurd cc
 connecting-answer (Some x) shut n m tried e open_is = let p : x.phase ≡ phase.Connecting = cc in connecting_at x.phase shut x n m tried p open_is
 
-pub late-max : (last now : ℕ) → now ≤ last → max last now ≡ last
-late-max last now h = omega arith
-
--- two changes that agree on the ticket agree on the list
-changed_alike : (t : ℕ) (x : Ticket) (tickets : List Ticket) (f g : Ticket → Ticket) → IsAmong t x tickets → f x ≡ g x → with_ticket t f tickets ≡ with_ticket t g tickets
-changed_alike t x tickets f g is same = is.changed f ∙ ap (λ (y : Ticket). is.front ++ y ∷ is.back) same ∙ sym (is.changed g)
-
-back_off_at : {C : Type 0} (core : Core C) (k t : ℕ) (o : Option Ticket) → IsSound core → ticket_of k t core.tickets ≡ o → option_map (λ (x : Ticket). x.phase) o ≡ Some phase.Connecting
-    → with_ticket t (λ x. to_back_off (wait_of x) (due core.last o) x) core.tickets ≡ with_ticket t (λ x. to_back_off (wait_of x) (core.last + wait_of x) x) core.tickets
-back_off_at core k t None s found p = absurd cc
-back_off_at core k t (Some x) s found p =
-    changed_alike t x core.tickets (λ y. to_back_off (wait_of y) (core.last + wait_of x) y) (λ y. to_back_off (wait_of y) (core.last + wait_of y) y) (among core k t x s found) refl
-
--- a refused try makes the ticket wait by its own wait
-pub backed-off : {C : Type 0} (core new : Core C) (k t : ℕ) (r : AfterConnect C) → IsSound core → phase_for k t core.tickets ≡ Some phase.Connecting
-    → r ≡ connected.Backoff (due core.last (ticket_of k t core.tickets)) → new ≡ after_connect k t core.last r core → new ≡ after_try k t core.last Again core
-backed-off {C} core new k t r s p is left =
-    left ∙ ap (λ (a : AfterConnect C). after_connect k t core.last a core) is
-    ∙ ap (λ (tickets : List Ticket). record core { tickets = tickets }) (back_off_at core k t (ticket_of k t core.tickets) s refl p)
-
--- ---- what a poll shows of its try
-
-pub shown-try : {C : Type 0} (n m until : ℕ) (o : Opening C) (r : Polled C) → r ≡ polled_of n m until o → try_shown r ≡ try_of o
-shown-try n m until (opening.Opened raw) r e = ap try_shown e
-shown-try n m until opening.Rejected r e = ap try_shown e
-shown-try n m until opening.Transient r e = ap try_shown e
-shown-try n m until (opening.Failed error) r e = ap try_shown e
-
--- a try that was told, by what the poll answers
-pub told-try : {C : Type 0} (n m until : ℕ) (o : Opening C) (r : Polled C) (options core : PoolOptions) (reach : Reach) (good : Bool) → r ≡ polled_of n m until o → options ≡ core
-    → (try_of o ≡ told_try options reach good) ⊎ (o ≡ opening.Failed OutOfMemory) → (try_shown r ≡ told_try core reach good) ⊎ IsWant r
-told-try n m until o r options core reach good e same (inl is) = inl (shown-try n m until o r e ∙ is ∙ ap (λ (p : PoolOptions). told_try p reach good) same)
-told-try n m until o r options core reach good e same (inr want) = inr (e ∙ ap (polled_of n m until) want)
-
 -- ---- the ticket in each phase of its poll
 
 unless_last : (b : Bool) (a z w : Turn) → (if b then a else z) ≡ w → (z ≡ w → ⊥) → (b ≡ true) × (a ≡ w)
@@ -113,7 +43,7 @@ unless_last true a z w e other = (refl, e)
 unless_last false a z w e other = absurd (other e)
 
 -- a turn that is neither of a closed pool nor of a ticket that isn't held is of an open pool
-open_turn : {C : Type 0} (q : Bool) (core : Core C) (m : ℕ) (x : Ticket) (w : Turn) → turn_of q m core (Some x) ≡ w → (turn.NotHeld ≡ w → ⊥) → (turn.Closed ≡ w → ⊥) → core.shut ≡ false
+open_turn : {C : Type 0} (q : Bool) (core : Core C) (m : ℕ) (x : Ticket) (w : Turn) → turn_of q core.shut m core (Some x) ≡ w → (turn.NotHeld ≡ w → ⊥) → (turn.Closed ≡ w → ⊥) → core.shut ≡ false
 open_turn q core m x w e held closed =
     let rest = unless_last (is_at_rest x.phase) (if core.shut then turn.Closed else (if nat_le x.deadline m then turn.TimedOut else in_time m q core.next_conn core.idle (is_out x.phase) (backs_off_until x.phase))) turn.NotHeld w e held in
     (unless_first core.shut turn.Closed (if nat_le x.deadline m then turn.TimedOut else in_time m q core.next_conn core.idle (is_out x.phase) (backs_off_until x.phase)) w rest.1 closed).0
@@ -157,14 +87,14 @@ connect_turn turn.Exhausted idle e = absurd cc
 connect_turn turn.Waiting idle e = absurd cc
 connect_turn (turn.Backoff until) idle e = absurd cc
 
-takes_at : {C : Type 0} (core : Core C) (k t m : ℕ) (i : Idle C) (o : Option Ticket) → ticket_of k t core.tickets ≡ o → turn_of (is_first_in_line t core) m core o ≡ turn.Test
+takes_at : {C : Type 0} (core : Core C) (k t m : ℕ) (i : Idle C) (o : Option Ticket) → ticket_of k t core.tickets ≡ o → turn_of (is_first_in_line t core) core.shut m core o ≡ turn.Test
     → (rest : List (Idle C)) → core.idle ≡ i ∷ rest → Takes core k t m i
 takes_at core k t m i None found e rest idle = absurd cc
 takes_at core k t m i (Some x) found e rest idle = record {
   x = x;
   found = found;
-  tests = ap (turn_of (is_first_in_line t core) m core) found ∙ e;
-  waits = (turn-test (is_first_in_line t core) core m x e).leaves.waits;
+  tests = ap (turn_of (is_first_in_line t core) core.shut m core) found ∙ e;
+  waits = (turn-test (is_first_in_line t core) core.shut core m x e).leaves.waits;
   rest = rest;
   idle = idle;
   open_is = open_turn (is_first_in_line t core) core m x turn.Test e (λ q. cc) (λ q. cc);
@@ -175,16 +105,16 @@ takes core k t m i e =
     let both = test_turn i (own_turn core k t m) core.idle e in
     takes_at core k t m i (ticket_of k t core.tickets) refl both.0 both.1.0 both.1.1
 
-tries_at : {C : Type 0} (core : Core C) (k t m : ℕ) (o : Option Ticket) → ticket_of k t core.tickets ≡ o → (turn_of (is_first_in_line t core) m core o ≡ turn.Connect) ⊎ ((turn_of (is_first_in_line t core) m core o ≡ turn.Test) × (core.idle ≡ [])) → Tries core k t m
+tries_at : {C : Type 0} (core : Core C) (k t m : ℕ) (o : Option Ticket) → ticket_of k t core.tickets ≡ o → (turn_of (is_first_in_line t core) core.shut m core o ≡ turn.Connect) ⊎ ((turn_of (is_first_in_line t core) core.shut m core o ≡ turn.Test) × (core.idle ≡ [])) → Tries core k t m
 tries_at core k t m None found (inl e) = absurd cc
 tries_at core k t m None found (inr e) = let no : turn.NotHeld ≡ turn.Test = e.0 in absurd cc
 tries_at core k t m (Some x) found (inl e) = record {
   x = x;
   found = found;
-  connects = ap (turn_of (is_first_in_line t core) m core) found ∙ e;
+  connects = ap (turn_of (is_first_in_line t core) core.shut m core) found ∙ e;
   open_is = open_turn (is_first_in_line t core) core m x turn.Connect e (λ q. cc) (λ q. cc);
 }
-tries_at {C} core k t m (Some x) found (inr e) = let is = turn-test (is_first_in_line t core) core m x e.0 in absurd (let no : ◌≡◌ {A = List (Idle C)} [] (is.first ∷ is.rest) = sym e.1 ∙ is.idle in cc)
+tries_at {C} core k t m (Some x) found (inr e) = let is = turn-test (is_first_in_line t core) core.shut core m x e.0 in absurd (let no : ◌≡◌ {A = List (Idle C)} [] (is.first ∷ is.rest) = sym e.1 ∙ is.idle in cc)
 
 pub tries : {C : Type 0} (core : Core C) (k t m : ℕ) → start.Connect ≡ start_answer (own_turn core k t m) core.idle → Tries core k t m
 tries core k t m e = tries_at core k t m (ticket_of k t core.tickets) refl (connect_turn (own_turn core k t m) core.idle e)
@@ -220,19 +150,19 @@ ticket-with k t f (x ∷ xs) num cl = by (ticket-with k t f xs num cl) (t == x.n
 
 number_try : (m : ℕ) (p : Phase) (x : Ticket) → (to_try_at m p x).number ≡ x.number
 number_try m phase.Waiting x = refl
-number_try m (phase.Testing c created) x = refl
+number_try m (phase.Testing c created before) x = refl
 number_try m phase.Connecting x = refl
 number_try m (phase.Backoff until) x = refl
 
 client_try : (m : ℕ) (p : Phase) (x : Ticket) → (to_try_at m p x).client ≡ x.client
 client_try m phase.Waiting x = refl
-client_try m (phase.Testing c created) x = refl
+client_try m (phase.Testing c created before) x = refl
 client_try m phase.Connecting x = refl
 client_try m (phase.Backoff until) x = refl
 
 phase_try : (m : ℕ) (p : Phase) (x : Ticket) → (to_try_at m p x).phase ≡ phase.Connecting
 phase_try m phase.Waiting x = refl
-phase_try m (phase.Testing c created) x = refl
+phase_try m (phase.Testing c created before) x = refl
 phase_try m phase.Connecting x = refl
 phase_try m (phase.Backoff until) x = refl
 
@@ -244,7 +174,7 @@ module _ {C : Type 0} (core mid : Core C) (k t m : ℕ) where
       ∙ ticket-with k t (to_test m i) core.tickets (λ x. refl) (λ x. refl)
       ∙ ap (option_map (to_test m i)) tk.found
 
-  pub taken-phase : (i : Idle C) (tk : Takes core k t m i) → mid ≡ started t m (start.Test i) core → phase_for k t mid.tickets ≡ Some (phase.Testing i.lent.id i.lent.created)
+  pub taken-phase : (i : Idle C) (tk : Takes core k t m i) → mid ≡ started t m (start.Test i) core → phase_for k t mid.tickets ≡ Some (phase.Testing i.lent.id i.lent.created 0)
   taken-phase i tk left = ap (option_map (λ (x : Ticket). x.phase)) (taken-ticket i tk left)
 
   -- the ticket after a test that refused its connection

@@ -8,7 +8,7 @@ use Rattle.sqlx_pool_core.specs.declared.steps.Given.TheVariants as given
 
 -- a step of its own is under way for the ticket
 abbrev pub is_busy : Option Phase → Bool
-is_busy (Some (phase.Testing c created)) = true
+is_busy (Some (phase.Testing c created before)) = true
 is_busy (Some phase.Connecting) = true
 is_busy other = false
 

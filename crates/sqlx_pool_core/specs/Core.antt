@@ -9,7 +9,7 @@ use Rattle.sqlx_pool_core.specs.declared.ticket.Phase.TheVariants.{Waiting}
 use Rattle.sqlx_log.specs.Marks.{PendingTicket, Loan, IdleEntry}
 use Rattle.sqlx_log.specs.Counts.{free_of}
 
--- Tickets in the order of asking, owned connections, idle ones in their order, and the numbers that come next.
+-- Tickets in the order of asking, owned connections, idle ones in their order, the permits that the pool owns, and the numbers that come next. It counts as closed where it is shut, or where what it belongs to is.
 pub record Core (C : Type 0) : Type 0 where
   pub options : PoolOptions
   pub tickets : List Ticket
@@ -17,7 +17,9 @@ pub record Core (C : Type 0) : Type 0 where
   pub idle : List (Idle C)
   pub leaked : ℕ
   pub shut : Bool
+  pub closed : Bool
   pub places : ℕ
+  pub permits : ℕ
   pub next_ticket : ℕ
   pub next_conn : ℕ
   pub last : ℕ
@@ -61,7 +63,11 @@ waiting tickets = count_by waits tickets
 
 -- the free permits
 abbrev pub free : {C : Type 0} → Core C → ℕ
-free core = free_of core.options.max_connections (length core.held) core.leaked (gone core.tickets) core.places
+free core = free_of core.permits (length core.held) core.leaked (gone core.tickets) core.places
+
+-- the permits that owned and leaked connections, tickets that have left, and places have
+abbrev pub taken : {C : Type 0} → Core C → ℕ
+taken core = length core.held + core.leaked + gone core.tickets + core.places
 
 -- the connections that there are or may be
 abbrev pub size : {C : Type 0} → Core C → ℕ
@@ -86,15 +92,17 @@ abbrev pub loan_of : ℕ → ℕ → List Held → Option Held
 loan_of k c held = find (is_held_by k c) held
 
 -- the value of these fields
-abbrev pub core_of : {C : Type 0} → PoolOptions → List Ticket → List Held → List (Idle C) → ℕ → Bool → ℕ → ℕ → ℕ → ℕ → Core C
-core_of options tickets held idle leaked shut places next_ticket next_conn last = record {
+abbrev pub core_of : {C : Type 0} → PoolOptions → List Ticket → List Held → List (Idle C) → ℕ → Bool → Bool → ℕ → ℕ → ℕ → ℕ → ℕ → Core C
+core_of options tickets held idle leaked shut closed places permits next_ticket next_conn last = record {
   options = options;
   tickets = tickets;
   held = held;
   idle = idle;
   leaked = leaked;
   shut = shut;
+  closed = closed;
   places = places;
+  permits = permits;
   next_ticket = next_ticket;
   next_conn = next_conn;
   last = last;

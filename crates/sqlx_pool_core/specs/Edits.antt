@@ -43,7 +43,16 @@ without_idle c idle = filter (is_another_idle c) idle
 
 -- it left the line at this moment, and its connection is tested
 abbrev pub to_test : {C : Type 0} → ℕ → Idle C → Ticket → Ticket
-to_test m i x = record x { phase = phase.Testing i.lent.id i.lent.created; first_try = record { 0 = m }; last_wait = None }
+to_test m i x = record x { phase = phase.Testing i.lent.id i.lent.created 0; first_try = record { 0 = m }; last_wait = None }
+
+-- how many connections were tested in this poll, where the one under test is refused
+abbrev pub tested_so_far : Phase → ℕ
+tested_so_far (phase.Testing c created before) = before + 1
+tested_so_far other = 0
+
+-- its connection was refused: this idle one is tested next
+abbrev pub to_next : {C : Type 0} → Idle C → Ticket → Ticket
+to_next i x = record x { phase = phase.Testing i.lent.id i.lent.created (tested_so_far x.phase) }
 
 -- its connection was refused: it connects
 abbrev pub to_connect : Ticket → Ticket

@@ -1,5 +1,5 @@
 -- Reaping, the minimum and closing: what each step answers, the marks that it makes, and what it makes of the core.
-use Rattle.std.specs.Prelude.{ℕ, ◌+◌, ◌-◌, Bool, true, false, ◌==◌, List, [], ◌∷◌, Option, Some, None, if◌then◌else◌, map, find, length}
+use Rattle.std.specs.Prelude.{ℕ, ◌+◌, ◌-◌, Bool, true, false, ◌==◌, List, [], ◌∷◌, Option, Some, None, if◌then◌else◌, map, find, length, not, ◌&&◌, ◌^◌, min, nat_lt}
 use Rattle.std.specs.List.{list_any}
 use Rattle.sqlx_pool_core.specs.Limits.{limits_of}
 use Rattle.sqlx_log.specs.declared.mark.Mark.{Mark}
@@ -45,6 +45,10 @@ without_first test (x ∷ xs) = if test x then xs else x ∷ without_first test 
 
 -- ---- the minimum
 
+-- a place may be held for a connection up to this minimum, where the line lets one pass
+abbrev pub has_place_if : {C : Type 0} → Bool → ℕ → Core C → Bool
+has_place_if passes minimum core = passes && nat_lt (size core) (min minimum core.options.max_connections) && not (nat_lt (2 ^ 63) core.next_conn)
+
 -- a place may be held for a connection up to this minimum
 abbrev pub has_place : {C : Type 0} → ℕ → Core C → Bool
 has_place minimum core = may_open core.shut (waiting core.tickets) (free core) (size core) minimum core.options.max_connections core.next_conn
@@ -77,9 +81,9 @@ abbrev pub done_at : {C : Type 0} → Bool → ℕ → Option C → Core C → C
 done_at false m (Some raw) core = opened (kept (record { id = core.next_conn; created = record { 0 = m }; raw = raw }) m core)
 done_at shut m raw core = core
 
--- the core after a place was used or given up
-abbrev pub done : {C : Type 0} → ℕ → Option C → Core C → Core C
-done m raw core = at_moment m (placed_back (done_at core.shut m raw core))
+-- the core after a place was used or given up, where the pool counts as closed or not
+abbrev pub done : {C : Type 0} → Bool → ℕ → Option C → Core C → Core C
+done closed m raw core = at_moment m (placed_back (done_at closed m raw core))
 
 -- ---- close
 
@@ -94,7 +98,7 @@ close_marks false idle = Shut ∷ map closed_idle idle
 
 -- the pool is shut, and nothing of it is idle
 abbrev pub closed : {C : Type 0} → Core C → Core C
-closed core = record core { shut = true; idle = [] }
+closed core = record core { shut = true; closed = true; idle = [] }
 
 -- the idle connections, all at the first close and none at a later one
 abbrev pub close_answer : {C : Type 0} → Bool → List (Idle C) → List (Idle C)

@@ -4,6 +4,8 @@ pub mod Core
 pub mod Sound
 pub mod StandsFor
 pub mod Makes
+pub mod Numbers
+pub mod Alone
 pub mod PollTable
 pub mod OwnTurn
 pub mod Outside
@@ -12,11 +14,13 @@ pub mod InPlace
 pub mod Place
 pub mod PollSteps
 pub mod ReturnSteps
-pub mod PollWith
+pub mod Calls
 pub mod PollParts
 pub mod KeepingSteps
 pub mod Moves
-pub mod KeepWith
-pub mod ToldTries
+pub mod Chain
+pub mod Walk
+pub mod Minimum
+pub mod Giving
 pub mod Answers
 pub mod Logs

@@ -1,5 +1,5 @@
 -- What a step does to the counts of a core, and how many marks are still due.
-use Rattle.std.specs.Prelude.{ℕ, ◌≡◌, ◌+◌, ◌*◌, ◌^◌, ◌<◌, ◌≤◌, Bool, true, false, List, Option, Some, None, if◌then◌else◌, count_by, length}
+use Rattle.std.specs.Prelude.{ℕ, ◌≡◌, ◌+◌, ◌-◌, ◌*◌, ◌^◌, ◌<◌, ◌≤◌, Bool, true, false, List, Option, Some, None, if◌then◌else◌, count_by, sum_by, length}
 use Rattle.sqlx_log.specs.declared.mark.Mark.{Mark}
 use Rattle.sqlx_log.specs.declared.mark.Mark.TheVariants.{Asked, Lent, Ended}
 use Rattle.sqlx_pool_core.specs.declared.ticket.Ticket.{Ticket}
@@ -43,7 +43,7 @@ lents marks = count_by is_lent marks
 
 -- a connection is under test
 abbrev pub tests_one : Phase → Bool
-tests_one (phase.Testing c created) = true
+tests_one (phase.Testing c created before) = true
 tests_one phase = false
 
 -- the ticket has a connection under test
@@ -54,10 +54,26 @@ is_testing x = tests_one x.phase
 abbrev pub testing : List Ticket → ℕ
 testing tickets = count_by is_testing tickets
 
+-- how many idle connections more may be tested in a poll of a ticket in this phase, if each is refused
+abbrev pub tests_left : ℕ → Phase → ℕ
+tests_left tries phase.Waiting = tries - 1
+tests_left tries (phase.Testing c created before) = tries - (before + 1)
+tests_left tries phase = 0
+
+-- how many more may be tested for this ticket
+abbrev pub left_to_test : ℕ → Ticket → ℕ
+left_to_test tries x = tests_left tries x.phase
+
+-- how many more may be tested for all tickets
+abbrev pub all_left_to_test : ℕ → List Ticket → ℕ
+all_left_to_test tries tickets = sum_by (left_to_test tries) tickets
+
 -- At most so many marks are made before the pool is closed and empty, where no ticket is asked, none is lent past the line and no place is held any more:
--- eight for a ticket that waits, seven for one whose connection is under test, six for another; two for a loan, one for an idle connection, three for a place, one for the close.
+-- eight for a ticket that waits, seven for one whose connection is under test, six for another, and two for each test that it may have yet;
+-- two for a loan, one for an idle connection, three for a place, one for the close.
 abbrev pub due : {C : Type 0} → Core C → ℕ
-due core = 6 * length core.tickets + 2 * waiting core.tickets + testing core.tickets + 2 * length core.held + length core.idle + 3 * core.places + (if core.shut then 0 else 1)
+due core = 6 * length core.tickets + 2 * waiting core.tickets + testing core.tickets + 2 * all_left_to_test core.options.idle_tries core.tickets
+    + 2 * length core.held + length core.idle + 3 * core.places + (if core.shut then 0 else 1)
 
 -- ---- steps
 
@@ -78,9 +94,9 @@ given_back given.Kept = 1
 given_back (given.Closed raw) = 1
 given_back (given.NotHeld raw) = 0
 
--- what an ask adds to what is due, and its own mark
-abbrev pub ask_room : ℕ
-ask_room = 9
+-- what an ask adds to what is due, and its own mark, where a poll tests so many connections at most
+abbrev pub ask_room : ℕ → ℕ
+ask_room tries = 7 + 2 * tries
 
 -- what a try adds
 abbrev pub try_room : {C : Type 0} → Option (LentValue C) → ℕ

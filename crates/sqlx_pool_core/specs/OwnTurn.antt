@@ -1,6 +1,8 @@
 -- The turn of a poll by the core's own lists.
-use Rattle.std.specs.Prelude.{ℕ, Bool, not, ◌==◌, List, Option, Some, None, if◌then◌else◌, nat_lt, take_while}
+use Rattle.std.specs.Prelude.{◌≡◌, ◌<◌, ℕ, Bool, true, not, ◌==◌, List, Option, Some, None, if◌then◌else◌, nat_lt, take_while}
 use Rattle.sqlx_pool_core.specs.declared.ticket.Ticket.{Ticket}
+use Rattle.sqlx_log.specs.declared.mark.Mark.{Mark}
+use Rattle.sqlx_log.specs.Marks.{next_conn}
 use Rattle.sqlx_log.specs.declared.turn.Turn.{Turn}
 use Rattle.sqlx_log.specs.declared.turn.Turn.TheVariants.{NotHeld}
 use Rattle.sqlx_log.specs.PollTable.{turn_at_rest}
@@ -19,12 +21,23 @@ before t tickets = waiting (take_while (is_another t) tickets)
 abbrev pub is_first_in_line : {C : Type 0} → ℕ → Core C → Bool
 is_first_in_line t core = nat_lt (before t core.tickets) (free core)
 
--- what the poll of a ticket comes to at a moment, entitled or not
-abbrev pub turn_of : {C : Type 0} → Bool → ℕ → Core C → Option Ticket → Turn
-turn_of entitled moment core None = NotHeld
-turn_of entitled moment core (Some x) =
-    if is_at_rest x.phase then turn_at_rest moment entitled core.shut core.next_conn core.idle x.deadline (is_out x.phase) (backs_off_until x.phase) else NotHeld
+-- what the poll of a ticket comes to at a moment, entitled or not, in a pool that counts as closed or not
+abbrev pub turn_of : {C : Type 0} → Bool → Bool → ℕ → Core C → Option Ticket → Turn
+turn_of entitled closed moment core None = NotHeld
+turn_of entitled closed moment core (Some x) =
+    if is_at_rest x.phase then turn_at_rest moment entitled closed core.next_conn core.idle x.deadline (is_out x.phase) (backs_off_until x.phase) else NotHeld
 
 -- what the poll of a client's ticket comes to at a moment, by the pool's own line
 abbrev pub own_turn : {C : Type 0} → Core C → ℕ → ℕ → ℕ → Turn
-own_turn core k t moment = turn_of (is_first_in_line t core) moment core (ticket_of k t core.tickets)
+own_turn core k t moment = turn_of (is_first_in_line t core) core.shut moment core (ticket_of k t core.tickets)
+
+-- A lone pool, which owns all its permits and draws its own numbers, entitles by its own line alone.
+pub record InOwnLine {C : Type 0} (core : Core C) (marks : List Mark) (t : ℕ) (entitled : Bool) : Type 0 where
+  pub all : core.permits ≡ core.options.max_connections
+  pub conns : core.next_conn ≡ next_conn marks
+  pub first : entitled ≡ true → before t core.tickets < free core
+
+-- A lone pool, which owns all its permits, lends past its own line alone: where fewer tickets wait than permits are free.
+pub record PastOwnLine {C : Type 0} (core : Core C) (passes : Bool) : Type 0 where
+  pub all : core.permits ≡ core.options.max_connections
+  pub first : passes ≡ true → waiting core.tickets < free core

@@ -1,126 +1,68 @@
--- What the parts of a whole poll ask of the outside, and what came of each.
-use Rattle.std.specs.Prelude.{◌≡◌, ℕ, ◌+◌, Bool, true, false, ◌⊎◌, ⊤, List, [], ◌∷◌, Option, Some, None, option_map, if◌then◌else◌}
+-- What is said of the parts of a whole poll.
+use Rattle.std.specs.Prelude.{◌≡◌, ℕ, ◌+◌, false, ◌⊎◌, ⊤, List, [], ◌∷◌, Option, Some, None, All}
 use Rattle.sqlx_text.specs.declared.error.Error.{Error}
 use Rattle.sqlx_text.specs.declared.error.Error.TheVariants.{OutOfMemory}
-use Rattle.sqlx_pool_core.specs.declared.probe.Check.{Check}
-use Rattle.sqlx_pool_core.specs.declared.probe.Check.TheVariants as check
+use Rattle.sqlx_pool_core.specs.declared.steps.Lent.{Lent}
+use Rattle.sqlx_pool_core.specs.declared.steps.Idle.{Idle}
+use Rattle.sqlx_pool_core.specs.declared.steps.Polled.{Polled}
+use Rattle.sqlx_pool_core.specs.declared.steps.Polled.TheVariants as polled
 use Rattle.sqlx_pool_core.specs.declared.probe.Opening.{Opening}
 use Rattle.sqlx_pool_core.specs.declared.probe.Opening.TheVariants as opening
 use Rattle.sqlx_pool_core.specs.declared.steps.Verdict.{Verdict}
 use Rattle.sqlx_pool_core.specs.declared.steps.Verdict.TheVariants as verdict
-use Rattle.sqlx_pool_core.specs.declared.steps.Lent.{Lent}
-use Rattle.sqlx_pool_core.specs.declared.steps.Polled.{Polled}
-use Rattle.sqlx_pool_core.specs.declared.steps.Polled.TheVariants as polled
-use Rattle.sqlx_pool_core.specs.declared.steps.Idle.{Idle}
 use Rattle.sqlx_pool_core.specs.declared.steps.Tried.{Tried}
 use Rattle.sqlx_pool_core.specs.declared.steps.Tried.TheVariants as tried
 use Rattle.sqlx_pool_core.specs.declared.steps.AfterConnect.{AfterConnect}
 use Rattle.sqlx_pool_core.specs.declared.steps.AfterConnect.TheVariants as connected
 use Rattle.sqlx_pool_core.specs.declared.ticket.Ticket.{Ticket}
-use Rattle.sqlx_pool_core.specs.declared.ticket.Phase.{Phase}
-use Rattle.sqlx_pool_core.specs.declared.ticket.Phase.TheVariants as phase
-use Rattle.sqlx_pool_core.specs.declared.steps.AfterTest.{AfterTest}
-use Rattle.sqlx_pool_core.specs.declared.steps.AfterTest.TheVariants as tested
-use Rattle.sqlx_log.specs.declared.mark.Mark.{Mark}
-use Rattle.sqlx_log.specs.declared.mark.Mark.TheVariants as mark
+use Rattle.sqlx_pool_core.specs.Calls.{Call}
 use Rattle.sqlx_pool_core.specs.Core.{Core}
-use Rattle.sqlx_pool_core.specs.Edits.{ended, lent_to}
-use Rattle.sqlx_pool_core.specs.Outside.{HasRisen, Told, is_transient, pinged_once, tested_once, set_up_once}
-use Rattle.sqlx_pool_core.specs.PollSteps.{wait_of, lent_since}
-use Rattle.sqlx_pool_core.specs.PollWith.{Try, Opens, Again, Fails, untested}
-
--- ---- a test
-
--- the connection may be lent
-abbrev pub is_pass : Check → Bool
-is_pass check.Pass = true
-is_pass check.Close = false
-is_pass check.CloseHard = false
-
--- the verdict accepts its connection
-abbrev pub is_accepted : {C : Type 0} → Verdict C → Bool
-is_accepted (verdict.Accepted lent) = true
-is_accepted (verdict.Refused c) = false
-
--- P of the connection that passed, if it did
-abbrev pub IfAccepted : {C : Type 0} → Verdict C → (Lent C → Type 0) → Type 0
-IfAccepted (verdict.Accepted lent) P = P lent
-IfAccepted (verdict.Refused c) P = ⊤
-
--- what is told after a ping, if one was sent
-abbrev pub told_pinged : Bool → Option Told → Option Told
-told_pinged true told = option_map pinged_once told
-told_pinged false told = told
-
--- what is told after the hook before an acquire, if it ran
-abbrev pub told_tested : Bool → Option Told → Option Told
-told_tested true told = option_map tested_once told
-told_tested false told = told
-
--- what is told after the hook after a connect, if it ran
-abbrev pub told_set_up : Bool → Option Told → Option Told
-told_set_up true told = option_map set_up_once told
-told_set_up false told = told
-
--- what is told of connects and of their hook is the same
-abbrev pub KeepsConnects : Option Told → Option Told → Type 0
-KeepsConnects None None = ⊤
-KeepsConnects (Some t) (Some u) = (u.connects ≡ t.connects) × (u.after_connects ≡ t.after_connects)
-KeepsConnects told other = ⊥
-
--- ---- a connect
-
--- what a try of a connect came to
-abbrev pub try_of : {C : Type 0} → Opening C → Try
-try_of (opening.Opened raw) = Opens
-try_of opening.Rejected = Again
-try_of opening.Transient = Again
-try_of (opening.Failed error) = Fails
-
--- the new connection passed its hook
-abbrev pub passes_hook : {C : Type 0} → Opening C → Bool
-passes_hook (opening.Opened raw) = true
-passes_hook other = false
-
--- what a refused connect comes to
-abbrev pub refused : {C : Type 0} → Error → Opening C
-refused error = if is_transient error then opening.Transient else opening.Failed error
-
--- P of the new connection, if there is one
-abbrev pub IfOpened : {C : Type 0} → Opening C → (C → Type 0) → Type 0
-IfOpened (opening.Opened raw) P = P raw
-IfOpened other P = ⊤
-
--- P of the error, if the connect was refused for good
-abbrev pub IfFailed : {C : Type 0} → Opening C → (Error → Type 0) → Type 0
-IfFailed (opening.Failed error) P = P error
-IfFailed other P = ⊤
+use Rattle.sqlx_pool_core.specs.Outside.{HasRisen, is_transient}
+use Rattle.sqlx_pool_core.specs.Edits.{with_ticket, to_connect}
+use Rattle.sqlx_pool_core.specs.PollSteps.{wait_of}
 
 -- why a connect is refused for good
 abbrev pub IsForGood : ℕ → ℕ → Error → Type 0
 IsForGood faults now error = ((error ≡ OutOfMemory) ⊎ HasRisen faults now) × (is_transient error ≡ false)
 
--- ---- the steps of the core
+-- P of the connection, if it passed its test
+abbrev pub IfAccepted : {C : Type 0} → Verdict C → (C → Type 0) → Type 0
+IfAccepted (verdict.Accepted lent) P = P lent.raw
+IfAccepted (verdict.Refused c) P = ⊤
 
--- the core after a test that the connection passed, or after which it was closed
-abbrev pub after_check : {C : Type 0} → ℕ → ℕ → Idle C → Bool → Core C → Core C
-after_check k t i true core = ended t (lent_to k i.lent.id i.lent.created core)
-after_check k t i false core = untested t core
+-- P of the connection, if one was opened
+abbrev pub IfOpened : {C : Type 0} → Opening C → (C → Type 0) → Type 0
+IfOpened (opening.Opened raw) P = P raw
+IfOpened other P = ⊤
 
--- the marks of a test
-abbrev pub check_made : ℕ → ℕ → ℕ → Bool → List Mark
-check_made k t c true = mark.Lent k c ∷ mark.Ended t ∷ []
-check_made k t c false = mark.Closed c ∷ []
+-- P of the error, if the try was refused for good
+abbrev pub IfFailed : {C : Type 0} → Opening C → (Error → Type 0) → Type 0
+IfFailed (opening.Failed error) P = P error
+IfFailed other P = ⊤
 
--- this connection is under test
-abbrev pub IsTested : ℕ → Option Phase → Type 0
-IsTested c (Some (phase.Testing d created)) = c ≡ d
-IsTested c other = ⊥
+-- P of the connection, if the poll lent one
+abbrev pub IfReady : {C : Type 0} → Polled C → (Lent C → Type 0) → Type 0
+IfReady (polled.Ready lent) P = P lent
+IfReady other P = ⊤
 
--- the answer after a test of the connection that is under test, in an open pool
-abbrev pub judged_answer : {C : Type 0} → Option Phase → Verdict C → AfterTest C
-judged_answer (Some (phase.Testing d created)) (verdict.Accepted lent) = tested.Ready (lent_since created lent)
-judged_answer other verdict = tested.Connect
+-- P of the error, if the connect was refused for good
+abbrev pub IfRefused : {C : Type 0} → Polled C → (Error → Type 0) → Type 0
+IfRefused (polled.Refused error) P = P error
+IfRefused other P = ⊤
+
+-- how many levels the first idle connection has open
+abbrev pub first_depth : {C : Type 0} → (C → ℕ) → List (Idle C) → ℕ
+first_depth depth [] = 0
+first_depth depth (i ∷ rest) = depth i.lent.raw
+
+-- No level of these connections is open, and no call opens one.
+pub record StayAtRest {C O X : Type 0} (does : Call C O → X → X → Type 0) (depth : X → C → ℕ) (idle : List (Idle C)) (out : X) : Type 0 where
+  pub now : All (λ i. depth out i.lent.raw ≡ 0) idle
+  pub later : (c : Call C O) (old new : X) → does c old new → All (λ i. depth old i.lent.raw ≡ 0) idle → All (λ i. depth new i.lent.raw ≡ 0) idle
+
+-- the connection under test is gone: its ticket connects
+abbrev pub untested : {C : Type 0} → ℕ → Core C → Core C
+untested t core = record core { tickets = with_ticket t to_connect core.tickets }
 
 -- until when a refused try at m makes the ticket wait
 abbrev pub due : ℕ → Option Ticket → ℕ
@@ -133,40 +75,3 @@ tried_answer n m until (tried.Opened raw) = connected.Ready (record { id = n; cr
 tried_answer n m until tried.Rejected = connected.Backoff until
 tried_answer n m until tried.Transient = connected.Backoff until
 tried_answer n m until tried.Fatal = connected.Ended
-
--- what a poll answers after a try
-abbrev pub polled_of : {C : Type 0} → ℕ → ℕ → ℕ → Opening C → Polled C
-polled_of n m until (opening.Opened raw) = polled.Ready (record { id = n; created = record { 0 = m }; raw = raw })
-polled_of n m until opening.Rejected = polled.Backoff until
-polled_of n m until opening.Transient = polled.Backoff until
-polled_of n m until (opening.Failed error) = polled.Refused error
-
--- the ticket was served, or backs off
-abbrev pub IsAnswer : {C : Type 0} → AfterConnect C → Type 0
-IsAnswer (connected.Ready lent) = ⊤
-IsAnswer (connected.Backoff until) = ⊤
-IsAnswer other = ⊥
-
--- what a poll answers after a try that was not refused for good
-abbrev pub answered : {C : Type 0} → AfterConnect C → Polled C
-answered (connected.Ready lent) = polled.Ready lent
-answered (connected.Backoff until) = polled.Backoff until
-answered other = polled.NotHeld
-
--- ---- what a poll answers
-
--- the try that a poll ended with, by its answer
-abbrev pub try_shown : {C : Type 0} → Polled C → Try
-try_shown (polled.Ready lent) = Opens
-try_shown (polled.Backoff until) = Again
-try_shown other = Fails
-
--- P of the connection, if the poll lent one
-abbrev pub IfReady : {C : Type 0} → Polled C → (Lent C → Type 0) → Type 0
-IfReady (polled.Ready lent) P = P lent
-IfReady other P = ⊤
-
--- P of the error, if the connect was refused for good
-abbrev pub IfRefused : {C : Type 0} → Polled C → (Error → Type 0) → Type 0
-IfRefused (polled.Refused error) P = P error
-IfRefused other P = ⊤

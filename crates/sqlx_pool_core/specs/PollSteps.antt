@@ -1,5 +1,5 @@
 -- The steps of a poll, of a cancel and of a try: what each answers, the marks that it makes, and what it makes of the core.
-use Rattle.std.specs.Prelude.{ℕ, ◌+◌, Bool, true, false, ◌==◌, List, [], ◌∷◌, Option, Some, None, if◌then◌else◌, option_map}
+use Rattle.std.specs.Prelude.{ℕ, ◌+◌, Bool, true, false, ◌==◌, List, [], ◌∷◌, Option, Some, None, if◌then◌else◌, nat_lt, option_map}
 use Rattle.sqlx_text.specs.declared.Moment.{Moment}
 use Rattle.sqlx_log.specs.declared.mark.Mark.{Mark}
 use Rattle.sqlx_log.specs.declared.mark.Mark.TheVariants.{Left, Taken, Opened, Lent, Closed, Ended}
@@ -22,7 +22,7 @@ use Rattle.sqlx_pool_core.specs.declared.steps.AfterConnect.{AfterConnect}
 use Rattle.sqlx_pool_core.specs.declared.steps.AfterConnect.TheVariants as connected
 use Rattle.sqlx_pool_core.specs.Core.{Core, ticket_of}
 use Rattle.sqlx_log.specs.Backoff.{cap, next_wait}
-use Rattle.sqlx_pool_core.specs.Edits.{with_ticket, to_test, to_try, to_connect, to_back_off, ended, lent_to, took, opened, at_moment}
+use Rattle.sqlx_pool_core.specs.Edits.{with_ticket, to_test, tested_so_far, to_next, to_try, to_connect, to_back_off, ended, lent_to, took, opened, at_moment}
 
 -- the phase of this client's ticket
 abbrev pub phase_for : ℕ → ℕ → List Ticket → Option Phase
@@ -79,7 +79,7 @@ judged (verdict.Refused c) = c
 
 -- when the connection under test was opened, where it is this one
 abbrev pub tested_at : ℕ → Option Phase → Option Moment
-tested_at c (Some (phase.Testing d created)) = if c == d then Some created else None
+tested_at c (Some (phase.Testing d created before)) = if c == d then Some created else None
 tested_at c other = None
 
 -- the connection of an accepting verdict
@@ -91,18 +91,29 @@ accepted_raw (verdict.Refused c) = None
 abbrev pub lent_since : {C : Type 0} → Moment → LentValue C → LentValue C
 lent_since created lent = record lent { created = created }
 
+-- after a refusal one more idle connection may be tested in this poll, of so many at most
+abbrev pub may_test_next : ℕ → Option Phase → Bool
+may_test_next tries (Some phase) = nat_lt (tested_so_far phase) tries
+may_test_next tries None = false
+
+-- what follows a refused test: the first idle connection is tested, where that may be and one is idle
+abbrev pub after_refusal : {C : Type 0} → Bool → List (Idle C) → AfterTest C
+after_refusal true (i ∷ rest) = tested.Test i
+after_refusal next idle = tested.Connect
+
 -- the answer to a test
-abbrev pub test_answer : {C : Type 0} → Option Moment → Bool → Verdict C → AfterTest C
-test_answer None shut verdict = tested.NotHeld verdict
-test_answer (Some created) true verdict = tested.Closed (accepted_raw verdict)
-test_answer (Some created) false (verdict.Accepted lent) = tested.Ready (lent_since created lent)
-test_answer (Some created) false (verdict.Refused c) = tested.Connect
+abbrev pub test_answer : {C : Type 0} → Option Moment → Bool → Bool → List (Idle C) → Verdict C → AfterTest C
+test_answer None shut next idle verdict = tested.NotHeld verdict
+test_answer (Some created) true next idle verdict = tested.Closed (accepted_raw verdict)
+test_answer (Some created) false next idle (verdict.Accepted lent) = tested.Ready (lent_since created lent)
+test_answer (Some created) false next idle (verdict.Refused c) = after_refusal next idle
 
 -- the marks of a test
 abbrev pub test_marks : {C : Type 0} → ℕ → ℕ → ℕ → AfterTest C → List Mark
 test_marks k t c (tested.NotHeld verdict) = []
 test_marks k t c (tested.Closed raw) = Closed c ∷ Ended t ∷ []
 test_marks k t c (tested.Ready lent) = Lent k c ∷ Ended t ∷ []
+test_marks k t c (tested.Test i) = Closed c ∷ Taken i.lent.id ∷ []
 test_marks k t c tested.Connect = Closed c ∷ []
 
 -- the core after a test
@@ -110,6 +121,7 @@ abbrev pub after_test : {C : Type 0} → ℕ → ℕ → AfterTest C → Core C 
 after_test k t (tested.NotHeld verdict) core = core
 after_test k t (tested.Closed raw) core = ended t core
 after_test k t (tested.Ready lent) core = ended t (lent_to k lent.id lent.created core)
+after_test k t (tested.Test i) core = took (record core { tickets = with_ticket t (to_next i) core.tickets })
 after_test k t tested.Connect core = record core { tickets = with_ticket t to_connect core.tickets }
 
 -- ---- finish_connect

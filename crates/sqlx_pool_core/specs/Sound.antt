@@ -5,7 +5,7 @@ use Rattle.sqlx_pool_core.specs.declared.ticket.Held.{Held}
 use Rattle.sqlx_pool_core.specs.declared.ticket.Phase.{Phase}
 use Rattle.sqlx_pool_core.specs.declared.ticket.Phase.TheVariants as phase
 use Rattle.sqlx_pool_core.specs.declared.steps.Idle.{Idle}
-use Rattle.sqlx_pool_core.specs.Core.{Core, size, gone}
+use Rattle.sqlx_pool_core.specs.Core.{Core, size, taken}
 
 -- the numbers rise, from low on and below high
 abbrev pub IsRising : ℕ → List ℕ → ℕ → Type 0
@@ -18,7 +18,7 @@ number_of t = t.number
 
 -- this connection is under test in this phase
 abbrev pub is_tested : ℕ → Phase → Bool
-is_tested c (phase.Testing d created) = c == d
+is_tested c (phase.Testing d created before) = c == d
 is_tested c other = false
 
 -- the ticket has this connection under test
@@ -41,11 +41,15 @@ places_of c tickets held idle = count_by (tests c) tickets + count_by (holds c) 
 pub record IsSound {C : Type 0} (core : Core C) : Type 0 where
   pub some : 1 ≤ core.options.max_connections
   pub few : core.options.max_connections < 2 ^ 32
+  pub tries : 1 ≤ core.options.idle_tries
+  pub few_tries : core.options.idle_tries ≤ 16
   pub rising : IsRising 1 (map number_of core.tickets) core.next_ticket
   pub within : size core ≤ core.options.max_connections
+  pub paid : taken core ≤ core.permits
+  pub owns : core.permits ≤ core.options.max_connections
+  pub own : core.closed ≡ false → core.shut ≡ false
   pub few_tickets : core.next_ticket ≤ 2 ^ 63 + 1
   pub numbers : 1 ≤ core.next_conn
-  pub few_conns : core.next_conn + gone core.tickets + core.places ≤ 2 ^ 63 + 1 + core.options.max_connections
   pub once : (c : ℕ) → places_of c core.tickets core.held core.idle ≤ 1
   pub opened : (c : ℕ) → core.next_conn ≤ c → places_of c core.tickets core.held core.idle ≡ 0
 

@@ -5,12 +5,12 @@
 //! by a list of [`Mark`]s, and every rule of the pool is a definition over such a list (`specs/`).
 #![tactic(auto)]
 
-mod filled;
 mod lists;
+mod member;
 mod options;
 mod outside;
 mod pool_core;
-mod probe;
+pub mod probe;
 mod steps;
 mod ticket;
 
@@ -19,6 +19,6 @@ pub use outside::{Outside, PoolConnectionMetadata};
 pub use pool_core::PoolCore;
 pub use sqlx_log::{Mark, laws};
 pub use steps::{
-    AfterConnect, AfterTest, CloseState, Given, Idle, Lent, Numbers, Openings, Polled, Start,
-    Tried, Verdict,
+    AfterConnect, AfterTest, CloseState, Given, Idle, Lent, Numbers, Openings, Polled, Returned,
+    Start, Tried, Verdict,
 };

@@ -1,9 +1,9 @@
 //! Questions about tickets and loans, and the edits of their lists.
 
-ghost use Rattle.std.specs.Prelude.{◌≡◌, ℕ, ◌+◌, ◌<◌, ◌≤◌, ◌==◌, not, ◌&&◌, if◌then◌else◌, Option, IfSome, IfNone, slice_get, slice_set, slice_index_or, find, filter, count_by, take_while, vec_len, vec_capacity, List, [], ◌∷◌, ◌++◌};
+ghost use Rattle.std.specs.Prelude.{◌≡◌, ℕ, ◌+◌, ◌*◌, ◌<◌, ◌≤◌, ◌==◌, not, ◌&&◌, if◌then◌else◌, Option, IfSome, IfNone, slice_get, slice_set, slice_index_or, find, filter, count_by, take_while, length, vec_len, vec_capacity, List, [], ◌∷◌, ◌++◌};
 ghost use Rattle.std.specs.VecDeque.{deque_len, deque_capacity};
 ghost use Rattle.sqlx_pool_core.specs.Core.{is_out, waits, has_gone, waiting, gone, is_of, is_held_by, ticket_of, loan_of};
-ghost use Rattle.sqlx_pool_core.specs.Moves.{testing};
+ghost use Rattle.sqlx_pool_core.specs.Moves.{testing, left_to_test, all_left_to_test};
 ghost use Rattle.sqlx_pool_core.specs.OwnTurn.{before};
 ghost use Rattle.sqlx_pool_core.specs.Edits.{without_ticket, without_loan, with_ticket};
 
@@ -43,6 +43,27 @@ pub fn testing_of(tickets: &[Ticket]) -> usize
         .iter()
         .filter(|x| matches!(x.phase, Phase::Testing { .. }))
         .count()
+}
+
+// How many idle connections more may be tested for a ticket.
+fn tests_left(ticket: &Ticket, tries: u32) -> u32
+    ensures left { result ≡ left_to_test tries ticket.now }
+    ensures few { result ≤ tries }
+{
+    match ticket.phase {
+        Phase::Waiting => tries.saturating_sub(1),
+        Phase::Testing { before, .. } => tries.saturating_sub(before).saturating_sub(1),
+        _ => 0,
+    }
+}
+
+/// How many idle connections more may be tested for all tickets.
+pub fn left_to_test(tickets: &[Ticket], tries: u32) -> usize
+    requires { tries ≤ 16 }
+    ensures left { result ≡ all_left_to_test tries tickets.now }
+    ensures few { result ≤ length tickets.now * 16 }
+{
+    tickets.iter().map(|x| tests_left(x, tries) as usize).sum()
 }
 
 /// How many waiting tickets were asked before this one.

@@ -20,6 +20,7 @@ pub struct PoolOptions {
     acquire_time_level: LevelFilter,
     acquire_slow_level: LevelFilter,
     acquire_slow_threshold: u64,
+    idle_tries: u32,
 }
 
 const SECOND: u64 = 1_000_000_000;
@@ -27,7 +28,7 @@ const SECOND: u64 = 1_000_000_000;
 impl PoolOptions {
     /// At most 10 connections and none kept at least; an acquire times out after 30 s, an idle connection
     /// is closed after 10 minutes and any connection after 30; idle connections are tested before they are
-    /// lent; no hooks; acquires that take 2 s are logged as warnings.
+    /// lent, one in each poll; no hooks; acquires that take 2 s are logged as warnings.
     pub fn new() -> Self
         ensures { result ≡ record {
           max_connections = 10;
@@ -42,6 +43,7 @@ impl PoolOptions {
           acquire_time_level = LevelFilter.Off;
           acquire_slow_level = LevelFilter.Warn;
           acquire_slow_threshold = 2 * second;
+          idle_tries = 1;
         } }
     {
         PoolOptions {
@@ -57,6 +59,7 @@ impl PoolOptions {
             acquire_time_level: LevelFilter::Off,
             acquire_slow_level: LevelFilter::Warn,
             acquire_slow_threshold: 2 * SECOND,
+            idle_tries: 1,
         }
     }
 
@@ -262,5 +265,23 @@ impl PoolOptions {
         ensures { result ≡ self.now.acquire_slow_threshold }
     {
         self.acquire_slow_threshold
+    }
+
+    /// How many idle connections are tested in one poll at most, before a new one is opened: from 1 to 16 in a pool.
+    /// sqlx has no such limit.
+    pub fn idle_tries(self, tries: u32) -> Self
+        ensures { result ≡ record self { idle_tries = tries } }
+    {
+        PoolOptions {
+            idle_tries: tries,
+            ..self
+        }
+    }
+
+    /// How many idle connections are tested in one poll at most, before a new one is opened.
+    pub fn get_idle_tries(&self) -> u32
+        ensures { result ≡ self.now.idle_tries }
+    {
+        self.idle_tries
     }
 }

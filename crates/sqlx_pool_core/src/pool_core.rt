@@ -1,6 +1,6 @@
-//! The state of a pool, and the questions that change nothing. The steps stand in the modules below.
-//! Where a public step is one call of an inner one, the inner one says what it does by the core's own lists, and the
-//! public one concludes from that what it says by marks.
+//! A pool that is alone, and the questions that change nothing. The steps stand in the modules below.
+//! Each is a step of the member inside, at a moment that isn't below the last one; and since a lone pool draws its own
+//! numbers and owns all its permits, what it says by marks is exact.
 
 ghost use Rattle.std.specs.Prelude.{◌≡◌, ℕ, ◌+◌, ◌<◌, ◌≤◌, max, List, [], Option, Some, None, IfOk, length, if◌then◌else◌, not};
 ghost use Rattle.sqlx_log.specs.declared.mark.Mark.{Mark};
@@ -17,88 +17,55 @@ mod closing;
 mod counts;
 mod finish;
 mod give;
+mod give_with;
 mod keep_minimum;
 mod keeping;
 mod poll;
 mod poll_with;
 
-use crate::lists;
+use crate::member::Member;
 use crate::options::PoolOptions;
-use crate::steps::Idle;
-use crate::ticket::{Held, Phase, Ticket};
-use sqlx_log::Turn;
 use sqlx_text::{Moment, OutOfMemory};
 use std::alloc::Global;
-use std::collections::VecDeque;
 use std::marker::Model;
 
-// How many tickets, and how many connections, a pool numbers.
-const NUMBERS: u64 = 1 << 63;
-
-/// A pool: who waits, who owns which connection, and which connections are idle.
+/// A pool of its own: who waits, who owns which connection, and which connections are idle. It owns all its permits,
+/// and entitles by its own line.
 #[derive(Drop)]
 pub struct PoolCore<C> {
-    options: PoolOptions,
-    tickets: Vec<Ticket>,
-    held: Vec<Held>,
-    idle: VecDeque<Idle<C>>,
-    leaked: u32,
-    shut: bool,
-    places: u32,
-    next_ticket: u64,
-    next_conn: u64,
-    last: Moment,
+    pool: Member<C>,
 }
 
 impl<C> Model for PoolCore<C> {
-    ghost use Rattle.std.specs.Prelude.{◌≤◌, vec_capacity};
-    ghost use Rattle.std.specs.VecDeque.{deque_capacity};
-    ghost use Rattle.sqlx_pool_core.specs.Core.{Core, core_of};
-    ghost use Rattle.sqlx_pool_core.specs.Sound.{IsSound, HasRoom};
+    ghost use Rattle.sqlx_pool_core.specs.Core.{Core};
+    ghost use Rattle.sqlx_pool_core.specs.Alone.{IsAlone};
 
     ghost Value = { Core C };
 
-    ghost view = { λ s. core_of s.options s.tickets.items s.held.items s.idle.items s.leaked s.shut s.places s.next_ticket s.next_conn s.last.0 };
+    ghost view = { λ s. s.pool };
 
-    ghost invariant = { λ s. IsSound (core_of s.options s.tickets.items s.held.items s.idle.items s.leaked s.shut s.places s.next_ticket s.next_conn s.last.0)
-        × HasRoom s.options.max_connections s.shut (vec_capacity s.held) (deque_capacity s.idle) };
+    ghost invariant = { λ s. IsAlone s.pool };
 }
 
 impl<C> PoolCore<C> {
     /// An empty pool. Its places for connections are reserved here, so that no later step needs memory for one.
     pub fn new(alloc: Global, options: PoolOptions) -> Result<Self, OutOfMemory>
-        requires { 1 ≤ options.max_connections }
+        requires some { 1 ≤ options.max_connections }
+        requires tries { (1 ≤ options.idle_tries) × (options.idle_tries ≤ 16) }
         ensures stands { IfOk result (λ core. StandsFor core []) }
         ensures options { IfOk result (λ core. core.options ≡ options) }
         ensures places { IfOk result (λ core. core.places ≡ 0) }
         ensures last { IfOk result (λ core. core.last ≡ 0) }
     {
-        let max = options.get_max_connections() as usize;
-        let Ok(held) = Vec::with_capacity(alloc, max) else {
-            return Err(OutOfMemory);
-        };
-        let Ok(idle) = VecDeque::with_capacity(alloc, max) else {
-            return Err(OutOfMemory);
-        };
-        Ok(PoolCore {
-            options,
-            tickets: Vec::new(alloc),
-            held,
-            idle,
-            leaked: 0,
-            shut: false,
-            places: 0,
-            next_ticket: 1,
-            next_conn: 1,
-            last: Moment(0),
-        })
+        let pool = Member::new(alloc, options, options.get_max_connections())?;
+        Ok(PoolCore { pool })
     }
 
     /// How the pool was set up.
     pub fn options(&self) -> &PoolOptions
         ensures { result.now ≡ self.now.options }
     {
-        &self.options
+        self.pool.options()
     }
 
     /// How many connections there are or may be: idle, owned and leaked ones, and one for each ticket that has
@@ -107,8 +74,7 @@ impl<C> PoolCore<C> {
         ensures marks { (marks : List Mark) → StandsFor self.now marks → result ≡ size_at self.now.places marks }
         ensures own { result ≡ size self.now }
     {
-        let size = self.idle.len() + self.held.len() + lists::gone_of(&self.tickets);
-        size as u32 + self.leaked + self.places
+        self.pool.size()
     }
 
     /// How many connections are idle.
@@ -116,7 +82,7 @@ impl<C> PoolCore<C> {
         ensures marks { (marks : List Mark) → StandsFor self.now marks → result ≡ length (idle_of marks) }
         ensures own { result ≡ length self.now.idle }
     {
-        self.idle.len()
+        self.pool.num_idle()
     }
 
     /// The moment that a step goes by: one below the last moment counts as the last one.
@@ -124,7 +90,8 @@ impl<C> PoolCore<C> {
         ensures moment { result.0 ≡ moment_of self.now now }
         ensures sound { IsSound self.now }
     {
-        Moment(self.last.0.max(now.0))
+        self.pool.sound();
+        self.pool.moment(now)
     }
 
     /// How many marks are made at most before the pool is closed and empty, where no ticket is asked, none is lent
@@ -132,30 +99,13 @@ impl<C> PoolCore<C> {
     pub fn due(&self) -> usize
         ensures { result ≡ due self.now }
     {
-        let waiting = lists::waiting_of(&self.tickets);
-        let testing = lists::testing_of(&self.tickets);
-        let shut = if self.shut { 0 } else { 1 };
-        6 * self.tickets.len()
-            + 2 * waiting
-            + testing
-            + 2 * self.held.len()
-            + self.idle.len()
-            + 3 * self.places as usize
-            + shut
+        self.pool.due()
     }
 
     /// The pool has at most its maximum of connections, and its numbers have a bound.
     pub fn bounds(&self)
         ensures { IsBounded self.now }
     {
-        let _ = &self.options;
-    }
-
-    // How many permits are free.
-    fn free(&self) -> u32
-        ensures { result ≡ free self.now }
-    {
-        let taken = self.held.len() + lists::gone_of(&self.tickets);
-        self.options.get_max_connections() - (taken as u32 + self.leaked + self.places)
+        self.pool.sound();
     }
 }

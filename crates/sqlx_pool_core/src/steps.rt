@@ -56,6 +56,8 @@ pub enum AfterTest<C> {
     Closed(Option<C>),
     /// The connection is lent; the ticket ended.
     Ready(Lent<C>),
+    /// Test this connection too, and tell by `finish_test`.
+    Test(Idle<C>),
     /// Open a connection, and tell by `finish_connect`.
     Connect,
 }
@@ -116,6 +118,17 @@ pub enum Given<C> {
     Kept,
     /// It left the pool: close it.
     Closed(C),
+    /// The client doesn't own a connection of this number.
+    NotHeld(C),
+}
+
+/// What became of a connection that was given back, and closed where the pool didn't keep it.
+#[derive(Drop)]
+pub enum Returned<C> {
+    /// It is the last among the idle.
+    Kept,
+    /// It left the pool, and was closed.
+    Closed,
     /// The client doesn't own a connection of this number.
     NotHeld(C),
 }

@@ -7,12 +7,18 @@ use sqlx_text::Moment;
 pub enum Phase {
     /// In the line.
     Waiting,
-    /// Its idle connection is under test.
-    Testing { conn: u64, created: Moment },
+    /// Its idle connection is under test, behind so many others in this poll.
+    Testing {
+        conn: u64,
+        created: Moment,
+        before: u32,
+    },
     /// A connect is under way for it.
     Connecting,
     /// Its next connect is due at this moment, in nanoseconds.
-    Backoff { until: u128 },
+    Backoff {
+        until: u128,
+    },
 }
 
 /// A ticket that hasn't ended.

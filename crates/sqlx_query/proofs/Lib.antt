@@ -4,3 +4,4 @@ pub mod DraftLemmas
 pub mod PlaceholderLemmas
 pub mod ReadLemmas
 pub mod OpenLemmas
+pub mod UnencodedLemmas

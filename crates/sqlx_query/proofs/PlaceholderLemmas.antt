@@ -1,7 +1,6 @@
 -- Placeholders and arguments, one for one.
 use Rattle.std.proofs.Common.{◌≡◌, ℕ, ◌+◌, ◌≤◌, List, [], ◌∷◌, ◌++◌, refl, sym, ap, ◌∙◌, arith}
 use Rattle.std.proofs.lemmas.List.{append-nil, append_assoc}
-use Rattle.sqlx_traits.specs.Arguments.{AddsOne}
 use Rattle.sqlx_query.specs.Builder.{Piece, Text, Bound, Draft, text_of, piece_text, arguments_of, placeholders, with_piece, with_pieces, AddsOneEach, Gains, CountsPlaceholders, NumbersPlaceholders, AppendsTexts}
 use Rattle.sqlx_query.proofs.DraftLemmas.{arguments-with_pieces}
 

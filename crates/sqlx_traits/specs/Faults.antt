@@ -19,3 +19,8 @@ abbrev pub BeginCause : ℕ → ℕ → Error → Type 0
 BeginCause before now error.InvalidSavePointStatement = ⊤
 BeginCause before now error.BeginFailed = HasRisen before now
 BeginCause before now e = FaultCause before now e
+
+-- opening a connection is refused only where the count rose, but for want of memory
+abbrev pub ConnectCause : ℕ → ℕ → Error → Type 0
+ConnectCause before now error.OutOfMemory = ⊤
+ConnectCause before now _ = HasRisen before now

@@ -8,6 +8,7 @@ mod column;
 mod column_index;
 mod connect_options;
 mod connection;
+mod connector;
 mod database;
 mod decode;
 mod encode;
@@ -33,6 +34,7 @@ pub use column_index::{
 };
 pub use connect_options::{Connect, ConnectOptions};
 pub use connection::Connection;
+pub use connector::Connector;
 pub use database::{Database, HasStatementCache};
 pub use decode::{Decode, DecodeOwned};
 pub use either::Either;

@@ -6,6 +6,8 @@ mod callers;
 #[cfg(test)]
 mod queries;
 #[cfg(test)]
+mod shared;
+#[cfg(test)]
 mod statements;
 
 pub use callers::keep;

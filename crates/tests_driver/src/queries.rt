@@ -1,8 +1,8 @@
 //! Queries with bound values and a transaction of texts, on a connection over a session.
-use mem_driver::{Answer, GET, MemLink, MemSession, MemStore, PUT, SELECT_ALL};
+use mem_driver::{Answer, GET, Mem, MemLink, MemSession, MemStore, PUT, SELECT_ALL};
 use sqlx_any::{
-    Any, AnyConnection, AnyConnectionBackend, AnyTransactionManager, Connection, Executor, Row,
-    Statement, TransactionManager,
+    Any, AnyConnectOptions, AnyConnection, AnyConnectionBackend, AnyRow, AnyTransactionManager,
+    Connect, ConnectOptions, Connection, Executor, Row, Statement, TransactionManager,
 };
 use sqlx_query::{query, query_scalar, raw_sql};
 use sqlx_text::{Error, SqlStr};
@@ -18,7 +18,7 @@ fn opened(alloc: Global, answer: Answer) -> Result<Conn, Error> {
 }
 
 // Runs a text without arguments, and gives how many rows it wrote.
-fn runs<B: AnyConnectionBackend>(
+pub fn runs<B: AnyConnectionBackend>(
     alloc: Global,
     conn: &mut AnyConnection<B>,
     text: &'static str,
@@ -29,7 +29,7 @@ fn runs<B: AnyConnectionBackend>(
 }
 
 // Writes a key by a query with bound values.
-fn puts<B: AnyConnectionBackend>(
+pub fn puts<B: AnyConnectionBackend>(
     alloc: Global,
     conn: &mut AnyConnection<B>,
     key: i64,
@@ -42,7 +42,7 @@ fn puts<B: AnyConnectionBackend>(
 }
 
 // Reads a key by a query with a bound value.
-fn gets<B: AnyConnectionBackend>(
+pub fn gets<B: AnyConnectionBackend>(
     alloc: Global,
     conn: &mut AnyConnection<B>,
     key: i64,
@@ -52,7 +52,7 @@ fn gets<B: AnyConnectionBackend>(
 }
 
 // Whether the database refused it with this message.
-fn is_refused_with<T: Drop>(answer: Result<T, Error>, message: &str) -> bool {
+pub fn is_refused_with<T: Drop>(answer: Result<T, Error>, message: &str) -> bool {
     let refused = match &answer {
         Err(Error::Database(fault)) => fault.message.as_str() == message,
         _ => false,
@@ -136,6 +136,56 @@ fn all_rows_in_the_order_of_the_keys(rt: HostRuntime) -> Result<(), Fail> {
     assert_eq!(rt; keys.as_slice(), [-1, 2, 3].as_slice());
     let values = numbers(rt.alloc(), &mut conn, SELECT_ALL, 1)?;
     assert_eq!(rt; values.as_slice(), [-10, 20, 30].as_slice());
+    Ok(())
+}
+
+// Opens a database by its URL.
+fn opened_by(alloc: Global, url: &str) -> Result<Conn, Error> {
+    let options = AnyConnectOptions::parse(alloc, url)?;
+    Connect::<Mem>::connect(&options, alloc)
+}
+
+// What one row's worth of an answer is, in a word.
+fn one_row<T: Drop>(answer: Result<T, Error>) -> &'static str {
+    let told = match &answer {
+        Ok(_) => "a row",
+        Err(Error::RowNotFound) => "no row",
+        Err(Error::Configuration(_)) => "another scheme",
+        Err(_) => "refused",
+    };
+    drop(answer);
+    told
+}
+
+#[test]
+fn a_database_is_opened_by_its_url(rt: HostRuntime) -> Result<(), Fail> {
+    let mut conn = opened_by(rt.alloc(), "mem:")?;
+    for key in [1, 2] {
+        assert_eq!(rt; puts(rt.alloc(), &mut conn, key, 5)?, 1);
+    }
+    assert_eq!(rt; conn.fetch_all(rt.alloc(), SELECT_ALL)?.len(), 2);
+    assert!(rt; conn.fetch_optional(rt.alloc(), SELECT_ALL)?.is_some());
+    assert_eq!(rt; one_row(opened_by(rt.alloc(), "pg:x")), "another scheme");
+    Ok(())
+}
+
+// Reads a key that has to be there.
+fn reads<B: AnyConnectionBackend>(
+    alloc: Global,
+    conn: &mut AnyConnection<B>,
+    key: i64,
+) -> Result<AnyRow, Error> {
+    let query = query::<Any<B>, &'static str>(alloc, GET)?;
+    query.bind(alloc, key).fetch_one(alloc, conn)
+}
+
+#[test]
+fn a_row_that_is_missing(rt: HostRuntime) -> Result<(), Fail> {
+    let mut conn = opened(rt.alloc(), Answer::Accept)?;
+    assert_eq!(rt; puts(rt.alloc(), &mut conn, 1, 5)?, 1);
+    assert_eq!(rt; one_row(reads(rt.alloc(), &mut conn, 1)), "a row");
+    assert_eq!(rt; one_row(reads(rt.alloc(), &mut conn, 2)), "no row");
+    assert_eq!(rt; conn.cached_statements_size(), 2);
     Ok(())
 }
 

@@ -2,6 +2,4 @@
 #![tactic(auto)]
 
 #[cfg(test)]
-mod core_over_a_script;
-#[cfg(test)]
 mod tables;

@@ -1,6 +1,6 @@
 //! Each call once on its happy path, over an outside that accepts everything.
 
-ghost use Rattle.std.specs.Prelude.{ℕ, None, true};
+ghost use Rattle.sqlx_pool_core.specs.Calls as call;
 
 use sqlx_pool_core::*;
 use sqlx_text::{Error, Moment};
@@ -19,9 +19,7 @@ impl Outside<u32, ()> for Yes {
 
     ghost depth = { λ _ _. 0 };
 
-    ghost alike = { λ _ _ _. true };
-
-    ghost told = { λ _. None };
+    ghost does = { call.Facts (λ _. 0) (λ _. 0) (λ _ _. 0) (λ _. Unit {0}) };
 
     fn connect(&mut self, _alloc: Global, _options: &()) -> Result<u32, Error> {
         Ok(7)
@@ -62,6 +60,8 @@ impl Outside<u32, ()> for Yes {
     fn close(&mut self, _conn: u32) {}
 
     fn close_hard(&mut self, _conn: u32) {}
+
+    ghost facts = { λ _ _ _ h. h };
 }
 
 // What a poll comes to, as one number: the connection's number, or 0.
@@ -74,6 +74,10 @@ fn lent_of(polled: Polled<u32>) -> u64 {
 
 fn is_kept(given: Given<u32>) -> bool {
     matches!(given, Given::Kept)
+}
+
+fn is_back(returned: Returned<u32>) -> bool {
+    matches!(returned, Returned::Kept)
 }
 
 #[test]
@@ -100,6 +104,12 @@ fn each_call_succeeds(rt: HostRuntime) -> Result<(), Fail> {
     let past = core.try_acquire(Moment(7), 6).is_some();
     let third = core.ask(alloc, Moment(8), 6)?;
     let cancelled = core.cancel(6, third);
+    let borrowed = Lent {
+        id: 2,
+        created: Moment(7),
+        raw: 7,
+    };
+    let back = is_back(core.give_with(6, borrowed, Moment(9), &mut out));
     for (got, want) in [
         (first, 1),
         (opened, 1),
@@ -111,7 +121,8 @@ fn each_call_succeeds(rt: HostRuntime) -> Result<(), Fail> {
         (u64::from(past), 1),
         (third, 3),
         (u64::from(cancelled), 1),
-        (core.num_idle() as u64, 0),
+        (u64::from(back), 1),
+        (core.num_idle() as u64, 1),
         (u64::from(core.size()), 2),
     ] {
         assert_eq!(rt; got, want);

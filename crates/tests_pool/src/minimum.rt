@@ -1,8 +1,7 @@
 //! Keeping the minimum over an outside that accepts so many connects, and refuses the next.
 
-ghost use Rattle.std.specs.Prelude.{◌≡◌, ℕ, min, Bool, true, false, [], ◌∷◌, ◌++◌, Some, IsTrue, replicate, if◌then◌else◌};
-ghost use Rattle.sqlx_pool_core.specs.Outside.{Connected, RefusedTransiently};
-ghost use Rattle.sqlx_pool_core.specs.KeepingSteps.{lacks};
+ghost use Rattle.std.specs.Prelude.{IsTrue};
+ghost use Rattle.sqlx_pool_core.specs.Calls as call;
 
 use sqlx_pool_core::*;
 use sqlx_text::{Error, IoFault, Moment};
@@ -14,7 +13,6 @@ use std::test::*;
 #[derive(Drop)]
 struct Few {
     accepts: u32,
-    hooks: u32,
     spent: bool,
     refused: u64,
     memory: bool,
@@ -28,17 +26,9 @@ impl Outside<u32, ()> for Few {
 
     ghost depth = { λ _ _. 0 };
 
-    ghost alike = { λ _ _ _. true };
-
-    ghost told = { λ s. Some (record {
-      connects = if s.spent then [] else replicate s.accepts Connected ++ RefusedTransiently ∷ [];
-      pings = [];
-      after_connects = replicate s.hooks true;
-      before_acquires = [];
-      after_releases = [];
-    }) };
-
     ghost IsShort = { λ s. IsTrue s.short };
+
+    ghost does = { call.Facts (λ s. s.refused) (λ _. 0) (λ _ _. 0) (λ s. IsTrue s.short) };
 
     fn connect(&mut self, _alloc: Global, _options: &()) -> Result<u32, Error> {
         let is_accepted = !self.spent && self.accepts > 0;
@@ -68,7 +58,6 @@ impl Outside<u32, ()> for Few {
         _conn: &mut u32,
         _meta: PoolConnectionMetadata,
     ) -> Result<(), Error> {
-        self.hooks = self.hooks.saturating_sub(1);
         Ok(())
     }
 
@@ -95,16 +84,8 @@ impl Outside<u32, ()> for Few {
     fn close(&mut self, _conn: u32) {}
 
     fn close_hard(&mut self, _conn: u32) {}
-}
 
-// Keeps the minimum over such an outside, by what it tells: so many open as it accepts and lack.
-fn fill(core: &mut PoolCore<u32>, alloc: Global, out: &mut Few) -> Openings
-    requires fresh { out.old.spent ≡ false }
-    requires hooks { out.old.hooks ≡ out.old.accepts }
-    ensures opened { result.short ≡ false → result.opened ≡ min out.old.accepts (lacks core.old) }
-    ensures short { result.short ≡ true → IsTrue out.new.short }
-{
-    core.keep_minimum(alloc, Moment(1), &(), out)
+    ghost facts = { λ _ _ _ h. h };
 }
 
 #[test]
@@ -118,13 +99,12 @@ fn the_minimum_ends_at_the_first_refusal(rt: HostRuntime) -> Result<(), Fail> {
         let mut core = PoolCore::<u32>::new(alloc, options)?;
         let mut out = Few {
             accepts: 2,
-            hooks: 2,
             spent: false,
             refused: 0,
             memory,
             short: false,
         };
-        let filled = fill(&mut core, alloc, &mut out);
+        let filled = core.keep_minimum(alloc, Moment(1), &(), &mut out);
         assert_eq!(rt; filled.opened, opened);
         assert_eq!(rt; filled.short, !memory);
         assert_eq!(rt; core.num_idle() as u32, opened);

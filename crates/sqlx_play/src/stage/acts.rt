@@ -1,5 +1,5 @@
 //! What a client does on a connection that it owns, as a statement of the database.
-ghost use Rattle.std.specs.Prelude.{◌≡◌, true, false, ◌≤◌, Option, Some, None, IfOk, IfErr};
+ghost use Rattle.std.specs.Prelude.{◌≡◌, true, false, ◌≤◌, Option, Some, None, IfOk, OnOk, IfErr};
 ghost use Rattle.sqlx_savepoints.specs.Texts as texts;
 ghost use Rattle.mem_store.specs.Statements.{Reads};
 ghost use Rattle.mem_store.specs.Acts.{act_of, refusal_of};
@@ -299,26 +299,28 @@ fn run(session: &mut StoreSession, alloc: Global, act: Act) -> Result<Reply, Pla
     }
 }
 
-/// Does it on a link of the store. Where memory is wanting the link is gone.
+/// Does it on a link of the store, where it lies. Where memory is wanting the link is gone.
 pub fn run_on(
     store: &mut MemStore,
     alloc: Global,
-    link: StoreLink,
+    link: &mut StoreLink,
     act: Act,
     answer: StatementAnswer,
-) -> Result<(StoreLink, Reply), PlayError>
-    ensures reply { IfOk result (λ r. r.1 ≡ reply_on act (record { store = store.old; link = link; answer = spec.answer_for answer })) }
-    ensures link { IfOk result (λ r. r.0 ≡ (left_by act (record { store = store.old; link = link; answer = spec.answer_for answer })).link) }
-    ensures store { IfOk result (λ r. store.new ≡ (left_by act (record { store = store.old; link = link; answer = spec.answer_for answer })).store) }
+) -> Result<Reply, PlayError>
+    ensures reply { IfOk result (λ r. r ≡ reply_on act (record { store = store.old; link = link.old; answer = spec.answer_for answer })) }
+    ensures link { OnOk result (link.new ≡ (left_by act (record { store = store.old; link = link.old; answer = spec.answer_for answer })).link) }
+    ensures store { OnOk result (store.new ≡ (left_by act (record { store = store.old; link = link.old; answer = spec.answer_for answer })).store) }
     ensures memory { IfErr result (λ e. e ≡ PlayError.OutOfMemory) }
 {
     let whole = mem::replace(store, MemStore::new(alloc));
-    let mut session = whole.session(link, answer_for(answer));
+    let own = mem::replace(link, StoreLink::of_no_store(alloc));
+    let mut session = whole.session(own, answer_for(answer));
     match run(&mut session, alloc, act) {
         Ok(reply) => {
-            let (whole, link) = session.into_parts();
+            let (whole, own) = session.into_parts();
             *store = whole;
-            Ok((link, reply))
+            *link = own;
+            Ok(reply)
         }
         Err(error) => {
             drop(session);

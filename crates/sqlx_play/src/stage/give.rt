@@ -1,20 +1,17 @@
 //! The event `give`: a client gives its connection back.
-ghost use Rattle.std.specs.Prelude.{◌≡◌, ◌+◌, ◌^◌, ◌≤◌, None, IfOk, OnOk, IfErr};
-ghost use Rattle.sqlx_play.specs.ScriptOutside.{give_letters};
+ghost use Rattle.std.specs.Prelude.{◌≡◌, ◌+◌, ◌^◌, ◌≤◌, IfOk, OnOk, IfErr};
 ghost use Rattle.sqlx_script.specs.declared.step.Step.{Step};
 ghost use Rattle.sqlx_play.specs.PlaysEvent.{PlaysEvent};
-ghost use Rattle.sqlx_play.specs.GivesBack.{lets_rest, GivesBack};
+ghost use Rattle.sqlx_play.specs.GivesBack.{GivesBack};
 ghost use Rattle.sqlx_play.specs.StageStands.{last_of, numbers_of};
 
 use super::Stage;
 use super::fill::fill;
 use super::lent::{place_of, put_lent};
-use super::poll::is_answered;
 use crate::error::PlayError;
 use crate::outside::ScriptOutside;
-use mem_store::StoreLink;
-use sqlx_pool_core::{Given, Lent, Outside, PoolConnectionMetadata};
-use sqlx_script::{GiveAnswers, PoolLine, Reply};
+use sqlx_pool_core::{Lent, Returned as Given};
+use sqlx_script::{GiveAnswers, Reply};
 use sqlx_text::Moment;
 use std::alloc::Global;
 
@@ -24,32 +21,6 @@ pub enum Returned {
     Kept,
     Closed,
     NotHeld,
-}
-
-// Whether the hook, the connection's depth and the ping let it rest.
-fn lets_rest(
-    pool: &PoolLine,
-    out: &mut ScriptOutside,
-    link: &mut StoreLink,
-    meta: PoolConnectionMetadata,
-) -> bool
-    requires none_left { out.old.left_open ≡ None }
-    ensures answer { result ≡ lets_rest pool.now (give_letters out.old) link.old.depth }
-    ensures link { link.new ≡ link.old }
-    ensures store { out.new.store ≡ out.old.store }
-{
-    let released = if pool.after_release {
-        match out.after_release(link, meta) {
-            Ok(accepted) => accepted,
-            Err(error) => {
-                drop(error);
-                false
-            }
-        }
-    } else {
-        true
-    };
-    released && out.depth(link) == 0 && is_answered(out.ping(link))
 }
 
 // Takes a connection back.
@@ -68,28 +39,20 @@ fn take_back(
     ensures used { numbers_of stage.new ≡ numbers_of stage.old }
     ensures memory { IfErr result (λ e. e ≡ PlayError.OutOfMemory) }
 {
-    let now = stage.core.moment(moment);
+    // The core is sound.
+    let _moment = stage.core.moment(moment);
     let Some(at) = place_of(&stage.lent, conn) else {
         return Ok(Returned::NotHeld);
     };
-    let Lent {
-        id,
-        created,
-        mut raw,
-    } = stage.lent.remove(at);
-    let meta = PoolConnectionMetadata {
-        age: now.0.saturating_sub(created.0),
-        idle_for: 0,
-    };
+    let lent = stage.lent.remove(at);
+    let created = lent.created;
     stage.out.begin_give(answers);
-    let accepted = lets_rest(&stage.pool, &mut stage.out, &mut raw, meta);
-    let lent = Lent { id, created, raw };
-    match stage.core.give(client, lent, now, accepted) {
+    match stage
+        .core
+        .give_with::<(), ScriptOutside>(client, lent, moment, &mut stage.out)
+    {
         Given::Kept => Ok(Returned::Kept),
-        Given::Closed(raw) => {
-            stage.out.close(raw);
-            Ok(Returned::Closed)
-        }
+        Given::Closed => Ok(Returned::Closed),
         Given::NotHeld(raw) => {
             let lent = Lent {
                 id: conn,

@@ -3,7 +3,7 @@ ghost use Rattle.std.specs.Prelude.{◌≡◌, ◌+◌, ◌^◌, ◌≤◌, find
 ghost use Rattle.sqlx_log.specs.declared.mark.Mark.{Mark};
 ghost use Rattle.sqlx_pool_core.specs.declared.steps.Lent.{Lent};
 ghost use Rattle.sqlx_pool_core.specs.KeepingSteps.{without_first};
-ghost use Rattle.mem_store.specs.Store.{Link, without};
+ghost use Rattle.mem_store.specs.Store.{Link, closed_at};
 ghost use Rattle.sqlx_script.specs.declared.step.Step.{Step};
 ghost use Rattle.sqlx_play.specs.PlaysEvent.{PlaysEvent};
 ghost use Rattle.sqlx_play.specs.LentLinks.{is_lent};
@@ -22,7 +22,7 @@ use std::alloc::Global;
 fn close_lent(stage: &mut Stage, conn: u64)
     ensures core { stage.new.core ≡ stage.old.core }
     ensures pool { stage.new.pool ≡ stage.old.pool }
-    ensures store { (l : Lent Link) → find (is_lent conn) stage.old.lent.items ≡ Some l → stage.new.out.store ≡ record stage.old.out.store { places = without l.raw.number stage.old.out.store.places } }
+    ensures store { (l : Lent Link) → find (is_lent conn) stage.old.lent.items ≡ Some l → stage.new.out.store ≡ closed_at l.raw.depth stage.old.out.store }
     ensures runs { stage.new.out.store.runs ≡ stage.old.out.store.runs }
     ensures lent { stage.new.lent.items ≡ without_first (is_lent conn) stage.old.lent.items }
 {

@@ -10,9 +10,8 @@ ghost use Rattle.sqlx_play.specs.StageStands.{last_of, numbers_of};
 
 use super::Stage;
 use super::acts::{Act, run_on};
-use super::lent::{place_of, put_lent};
+use super::lent::place_of;
 use crate::error::PlayError;
-use sqlx_pool_core::Lent;
 use sqlx_script::{Event, Reply, StatementAnswer, Step};
 use std::alloc::Global;
 
@@ -101,16 +100,13 @@ fn run(stage: &mut Stage, alloc: Global, statement: Statement) -> Result<Reply, 
     let Some(at) = place_of(&stage.lent, id) else {
         return Ok(Reply::NotHeld);
     };
-    let Lent { id, created, raw } = stage.lent.remove(at);
-    let (raw, reply) = run_on(
+    run_on(
         &mut stage.out.store,
         alloc,
-        raw,
+        &mut stage.lent[at].raw,
         statement.act,
         statement.answer,
-    )?;
-    put_lent(&mut stage.lent, at, Lent { id, created, raw })?;
-    Ok(reply)
+    )
 }
 
 /// One statement.

@@ -11,16 +11,13 @@ ghost use Rattle.sqlx_pool_core.specs.Core.{waiting, free};
 ghost use Rattle.sqlx_log.specs.declared.mark.Mark.{Mark};
 ghost use Rattle.sqlx_pool_core.specs.Makes.{Makes};
 ghost use Rattle.sqlx_pool_core.specs.Moves.{Moves, ask_room, try_room};
-ghost use Rattle.sqlx_pool_core.specs.Sound.{IsSound};
 ghost use Rattle.sqlx_pool_core.specs.StandsFor.{StandsFor};
 ghost use Rattle.sqlx_log.specs.EventTable.{may_pass};
 ghost use Rattle.sqlx_pool_core.specs.PollSteps.{phase_for, may_cancel, cancel_marks, cancelled, try_lent, try_marks, after_try};
 ghost use Rattle.sqlx_pool_core.specs.Edits.{at_moment, asked};
 
-use super::{NUMBERS, PoolCore};
-use crate::lists;
+use super::PoolCore;
 use crate::steps::Lent;
-use crate::ticket::{Held, Phase, Ticket};
 use sqlx_text::{Error, Moment};
 use std::alloc::Global;
 
@@ -35,47 +32,14 @@ impl<C> PoolCore<C> {
         ensures exhausted { (result ≡ Err Error.Exhausted) ↔ ((self.old.shut ≡ false) × (2 ^ 63 < self.old.next_ticket)) }
         ensures causes { IfErr result (λ e. (e ≡ Error.PoolClosed) ⊎ ((e ≡ Error.Exhausted) ⊎ (e ≡ Error.OutOfMemory))) }
         ensures makes { (marks : List Mark) → StandsFor self.old marks → IfOk result (λ ticket. Makes self.old.options.max_connections marks (Mark.Asked ticket client (moment_of self.old now + self.old.options.acquire_timeout) ∷ []) self.new) }
-        ensures moves { IfOk result (λ ticket. Moves self.old self.new (Mark.Asked ticket client (moment_of self.old now + self.old.options.acquire_timeout) ∷ []) 0 ask_room) }
+        ensures moves { IfOk result (λ ticket. Moves self.old self.new (Mark.Asked ticket client (moment_of self.old now + self.old.options.acquire_timeout) ∷ []) 0 (ask_room self.old.options.idle_tries)) }
         ensures becomes { OnOk result (self.new ≡ at_moment (moment_of self.old now) (asked client (moment_of self.old now + self.old.options.acquire_timeout) self.old)) }
         ensures err { OnErr result (self.new ≡ self.old) }
     {
-        if self.shut {
-            return Err(Error::PoolClosed);
-        }
-        if self.next_ticket > NUMBERS {
-            return Err(Error::Exhausted);
-        }
-        let moment = self.moment(now);
-        let deadline = u128::from(moment.0) + u128::from(self.options.get_acquire_timeout());
-        self.ask_until(client, deadline, moment)
-    }
-
-    // Asks at a moment.
-    fn ask_until(&mut self, client: u32, deadline: u128, moment: Moment) -> Result<u64, Error>
-        requires open { self.old.shut ≡ false }
-        requires few { self.old.next_ticket ≤ 2 ^ 63 }
-        ensures numbered { IfOk result (λ ticket. ticket ≡ self.old.next_ticket) }
-        ensures makes { (marks : List Mark) → StandsFor self.old marks → OnOk result (Makes self.old.options.max_connections marks (Mark.Asked self.old.next_ticket client deadline ∷ []) self.new) }
-        ensures moves { OnOk result (Moves self.old self.new (Mark.Asked self.old.next_ticket client deadline ∷ []) 0 ask_room) }
-        ensures becomes { OnOk result (self.new ≡ at_moment moment.0 (asked client deadline self.old)) }
-        ensures memory { IfErr result (λ e. e ≡ Error.OutOfMemory) }
-        ensures err { OnErr result (self.new ≡ self.old) }
-    {
-        let number = self.next_ticket;
-        let ticket = Ticket {
-            number,
-            client,
-            deadline,
-            phase: Phase::Waiting,
-            first_try: Moment(0),
-            last_wait: None,
-        };
-        let Ok(()) = self.tickets.push(ticket) else {
-            return Err(Error::OutOfMemory);
-        };
-        self.next_ticket = number + 1;
-        self.last = moment;
-        Ok(number)
+        let moment = self.pool.moment(now);
+        let asked = self.pool.ask(client, moment);
+        self.pool.sound();
+        asked
     }
 
     /// Ends a ticket that waits or is in backoff, and frees what it held. Otherwise nothing changes.
@@ -87,30 +51,9 @@ impl<C> PoolCore<C> {
         ensures moves { Moves self.old self.new (cancel_marks ticket result) 0 0 }
         ensures becomes { self.new ≡ cancelled ticket result self.old }
     {
-        self.end_at_rest(client, ticket)
-    }
-
-    // Ends a ticket, unless a step of its own is under way.
-    fn end_at_rest(&mut self, client: u32, ticket: u64) -> bool
-        ensures answer { result ≡ may_cancel (phase_for client ticket self.old.tickets) }
-        ensures becomes { self.new ≡ cancelled ticket result self.old }
-        ensures sound { IsSound self.old }
-    {
-        let Some(found) = self.find(client, ticket) else {
-            return false;
-        };
-        if matches!(found.phase, Phase::Testing { .. } | Phase::Connecting) {
-            return false;
-        }
-        self.end_ticket(ticket);
-        true
-    }
-
-    // Connections may be lent, reaped or opened past the line.
-    pub(super) fn may_pass(&self) -> bool
-        ensures { result ≡ may_pass self.now.shut (waiting self.now.tickets) (free self.now) }
-    {
-        !self.shut && lists::waiting_of(&self.tickets) < self.free() as usize
+        let done = self.pool.cancel(client, ticket);
+        self.pool.sound();
+        done
     }
 
     /// Lends the first idle connection past the line, without a test: where the pool is open, a connection is
@@ -122,25 +65,10 @@ impl<C> PoolCore<C> {
         ensures moves { Moves self.old self.new (try_marks client result) 0 (try_room result) }
         ensures becomes { self.new ≡ after_try client (moment_of self.old now) result self.old }
     {
-        let moment = self.moment(now);
-        self.lend_first(client, moment)
-    }
-
-    // Lends the first idle connection, where the line lets it pass.
-    fn lend_first(&mut self, client: u32, moment: Moment) -> Option<Lent<C>>
-        ensures answer { result ≡ try_lent (may_pass self.old.shut (waiting self.old.tickets) (free self.old)) self.old.idle }
-        ensures becomes { self.new ≡ after_try client moment.0 result self.old }
-    {
-        if !self.may_pass() {
-            return None;
-        }
-        let lent = self.idle.pop_front()?.lent;
-        self.held.push_reserved(Held {
-            conn: lent.id,
-            client,
-            created: lent.created,
-        });
-        self.last = moment;
-        Some(lent)
+        let moment = self.pool.moment(now);
+        let passes = self.pool.may_pass();
+        let lent = self.pool.try_acquire(client, moment, passes);
+        self.pool.sound();
+        lent
     }
 }

@@ -12,9 +12,7 @@ ghost use Rattle.sqlx_pool_core.specs.PollSteps.{phase_for, is_in_line, try_lent
 ghost use Rattle.sqlx_pool_core.specs.Sound.{IsSound};
 
 use super::PoolCore;
-use crate::lists;
 use crate::steps::Numbers;
-use crate::ticket::Phase;
 
 impl<C> PoolCore<C> {
     /// Whether the client owns the connection of this number.
@@ -23,7 +21,8 @@ impl<C> PoolCore<C> {
         ensures owns { result ≡ is_some (loan_of client id self.now.held) }
         ensures sound { IsSound self.now }
     {
-        lists::loan_for(&self.held, client, id).is_some()
+        self.pool.sound();
+        self.pool.owns(client, id)
     }
 
     /// How many connections have an owner.
@@ -31,7 +30,7 @@ impl<C> PoolCore<C> {
         ensures marks { (marks : List Mark) → StandsFor self.now marks → result ≡ length (loans_of marks) }
         ensures own { result ≡ length self.now.held }
     {
-        self.held.len()
+        self.pool.num_held()
     }
 
     /// How many connections were leaked.
@@ -39,7 +38,7 @@ impl<C> PoolCore<C> {
         ensures marks { (marks : List Mark) → StandsFor self.now marks → result ≡ leaked_of marks }
         ensures own { result ≡ self.now.leaked }
     {
-        self.leaked
+        self.pool.num_leaked()
     }
 
     /// How many tickets haven't ended, those in backoff among them.
@@ -47,7 +46,7 @@ impl<C> PoolCore<C> {
         ensures marks { (marks : List Mark) → StandsFor self.now marks → result ≡ length (tickets_of marks) }
         ensures own { result ≡ length self.now.tickets }
     {
-        self.tickets.len()
+        self.pool.num_tickets()
     }
 
     /// Whether the client has a ticket of this number that stands in the line.
@@ -55,17 +54,7 @@ impl<C> PoolCore<C> {
         ensures marks { (marks : List Mark) → StandsFor self.now marks → result ≡ waits_if (asked_in client ticket (tickets_of marks)) }
         ensures own { result ≡ is_in_line (phase_for client ticket self.now.tickets) }
     {
-        self.finds_in_line(client, ticket)
-    }
-
-    // The client has such a ticket, and it stands in the line.
-    fn finds_in_line(&self, client: u32, ticket: u64) -> bool
-        ensures { result ≡ is_in_line (phase_for client ticket self.now.tickets) }
-    {
-        match self.find(client, ticket) {
-            Some(found) => matches!(found.phase, Phase::Waiting),
-            None => false,
-        }
+        self.pool.waits(client, ticket)
     }
 
     /// The numbers that the next ticket and the next connection get.
@@ -73,17 +62,14 @@ impl<C> PoolCore<C> {
         ensures marks { (marks : List Mark) → StandsFor self.now marks → result ≡ record { next_ticket = next_ticket marks; next_conn = next_conn marks } }
         ensures own { result ≡ record { next_ticket = self.now.next_ticket; next_conn = self.now.next_conn } }
     {
-        Numbers {
-            next_ticket: self.next_ticket,
-            next_conn: self.next_conn,
-        }
+        self.pool.numbers()
     }
 
     /// How many places are held for the minimum.
     pub fn num_places(&self) -> u32
         ensures { result ≡ self.now.places }
     {
-        self.places
+        self.pool.num_places()
     }
 
     /// Whether `try_acquire` would lend a connection.
@@ -91,13 +77,7 @@ impl<C> PoolCore<C> {
         ensures marks { (marks : List Mark) → StandsFor self.now marks → result ≡ is_some (lent_past_at self.now.options.max_connections self.now.places marks) }
         ensures own { result ≡ is_some (try_lent (may_pass self.now.shut (waiting self.now.tickets) (free self.now)) self.now.idle) }
     {
-        self.lends_past()
-    }
-
-    // The line lets a connection pass, and one is idle.
-    fn lends_past(&self) -> bool
-        ensures { result ≡ is_some (try_lent (may_pass self.now.shut (waiting self.now.tickets) (free self.now)) self.now.idle) }
-    {
-        self.may_pass() && !self.idle.is_empty()
+        let passes = self.pool.may_pass();
+        self.pool.may_lend(passes)
     }
 }

@@ -1,105 +1,43 @@
 //! The steps that end a loan: giving a connection back, ending, detaching and leaking it.
 
-ghost use Rattle.std.specs.Prelude.{◌≡◌, ℕ, ◌+◌, ◌-◌, ◌<◌, ◌≤◌, max, List, Option, Some, None, IfSome, is_some, ◌||◌, true, false};
+ghost use Rattle.std.specs.Prelude.{◌≡◌, ℕ, max, List, Option, is_some};
 ghost use Rattle.std.specs.List.{list_any};
+ghost use Rattle.sqlx_log.specs.declared.mark.Mark.{Mark};
 ghost use Rattle.sqlx_log.specs.Marks.{owner_of, is_shut};
 ghost use Rattle.sqlx_log.specs.Answers.{owns, is_kept_at};
+ghost use Rattle.sqlx_log.specs.EventTable.{closes};
 ghost use Rattle.sqlx_pool_core.specs.Logs.{Logs, moment_of};
 ghost use Rattle.sqlx_pool_core.specs.Answers.{is_kept, is_held};
 ghost use Rattle.sqlx_pool_core.specs.Limits.{limits_of};
 ghost use Rattle.sqlx_pool_core.specs.Core.{loan_of};
-ghost use Rattle.sqlx_log.specs.declared.mark.Mark.{Mark};
-ghost use Rattle.sqlx_pool_core.specs.Makes.{Makes};
 ghost use Rattle.sqlx_pool_core.specs.Moves.{Moves, given_back, one_if};
 ghost use Rattle.sqlx_pool_core.specs.Sound.{IsSound};
 ghost use Rattle.sqlx_pool_core.specs.StandsFor.{StandsFor};
-ghost use Rattle.sqlx_log.specs.EventTable.{is_beyond, is_too_old};
-ghost use Rattle.sqlx_log.specs.EventTable.{closes};
-ghost use Rattle.sqlx_pool_core.specs.ReturnSteps.{give_answer, give_marks, gave, end_marks, detach_marks, leak_marks, released, leaked, rested};
-ghost use Rattle.sqlx_pool_core.specs.PollSteps.{lent_since};
-ghost use Rattle.sqlx_pool_core.specs.Edits.{at_moment, unlent, kept};
+ghost use Rattle.sqlx_pool_core.specs.ReturnSteps.{give_answer, give_marks, gave, end_marks, detach_marks, leak_marks, released, leaked};
 
 use super::PoolCore;
-use crate::lists;
 use crate::steps::{Given, Lent};
 use crate::ticket::Held;
 use sqlx_text::Moment;
 
-// A duration is above its limit; without a limit none is.
-pub(super) fn beyond(limit: Option<u64>, duration: u64) -> bool
-    ensures { result ≡ is_beyond limit duration }
-{
-    match limit {
-        Some(limit) => limit < duration,
-        None => false,
-    }
-}
-
 impl<C> PoolCore<C> {
-    // A connection of this opening is too old at the moment.
-    pub(super) fn too_old(&self, created: Moment, moment: Moment) -> bool
-        ensures { result ≡ is_too_old (limits_of self.now.options) created.0 moment.0 }
-    {
-        let age = moment.0.saturating_sub(created.0);
-        beyond(self.options.get_max_lifetime(), age)
-    }
-
     /// Whether a connection of this opening would be closed rather than kept: the pool is closed, or the
     /// connection's age is above the lifetime.
     pub fn must_close(&self, created: Moment, now: Moment) -> bool
         ensures marks { (marks : List Mark) → StandsFor self.now marks → result ≡ closes (limits_of self.now.options) (list_any is_shut marks) created.0 (moment_of self.now now) }
         ensures own { result ≡ closes (limits_of self.now.options) self.now.shut created.0 (moment_of self.now now) }
     {
-        let moment = self.moment(now);
-        self.closes(created, moment)
-    }
-
-    // A connection of this opening is closed rather than kept at the moment.
-    fn closes(&self, created: Moment, moment: Moment) -> bool
-        ensures { result ≡ closes (limits_of self.now.options) self.now.shut created.0 moment.0 }
-    {
-        self.shut || self.too_old(created, moment)
+        let moment = self.pool.moment(now);
+        self.pool.closes(created, moment)
     }
 
     // This client's loan of this connection.
-    fn loan(&self, client: u32, conn: u64) -> Option<Held>
+    pub(super) fn loan(&self, client: u32, conn: u64) -> Option<Held>
         ensures found { result ≡ loan_of client conn self.now.held }
-        ensures own { IfSome result (λ h. loan_of h.client h.conn self.now.held ≡ Some h) }
-        ensures conn { IfSome result (λ h. h.conn ≡ conn) }
         ensures sound { IsSound self.now }
     {
-        lists::loan_for(&self.held, client, conn)
-    }
-
-    // Puts an owned connection last among the idle.
-    fn keep(&mut self, loan: Held, raw: C, moment: Moment)
-        requires found { loan_of loan.client loan.conn self.old.held ≡ Some loan }
-        requires open { self.old.shut ≡ false }
-        ensures { self.new ≡ at_moment moment.0 (kept (record { id = loan.conn; created = loan.created; raw = raw }) moment.0 (unlent loan.conn self.old)) }
-    {
-        let lent = Lent {
-            id: loan.conn,
-            created: loan.created,
-            raw,
-        };
-        lists::end_loan(&mut self.held, loan.conn);
-        lists::put_last(&mut self.idle, lent, moment);
-        self.last = moment;
-    }
-
-    // Ends a loan.
-    fn unlend(&mut self, conn: u64)
-        ensures { self.new ≡ unlent conn self.old }
-    {
-        lists::end_loan(&mut self.held, conn);
-    }
-
-    // Ends a loan at a moment.
-    fn unlend_at(&mut self, conn: u64, moment: Moment)
-        ensures { self.new ≡ at_moment moment.0 (unlent conn self.old) }
-    {
-        lists::end_loan(&mut self.held, conn);
-        self.last = moment;
+        self.pool.sound();
+        self.pool.loan(client, conn)
     }
 
     /// Gives a connection back: it is put last among the idle where the caller's checks accepted it, the pool is
@@ -112,38 +50,11 @@ impl<C> PoolCore<C> {
         ensures moves { Moves self.old self.new (give_marks lent.id (moment_of self.old now) result) (given_back result) 0 }
         ensures becomes { self.new ≡ gave (loan_of client lent.id self.old.held) lent (moment_of self.old now) result self.old }
     {
-        let moment = self.moment(now);
-        self.take_back(client, lent, moment, accepted)
-    }
-
-    // Takes a connection back at a moment.
-    fn take_back(&mut self, client: u32, lent: Lent<C>, moment: Moment, accepted: bool) -> Given<C>
-        ensures answer { result ≡ give_answer self.old.options self.old.shut moment.0 accepted (loan_of client lent.id self.old.held) lent }
-        ensures becomes { self.new ≡ gave (loan_of client lent.id self.old.held) lent moment.0 result self.old }
-    {
-        let Some(loan) = self.loan(client, lent.id) else {
-            return Given::NotHeld(lent.raw);
-        };
-        if accepted && !self.closes(loan.created, moment) {
-            self.keep(loan, lent.raw, moment);
-            Given::Kept
-        } else {
-            self.unlend_at(lent.id, moment);
-            Given::Closed(lent.raw)
-        }
-    }
-
-    // Ends a loan of this client's.
-    fn release(&mut self, client: u32, id: u64) -> bool
-        ensures answer { result ≡ is_some (loan_of client id self.old.held) }
-        ensures becomes { self.new ≡ released id result self.old }
-        ensures sound { IsSound self.old }
-    {
-        let held = self.loan(client, id).is_some();
-        if held {
-            self.unlend(id);
-        }
-        held
+        let moment = self.pool.moment(now);
+        self.pool.sound();
+        let given = self.pool.give(client, lent, moment, accepted);
+        self.pool.sound();
+        given
     }
 
     /// Ends the loan of a connection, which the caller closes. False, and nothing changes, where the client
@@ -155,7 +66,10 @@ impl<C> PoolCore<C> {
         ensures moves { Moves self.old self.new (end_marks id result) (one_if result) 0 }
         ensures becomes { self.new ≡ released id result self.old }
     {
-        self.release(client, id)
+        self.pool.sound();
+        let held = self.pool.end(client, id);
+        self.pool.sound();
+        held
     }
 
     /// Takes a connection out of the pool: its place and its permit are free again. False, and nothing changes,
@@ -167,28 +81,9 @@ impl<C> PoolCore<C> {
         ensures moves { Moves self.old self.new (detach_marks id result) (one_if result) 0 }
         ensures becomes { self.new ≡ released id result self.old }
     {
-        self.release(client, id)
-    }
-
-    // Ends a loan, and keeps its place and its permit for good.
-    fn unlend_leaked(&mut self, client: u32, conn: u64)
-        requires { is_some (loan_of client conn self.old.held) ≡ true }
-        ensures { self.new ≡ leaked conn true self.old }
-    {
-        lists::end_loan(&mut self.held, conn);
-        self.leaked += 1;
-    }
-
-    // Takes a connection of this client's out of the pool for good.
-    fn lose(&mut self, client: u32, id: u64) -> bool
-        ensures answer { result ≡ is_some (loan_of client id self.old.held) }
-        ensures becomes { self.new ≡ leaked id result self.old }
-        ensures sound { IsSound self.old }
-    {
-        let held = self.loan(client, id).is_some();
-        if held {
-            self.unlend_leaked(client, id);
-        }
+        self.pool.sound();
+        let held = self.pool.detach(client, id);
+        self.pool.sound();
         held
     }
 
@@ -201,6 +96,9 @@ impl<C> PoolCore<C> {
         ensures moves { Moves self.old self.new (leak_marks id result) (one_if result) 0 }
         ensures becomes { self.new ≡ leaked id result self.old }
     {
-        self.lose(client, id)
+        self.pool.sound();
+        let held = self.pool.leak(client, id);
+        self.pool.sound();
+        held
     }
 }

@@ -1,122 +1,40 @@
 //! Keeping the minimum, with the outside asked for each connection.
 
-ghost use Rattle.std.specs.Prelude.{◌≡◌, ℕ, ◌+◌, ◌<◌, ◌≤◌, ◌⊎◌, max, nat_lt, Bool, true, false, not, List, [], Option, Some, None, IfNone};
-ghost use Rattle.sqlx_text.specs.declared.error.Error.{Error};
-ghost use Rattle.sqlx_pool_core.specs.Logs.{Logs, moment_of};
-ghost use Rattle.sqlx_pool_core.specs.Limits.{limits_of};
+ghost use Rattle.std.specs.Prelude.{◌≡◌, ℕ, ◌≤◌, ◌⊎◌, nat_lt, max, true, false, List, Option, Some, None};
 ghost use Rattle.sqlx_log.specs.declared.mark.Mark.{Mark};
-ghost use Rattle.sqlx_pool_core.specs.Makes.{Makes};
-ghost use Rattle.sqlx_pool_core.specs.StandsFor.{StandsFor};
-ghost use Rattle.sqlx_pool_core.specs.Outside.{HasRisen};
-ghost use Rattle.sqlx_pool_core.specs.KeepingSteps.{done, placed, has_place, done_marks, lacks};
-ghost use Rattle.sqlx_pool_core.specs.KeepWith.{failed, is_full, filled_made, IsFilled, openings_made, Opens};
 ghost use Rattle.sqlx_log.specs.EventTable.{lacking_at};
-ghost use Rattle.sqlx_pool_core.specs.ToldTries.{tries_told, IsNext, filled_by, IsToldEnough, OpensAsTold};
+ghost use Rattle.sqlx_pool_core.specs.Limits.{limits_of};
+ghost use Rattle.sqlx_pool_core.specs.StandsFor.{StandsFor};
+ghost use Rattle.sqlx_pool_core.specs.Logs.{Logs, moment_of};
+ghost use Rattle.sqlx_pool_core.specs.KeepingSteps.{done, done_marks, has_place, lacks};
+ghost use Rattle.sqlx_pool_core.specs.Minimum.{KeepsMinimum, Opens, openings_made};
+ghost use Rattle.sqlx_pool_core.specs.Outside.{HasRisen, is_want};
 
 use super::PoolCore;
-use crate::filled::Filled;
 use crate::outside::Outside;
 use crate::probe::{self, Opening};
 use crate::steps::Openings;
 use sqlx_text::{Error, Moment};
 use std::alloc::Global;
 
-// What a connect that was refused for good makes of its place.
-fn failed(error: &Error) -> Filled
-    ensures { result ≡ failed error.now }
+// Memory was wanting.
+fn is_want(error: &Error) -> bool
+    ensures { result ≡ is_want error.now }
 {
-    match error {
-        Error::OutOfMemory => Filled::Short,
-        _ => Filled::Refused,
-    }
+    matches!(error, Error::OutOfMemory)
 }
 
 impl<C> PoolCore<C> {
-    // Keeps a connection that was opened for a place.
-    fn keep_opened(&mut self, now: Moment, raw: C)
+    // Tells an open pool what came of a place.
+    fn fill(&mut self, now: Moment, raw: Option<C>)
         requires place { 1 ≤ self.old.places }
         requires open { self.old.shut ≡ false }
-        ensures makes { Logs self.old (filled_made Filled.Opened self.old.next_conn (moment_of self.old now)) self.new }
-        ensures becomes { self.new ≡ done (moment_of self.old now) (Some raw) self.old }
+        ensures becomes { self.new ≡ done self.old.shut (moment_of self.old now) raw self.old }
+        ensures makes { Logs self.old (done_marks self.old.shut self.old.next_conn (moment_of self.old now) raw) self.new }
     {
-        match self.minimum_done(now, Some(raw)) {
+        match self.minimum_done(now, raw) {
             None => {}
             Some(_) => unreachable!(),
-        }
-    }
-
-    // Frees a place for which nothing was opened.
-    fn let_go(&mut self, now: Moment)
-        requires place { 1 ≤ self.old.places }
-        requires open { self.old.shut ≡ false }
-        ensures makes { Logs self.old [] self.new }
-        ensures becomes { self.new ≡ done (moment_of self.old now) None self.old }
-    {
-        match self.minimum_done(now, None) {
-            None => {}
-            Some(_) => unreachable!(),
-        }
-    }
-
-    // Tries to open a connection for a place that is held.
-    fn fill_place<O, X: Outside<C, O>>(
-        &mut self,
-        alloc: Global,
-        now: Moment,
-        options: &O,
-        out: &mut X,
-    ) -> Filled
-        requires place { 1 ≤ self.old.places }
-        requires open { self.old.shut ≡ false }
-        ensures filled { is_full result ≡ false }
-        ensures makes { Logs self.old (filled_made result self.old.next_conn (moment_of self.old now)) self.new }
-        ensures becomes { IsFilled X.depth result (moment_of self.old now) self.old self.new }
-        ensures tells { IsNext (tries_told self.old.options.after_connect (X.told out.old)) (tries_told self.old.options.after_connect (X.told out.new)) (λ try. result ≡ filled_by try) ⊎ (result ≡ Filled.Short) }
-        ensures want { result ≡ Filled.Short → X.IsShort out.new }
-        ensures cause { result ≡ Filled.Refused → HasRisen (X.faults out.old) (X.faults out.new) ⊎ HasRisen (X.refusals out.old) (X.refusals out.new) }
-        ensures faults { X.faults out.old ≤ X.faults out.new }
-        ensures refusals { X.refusals out.old ≤ X.refusals out.new }
-    {
-        let set = self.options;
-        match probe::try_connect::<C, O, X>(alloc, &set, options, out) {
-            Opening::Opened(raw) => {
-                self.keep_opened(now, raw);
-                Filled::Opened
-            }
-            Opening::Failed(error) => {
-                self.let_go(now);
-                let filled = failed(&error);
-                drop(error);
-                filled
-            }
-            Opening::Rejected | Opening::Transient => {
-                self.let_go(now);
-                Filled::Refused
-            }
-        }
-    }
-
-    // Tries to open one connection for the minimum, where a place may be held.
-    fn open_one<O, X: Outside<C, O>>(
-        &mut self,
-        alloc: Global,
-        now: Moment,
-        options: &O,
-        out: &mut X,
-    ) -> Filled
-        ensures place { is_full result ≡ not (has_place self.old.options.min_connections self.old) }
-        ensures makes { Logs self.old (filled_made result self.old.next_conn (moment_of self.old now)) self.new }
-        ensures becomes { IsFilled X.depth result (moment_of self.old now) (placed (not (is_full result)) self.old) self.new }
-        ensures tells { is_full result ≡ false → IsNext (tries_told self.old.options.after_connect (X.told out.old)) (tries_told self.old.options.after_connect (X.told out.new)) (λ try. result ≡ filled_by try) ⊎ (result ≡ Filled.Short) }
-        ensures want { result ≡ Filled.Short → X.IsShort out.new }
-        ensures cause { result ≡ Filled.Refused → HasRisen (X.faults out.old) (X.faults out.new) ⊎ HasRisen (X.refusals out.old) (X.refusals out.new) }
-        ensures faults { X.faults out.old ≤ X.faults out.new }
-        ensures refusals { X.refusals out.old ≤ X.refusals out.new }
-    {
-        if self.minimum_place() {
-            self.fill_place::<O, X>(alloc, now, options, out)
-        } else {
-            Filled::Full
         }
     }
 
@@ -130,39 +48,48 @@ impl<C> PoolCore<C> {
         options: &O,
         out: &mut X,
     ) -> Openings
+        ensures keeps { KeepsMinimum X.does X.depth options.now now.0 self.old self.new out.old out.new result }
+        // The marks are those of so many openings, and what was opened is the last of the idle.
         ensures makes { Logs self.old (openings_made result.opened self.old.next_conn (moment_of self.old now)) self.new }
         ensures opens { Opens X.depth self.old self.new result.opened now.0 }
-        // Where enough is told, as many are opened as are told to open and lack.
-        ensures told { let tries = tries_told self.old.options.after_connect (X.told out.old) in IsToldEnough (lacks self.old) tries → OpensAsTold (lacks self.old) tries result.opened result.short }
+        // A place is left where fewer are opened than lack, and more than lack are never opened.
         ensures most { result.opened ≤ lacks self.old }
-        // A place is left where fewer are opened than lack, and want of memory leaves one.
         ensures place { has_place self.old.options.min_connections self.new ≡ nat_lt result.opened (lacks self.old) }
-        ensures short { result.short ≡ true → (has_place self.old.options.min_connections self.new ≡ true) × X.IsShort out.new }
         ensures lacks { (marks : List Mark) → StandsFor self.old marks → lacks self.old ≡ lacking_at (limits_of self.old.options) self.old.places marks }
-        ensures ends { (has_place self.old.options.min_connections self.new ≡ false) ⊎ (HasRisen (X.faults out.old) (X.faults out.new) ⊎ HasRisen (X.refusals out.old) (X.refusals out.new)) ⊎ (result.short ≡ true) }
-        ensures faults { X.faults out.old ≤ X.faults out.new }
-        ensures refusals { X.refusals out.old ≤ X.refusals out.new }
+        // Want of memory leaves a place.
+        ensures short { result.short ≡ true → (has_place self.old.options.min_connections self.new ≡ true) × X.IsShort out.new }
+        // It ends where no place is left, where a refusal was counted, or for want of memory.
+        ensures ends { (has_place self.old.options.min_connections self.new ≡ false) ⊎ ((HasRisen (X.faults out.old) (X.faults out.new) ⊎ HasRisen (X.refusals out.old) (X.refusals out.new)) ⊎ (result.short ≡ true)) }
+        // The counts never fall.
+        ensures counts { (X.faults out.old ≤ X.faults out.new) × (X.refusals out.old ≤ X.refusals out.new) }
     {
-        let max = self.options.get_max_connections();
-        for opened in 0..max {
-            match self.open_one::<O, X>(alloc, now, options, out) {
-                Filled::Opened => {}
-                Filled::Short => return Openings {
-                    opened,
-                    short: true,
-                },
-                Filled::Full => return Openings {
-                    opened,
-                    short: false,
-                },
-                Filled::Refused => return Openings {
-                    opened,
-                    short: false,
-                },
+        let hook = self.options().get_after_connect();
+        // At most so many are opened.
+        let _max = self.options().get_max_connections();
+        let mut opened = 0;
+        'places: while self.minimum_place() {
+            match probe::try_connect::<C, O, X>(alloc, hook, options, out) {
+                Opening::Opened(raw) => {
+                    self.fill(now, Some(raw));
+                    opened += 1;
+                }
+                Opening::Rejected | Opening::Transient => {
+                    self.fill(now, None);
+                    return Openings {
+                        opened,
+                        short: false,
+                    };
+                }
+                Opening::Failed(error) => {
+                    self.fill(now, None);
+                    let short = is_want(&error);
+                    drop(error);
+                    return Openings { opened, short };
+                }
             }
         }
         Openings {
-            opened: max,
+            opened,
             short: false,
         }
     }

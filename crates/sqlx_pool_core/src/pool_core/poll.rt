@@ -1,99 +1,19 @@
-//! A poll in its three steps. Tests and connects run between them, outside the core.
+//! The start of a poll. Tests and connects run behind it, outside the core.
 
-ghost use Rattle.std.specs.Prelude.{◌≡◌, ℕ, ◌+◌, ◌<◌, ◌≤◌, max, List, [], ◌∷◌, Option, Some, None, IfSome, length, if◌then◌else◌, not, nat_lt, true};
-ghost use Rattle.sqlx_pool_core.specs.Logs.{Logs, moment_of};
-ghost use Rattle.sqlx_pool_core.specs.Core.{ticket_of, free};
-ghost use Rattle.sqlx_pool_core.specs.OwnTurn.{is_first_in_line, turn_of, own_turn};
-ghost use Rattle.sqlx_pool_core.specs.PollSteps.{start_answer, start_marks, started, phase_for};
-ghost use Rattle.sqlx_pool_core.specs.Edits.{at_moment, ended, to_try};
-ghost use Rattle.sqlx_pool_core.specs.declared.steps.Start.TheVariants as start;
-ghost use Rattle.sqlx_log.specs.PollTable.{numbered, first_idle};
-ghost use Rattle.sqlx_pool_core.specs.PollTable.{phase_turn};
+ghost use Rattle.std.specs.Prelude.{◌≡◌, ℕ, max, List, Option};
 ghost use Rattle.sqlx_log.specs.declared.mark.Mark.{Mark};
-ghost use Rattle.sqlx_pool_core.specs.Makes.{Makes};
+ghost use Rattle.sqlx_pool_core.specs.Logs.{Logs, moment_of};
+ghost use Rattle.sqlx_pool_core.specs.OwnTurn.{own_turn};
+ghost use Rattle.sqlx_pool_core.specs.PollSteps.{start_answer, start_marks, started, phase_for};
+ghost use Rattle.sqlx_pool_core.specs.PollTable.{phase_turn};
 ghost use Rattle.sqlx_pool_core.specs.Moves.{Moves};
-ghost use Rattle.sqlx_pool_core.specs.Sound.{IsSound};
 ghost use Rattle.sqlx_pool_core.specs.StandsFor.{StandsFor};
-ghost use Rattle.sqlx_log.specs.declared.turn.Turn.{Turn};
 
-use super::{NUMBERS, PoolCore};
-use crate::lists;
-use crate::steps::{Idle, Start};
-use crate::ticket::{Phase, Ticket};
-use sqlx_log::Turn;
+use super::PoolCore;
+use crate::steps::Start;
 use sqlx_text::Moment;
 
 impl<C> PoolCore<C> {
-    // A try, where the numbers of connections aren't used up.
-    fn numbered(&self, due: Turn) -> Turn
-        ensures { result ≡ numbered self.now.next_conn due }
-    {
-        if self.next_conn > NUMBERS {
-            Turn::Exhausted
-        } else {
-            due
-        }
-    }
-
-    // The turn of a ticket that waits, in time and in an open pool.
-    fn turn_in_line(&self, entitled: bool) -> Turn
-        ensures { result ≡ (if entitled then numbered self.now.next_conn (first_idle self.now.idle) else Turn.Waiting) }
-    {
-        if !entitled {
-            Turn::Waiting
-        } else if self.idle.is_empty() {
-            self.numbered(Turn::Connect)
-        } else {
-            self.numbered(Turn::Test)
-        }
-    }
-
-    // Fewer waiting tickets precede this one than permits are free.
-    fn is_first(&self, number: u64) -> bool
-        ensures { result ≡ is_first_in_line number self.now }
-    {
-        lists::before_of(&self.tickets, number) < self.free() as usize
-    }
-
-    // What the poll of a ticket comes to at a moment, entitled or not.
-    fn turn(&self, ticket: &Ticket, moment: Moment, entitled: bool) -> Turn
-        ensures { result ≡ turn_of entitled moment.0 self.now (Some ticket.now) }
-    {
-        if matches!(ticket.phase, Phase::Testing { .. } | Phase::Connecting) {
-            return Turn::NotHeld;
-        }
-        if self.shut {
-            return Turn::Closed;
-        }
-        if ticket.deadline <= u128::from(moment.0) {
-            return Turn::TimedOut;
-        }
-        match ticket.phase {
-            Phase::Backoff { until } if u128::from(moment.0) < until => Turn::Backoff(until),
-            Phase::Backoff { .. } => self.numbered(Turn::Connect),
-            _ => self.turn_in_line(entitled),
-        }
-    }
-
-    // This client's ticket of this number.
-    pub(super) fn find(&self, client: u32, number: u64) -> Option<Ticket>
-        ensures found { result ≡ ticket_of client number self.now.tickets }
-        ensures own { IfSome result (λ x. ticket_of x.client x.number self.now.tickets ≡ Some x) }
-        ensures number { IfSome result (λ x. x.number ≡ number) }
-        ensures client { IfSome result (λ x. x.client ≡ client) }
-        ensures sound { IsSound self.now }
-    {
-        lists::ticket_for(&self.tickets, client, number)
-    }
-
-    // Ends a ticket at a moment.
-    pub(super) fn end_at(&mut self, number: u64, moment: Moment)
-        ensures { self.new ≡ at_moment moment.0 (ended number self.old) }
-    {
-        lists::end_ticket(&mut self.tickets, number);
-        self.last = moment;
-    }
-
     /// Begins a poll. `now` below the last moment counts as the last one.
     pub fn start(&mut self, client: u32, ticket: u64, now: Moment) -> Start<C>
         // The answer is the poll table's, by the tickets, permits and idle connections of the marks and the ticket's own phase.
@@ -103,96 +23,10 @@ impl<C> PoolCore<C> {
         ensures own { result ≡ start_answer (own_turn self.old client ticket (moment_of self.old now)) self.old.idle }
         ensures becomes { self.new ≡ started ticket (moment_of self.old now) result self.old }
     {
-        let moment = self.moment(now);
-        let entitled = self.is_first(ticket);
-        self.start_at(client, ticket, moment, entitled)
-    }
-
-    // Begins a poll at a moment. A ticket that waits leaves the line only where it is entitled.
-    fn start_at(&mut self, client: u32, ticket: u64, moment: Moment, entitled: bool) -> Start<C>
-        requires permit { entitled ≡ true → 0 < free self.old }
-        ensures answer { result ≡ start_answer (turn_of entitled moment.0 self.old (ticket_of client ticket self.old.tickets)) self.old.idle }
-        ensures becomes { self.new ≡ started ticket moment.0 result self.old }
-    {
-        let Some(found) = self.find(client, ticket) else {
-            return Start::NotHeld;
-        };
-        match self.turn(&found, moment, entitled) {
-            Turn::NotHeld => Start::NotHeld,
-            Turn::Waiting => Start::Waiting,
-            Turn::Backoff(until) => Start::Backoff(until),
-            Turn::Closed => {
-                self.end_at(ticket, moment);
-                Start::Closed
-            }
-            Turn::TimedOut => {
-                self.end_at(ticket, moment);
-                Start::TimedOut
-            }
-            Turn::Exhausted => {
-                self.end_at(ticket, moment);
-                Start::Exhausted
-            }
-            Turn::Test => Start::Test(self.begin_test(found, moment, entitled)),
-            Turn::Connect => {
-                self.begin_connect(found, moment, entitled);
-                Start::Connect
-            }
-        }
-    }
-
-    // The ticket leaves the line with the first idle connection, which is to be tested.
-    fn begin_test(&mut self, found: Ticket, moment: Moment, _entitled: bool) -> Idle<C>
-        requires turn { turn_of _entitled moment.0 self.old (Some found) ≡ Turn.Test }
-        requires permit { _entitled ≡ true → 0 < free self.old }
-        requires found { ticket_of found.client found.number self.old.tickets ≡ Some found }
-        ensures first { self.old.idle ≡ result ∷ self.new.idle }
-        ensures becomes { self.new ≡ started found.number moment.0 (start.Test result) self.old }
-    {
-        let Some(idle) = self.idle.pop_front() else {
-            unreachable!();
-        };
-        let phase = Phase::Testing {
-            conn: idle.lent.id,
-            created: idle.lent.created,
-        };
-        let ticket = Ticket {
-            phase,
-            first_try: moment,
-            last_wait: None,
-            ..found
-        };
-        lists::put_ticket(&mut self.tickets, ticket);
-        self.last = moment;
-        idle
-    }
-
-    // The ticket connects: one that waited leaves the line.
-    fn begin_connect(&mut self, found: Ticket, moment: Moment, _entitled: bool)
-        requires turn { turn_of _entitled moment.0 self.old (Some found) ≡ Turn.Connect }
-        requires permit { _entitled ≡ true → 0 < free self.old }
-        requires found { ticket_of found.client found.number self.old.tickets ≡ Some found }
-        ensures becomes { self.new ≡ started found.number moment.0 start.Connect self.old }
-    {
-        lists::put_ticket(&mut self.tickets, trying(found, moment));
-        self.last = moment;
-    }
-}
-
-// A ticket that connects: one that waited leaves the line at this moment.
-fn trying(found: Ticket, moment: Moment) -> Ticket
-    ensures { result ≡ to_try moment.0 found }
-{
-    match found.phase {
-        Phase::Waiting => Ticket {
-            phase: Phase::Connecting,
-            first_try: moment,
-            last_wait: None,
-            ..found
-        },
-        _ => Ticket {
-            phase: Phase::Connecting,
-            ..found
-        },
+        let moment = self.pool.moment(now);
+        let entitled = self.pool.is_first(ticket);
+        let started = self.pool.start(client, ticket, moment, entitled);
+        self.pool.sound();
+        started
     }
 }

@@ -1,6 +1,7 @@
 //! A query whose rows are mapped.
 ghost use Rattle.std.specs.Prelude.{◌≡◌, ◌≤◌, ◌⊎◌, ◌∷◌, [], Err, IfErr};
 ghost use Rattle.sqlx_text.specs.declared.error.Error.{Error};
+ghost use Rattle.sqlx_traits.specs.Reads.{Answers};
 ghost use Rattle.sqlx_traits.specs.StepList.{Ran, RunsNothing, StepCause, StepCauses, first_of, one_or, rows_of};
 ghost use Rattle.sqlx_query.specs.Query.{handed_over, turned};
 ghost use Rattle.sqlx_query.specs.Mapping.{MapsAll, ReadsOne, ReadsOptional, RefusedBy, made_by};
@@ -129,6 +130,7 @@ impl<'q, DB: Database, F: Mapper<DB::Row>, A: IntoArguments<DB> + Drop> Map<'q, 
     ) -> Result<Vec<F::Out>, Error>
         requires { F.ready self.mapper }
         ensures rows { Ran E.runs executor.old (handed_over A.becomes self.entry.query) executor.new (λ list. MapsAll (λ all. all.items) F.maps (rows_of list) self.entry.mapper result) }
+        ensures unencoded { IfErr (turned A.becomes self.entry.query.arguments) (RunsNothing executor.old executor.new (λ e. Answers (λ all. all.items) Error.OutOfMemory (Err e) result)) }
         ensures rises { E.faults executor.old ≤ E.faults executor.new }
         ensures cause { IfErr result (λ e. RefusedBy F.maps e ⊎ StepCause (E.faults executor.old) (E.faults executor.new) (turned A.becomes self.entry.query.arguments) e) }
     {
@@ -144,6 +146,7 @@ impl<'q, DB: Database, F: Mapper<DB::Row>, A: IntoArguments<DB> + Drop> Map<'q, 
         requires { F.ready self.mapper }
         ensures row { Ran E.runs executor.old (handed_over A.becomes self.entry.query) executor.new
             (λ list. ReadsOne (made_by F.maps self.entry.mapper) (one_or Error.RowNotFound (first_of (rows_of list))) result) }
+        ensures unencoded { IfErr (turned A.becomes self.entry.query.arguments) (RunsNothing executor.old executor.new (λ e. result ≡ Err e)) }
         ensures rises { E.faults executor.old ≤ E.faults executor.new }
         ensures cause { IfErr result (λ e. RefusedBy F.maps e ⊎ ((e ≡ Error.RowNotFound) ⊎ StepCause (E.faults executor.old) (E.faults executor.new) (turned A.becomes self.entry.query.arguments) e)) }
     {
@@ -159,6 +162,7 @@ impl<'q, DB: Database, F: Mapper<DB::Row>, A: IntoArguments<DB> + Drop> Map<'q, 
         requires { F.ready self.mapper }
         ensures row { Ran E.runs executor.old (handed_over A.becomes self.entry.query) executor.new
             (λ list. ReadsOptional (made_by F.maps self.entry.mapper) (first_of (rows_of list)) result) }
+        ensures unencoded { IfErr (turned A.becomes self.entry.query.arguments) (RunsNothing executor.old executor.new (λ e. result ≡ Err e)) }
         ensures rises { E.faults executor.old ≤ E.faults executor.new }
         ensures cause { IfErr result (λ e. RefusedBy F.maps e ⊎ StepCause (E.faults executor.old) (E.faults executor.new) (turned A.becomes self.entry.query.arguments) e) }
     {

@@ -1,6 +1,7 @@
 //! A query whose rows are read as values: each made of its row, or each the row's first column.
 ghost use Rattle.std.specs.Prelude.{◌≡◌, ◌≤◌, ◌⊎◌, ◌∷◌, [], Err, IfErr};
 ghost use Rattle.sqlx_text.specs.declared.error.Error.{Error};
+ghost use Rattle.sqlx_traits.specs.Reads.{Answers};
 ghost use Rattle.sqlx_traits.specs.StepList.{Ran, RunsNothing, StepCause, StepCauses, first_of, one_or, rows_of};
 ghost use Rattle.sqlx_query.specs.Binding.{Binds};
 ghost use Rattle.sqlx_query.specs.Mapping.{ReadsAll, ReadsOne, ReadsOptional, Refused};
@@ -100,6 +101,7 @@ impl<'q, DB: Database, M: Reader<DB>, A: IntoArguments<DB> + Drop> ReadQuery<'q,
         executor: &mut E,
     ) -> Result<Vec<M::Out>, Error>
         ensures rows { Ran E.runs executor.old (handed_over A.becomes self.entry.query) executor.new (λ list. ReadsAll (λ all. all.items) M.reads (rows_of list) result) }
+        ensures unencoded { IfErr (turned A.becomes self.entry.query.arguments) (RunsNothing executor.old executor.new (λ e. Answers (λ all. all.items) Error.OutOfMemory (Err e) result)) }
         ensures rises { E.faults executor.old ≤ E.faults executor.new }
         ensures cause { IfErr result (λ e. Refused M.reads e ⊎ StepCause (E.faults executor.old) (E.faults executor.new) (turned A.becomes self.entry.query.arguments) e) }
     {
@@ -122,6 +124,7 @@ impl<'q, DB: Database, M: Reader<DB>, A: IntoArguments<DB> + Drop> ReadQuery<'q,
     ) -> Result<M::Out, Error>
         ensures row { Ran E.runs executor.old (handed_over A.becomes self.entry.query) executor.new
             (λ list. ReadsOne M.reads (one_or Error.RowNotFound (first_of (rows_of list))) result) }
+        ensures unencoded { IfErr (turned A.becomes self.entry.query.arguments) (RunsNothing executor.old executor.new (λ e. result ≡ Err e)) }
         ensures rises { E.faults executor.old ≤ E.faults executor.new }
         ensures cause { IfErr result (λ e. Refused M.reads e ⊎ ((e ≡ Error.RowNotFound) ⊎ StepCause (E.faults executor.old) (E.faults executor.new) (turned A.becomes self.entry.query.arguments) e)) }
     {
@@ -136,6 +139,7 @@ impl<'q, DB: Database, M: Reader<DB>, A: IntoArguments<DB> + Drop> ReadQuery<'q,
     ) -> Result<Option<M::Out>, Error>
         ensures row { Ran E.runs executor.old (handed_over A.becomes self.entry.query) executor.new
             (λ list. ReadsOptional M.reads (first_of (rows_of list)) result) }
+        ensures unencoded { IfErr (turned A.becomes self.entry.query.arguments) (RunsNothing executor.old executor.new (λ e. result ≡ Err e)) }
         ensures rises { E.faults executor.old ≤ E.faults executor.new }
         ensures cause { IfErr result (λ e. Refused M.reads e ⊎ StepCause (E.faults executor.old) (E.faults executor.new) (turned A.becomes self.entry.query.arguments) e) }
     {

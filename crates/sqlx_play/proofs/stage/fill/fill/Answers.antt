@@ -1,12 +1,54 @@
-use Rattle.std.proofs.Common.{ℕ, Result, Ok, Err, IfOk}
-use Rattle.sqlx_play.specs.declared.error.PlayError.{PlayError}
+use Rattle.std.proofs.Common.{◌≡◌, ℕ, ◌+◌, sym, ap, subst, ◌∙◌, arith}
+use Rattle.mem_store.specs.Store.{Store}
 use Rattle.sqlx_play.specs.KeepsMinimum.{KeepsMinimum}
-use Rattle.sqlx_play.proofs.KeepsMinimumLemmas.{fills-from}
+use Rattle.sqlx_play.proofs.KeepsMinimumLemmas.{opened-none, fills-from}
+use Rattle.sqlx_play.proofs.MinimumKept.{fills, keeps-moved}
 use Rattle.sqlx_play.proofs.stage.fill.fill.Goals as goal
 
+plus_none : (n : ℕ) → n + 0 ≡ n
+plus_none n = omega arith
+
+none_plus : (n : ℕ) → 0 + n ≡ n
+none_plus n = omega arith
+
 pub returns-clause-ok : goal.returns-clause-ok
-returns-clause-ok c = by c.open_accepted.result c.open_accepted.ensures.ok
-  where
-    by : (r : Result ℕ PlayError) → IfOk r (KeepsMinimum (record c.args.stage.now { out = c.begin_minimum.new.self }) c.open_accepted.new.stage c.args.moment.0 c.args.opens) → IfOk r (KeepsMinimum c.args.stage.now c.open_accepted.new.stage c.args.moment.0 c.args.opens)
-    by (Ok n) fills = fills-from c.args.stage.now c.begin_minimum.new.self c.open_accepted.new.stage c.args.moment.0 c.args.opens n c.begin_minimum.ensures.store fills
-    by (Err e) fills = tt
+returns-clause-ok c =
+    let stage = c.args.stage.now in
+    let old = record stage { out = c.begin_minimum.new.self } in
+    let kept = c.keep_minimum-kept.ensures.keeps in
+    let numbers = c.requires.numbers in
+    fills-from stage c.begin_minimum.new.self (record stage { core = c.keep_minimum-kept.new.self; out = c.keep_minimum-kept.new.out }) c.args.moment.0 c.args.opens c.from.result c.begin_minimum.ensures.store
+    (subst (λ (n : ℕ). KeepsMinimum old (record stage { core = c.keep_minimum-kept.new.self; out = c.keep_minimum-kept.new.out }) c.args.moment.0 c.args.opens n) (none_plus _ ∙ sym (c.from.ensures ∙ kept.opened))
+    (fills old c.args.moment.0 c.args.opens (omega (arith, numbers)) kept.tries stage.core c.keep_minimum-kept.new.self c.begin_minimum.new.self c.keep_minimum-kept.new.out 0 kept.keeps (sym kept.short ∙ c.if-kept.false)
+    (opened-none old c.args.moment.0) (plus_none _ ∙ c.begin_minimum.ensures.opens) c.begin_minimum.ensures.refuses c.begin_minimum.ensures.sets_up c.requires.in_order))
+
+pub returns-clause-runs : goal.returns-clause-runs
+returns-clause-runs c =
+    let w = keeps-moved c.args.moment.0 c.keep_minimum-kept.ensures.keeps.tries _ _ _ _ c.keep_minimum-kept.ensures.keeps.keeps c.begin_minimum.ensures.refuses c.begin_minimum.ensures.sets_up in
+    w.runs ∙ ap (λ (s : Store). s.runs) c.begin_minimum.ensures.store
+
+pub returns-clause-last : goal.returns-clause-last
+returns-clause-last c =
+    let w = keeps-moved c.args.moment.0 c.keep_minimum-kept.ensures.keeps.tries _ _ _ _ c.keep_minimum-kept.ensures.keeps.keeps c.begin_minimum.ensures.refuses c.begin_minimum.ensures.sets_up in
+    w.last c.requires.in_order
+
+pub returns-clause-used : goal.returns-clause-used
+returns-clause-used c =
+    let w = keeps-moved c.args.moment.0 c.keep_minimum-kept.ensures.keeps.tries _ _ _ _ c.keep_minimum-kept.ensures.keeps.keeps c.begin_minimum.ensures.refuses c.begin_minimum.ensures.sets_up in
+    let a = w.ticket in
+    let b = w.conn in
+    let n = c.begin_minimum.ensures.opens in
+    omega (arith, a, b, n)
+
+pub returns-then-kept-clause-last : goal.returns-then-kept-clause-last
+returns-then-kept-clause-last c =
+    let w = keeps-moved c.args.moment.0 c.keep_minimum-kept.ensures.keeps.tries _ _ _ _ c.keep_minimum-kept.ensures.keeps.keeps c.begin_minimum.ensures.refuses c.begin_minimum.ensures.sets_up in
+    w.last c.requires.in_order
+
+pub returns-then-kept-clause-used : goal.returns-then-kept-clause-used
+returns-then-kept-clause-used c =
+    let w = keeps-moved c.args.moment.0 c.keep_minimum-kept.ensures.keeps.tries _ _ _ _ c.keep_minimum-kept.ensures.keeps.keeps c.begin_minimum.ensures.refuses c.begin_minimum.ensures.sets_up in
+    let a = w.ticket in
+    let b = w.conn in
+    let n = c.begin_minimum.ensures.opens in
+    omega (arith, a, b, n)

@@ -1,16 +1,15 @@
-use Rattle.sqlx_pool_core.proofs.Answered.{cancel-answered}
-use Rattle.sqlx_pool_core.proofs.Moving.{cancel-moves}
-use Rattle.std.proofs.Common.{◌∙◌}
+use Rattle.sqlx_pool_core.proofs.Alone.{plain-alone, moves-alone}
+use Rattle.std.proofs.Common.{rules, refl, ◌∙◌}
+use Rattle.sqlx_pool_core.specs.PollSteps.{cancel_marks}
 use Rattle.sqlx_pool_core.proofs.AnswersAtMarks.{cancel-at}
 use Rattle.sqlx_pool_core.proofs.pool_core.PoolCore.cancel.Goals as goal
 
 pub returns-clause-makes : goal.returns-clause-makes
-returns-clause-makes g c = λ marks s.
-    cancel-answered c.args.self.now c.end_at_rest.new.self marks c.end_at_rest.ensures.sound s c.args.client c.args.ticket c.end_at_rest.result c.end_at_rest.ensures.answer c.end_at_rest.ensures.becomes
+returns-clause-makes g c =
+    plain-alone _ _ _ c.self.view_is (λ core. cancel_marks c.args.ticket c.cancel-done.result) _ refl c.self.invariant c.sound.ensures c.cancel-done.ensures.stays c.cancel-done.ensures.draws c.cancel-done.ensures.makes
 
 pub returns-clause-moves : goal.returns-clause-moves
-returns-clause-moves g c =
-    cancel-moves c.args.self.now c.end_at_rest.new.self c.end_at_rest.ensures.sound c.args.client c.args.ticket c.end_at_rest.result c.end_at_rest.ensures.answer c.end_at_rest.ensures.becomes
+returns-clause-moves g c = moves-alone _ _ _ c.self.view_is (λ core. cancel_marks c.args.ticket c.cancel-done.result) _ 0 0 refl c.cancel-done.ensures.moves
 
 pub returns-clause-marks : goal.returns-clause-marks
-returns-clause-marks g c = λ marks s. c.end_at_rest.ensures.answer ∙ cancel-at c.args.self.now marks s c.args.client c.args.ticket
+returns-clause-marks g c = λ marks s. (search rules) ∙ cancel-at c.args.self.now marks s c.args.client c.args.ticket

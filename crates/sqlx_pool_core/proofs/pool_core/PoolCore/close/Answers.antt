@@ -1,14 +1,17 @@
-use Rattle.sqlx_pool_core.proofs.Answered.{close-answered}
-use Rattle.sqlx_pool_core.proofs.Moving.{close-moves}
+use Rattle.sqlx_pool_core.proofs.Alone.{close-alone, moves-alone}
+use Rattle.std.proofs.Common.{rules, refl, ◌≡◌}
+use Rattle.sqlx_pool_core.specs.KeepingSteps.{close_answer, close_marks}
 use Rattle.sqlx_pool_core.proofs.KeepingAtMarks.{close-at}
 use Rattle.sqlx_pool_core.proofs.pool_core.PoolCore.close.Goals as goal
 
 pub returns-clause-makes : goal.returns-clause-makes
-returns-clause-makes g c = λ marks s.
-    close-answered c.args.self.now c.shut_first.new.self marks c.shut_first.ensures.sound s c.shut_first.result.items c.shut_first.ensures.answer c.shut_first.ensures.becomes
+returns-clause-makes g c =
+    close-alone _ _ _ c.self.view_is (λ core. close_marks core.shut c.close-idle.result.items) _ refl c.self.invariant c.sound.ensures c.close-idle.ensures.becomes c.close-idle.ensures.draws c.close-idle.ensures.makes
 
 pub returns-clause-moves : goal.returns-clause-moves
-returns-clause-moves g c = close-moves c.args.self.now c.shut_first.new.self c.shut_first.ensures.sound c.shut_first.result.items c.shut_first.ensures.answer c.shut_first.ensures.becomes
+returns-clause-moves g c = moves-alone _ _ _ c.self.view_is (λ core. close_marks core.shut c.close-idle.result.items) _ 0 0 refl c.close-idle.ensures.moves
 
 pub returns-clause-marks : goal.returns-clause-marks
-returns-clause-marks g c = λ marks s. close-at c.args.self.now marks s c.shut_first.result.items c.shut_first.ensures.answer
+returns-clause-marks g c = λ marks s.
+    let answer : c.close-idle.result.items ≡ close_answer c.args.self.now.shut c.args.self.now.idle = search rules in
+    close-at c.args.self.now marks s c.close-idle.result.items answer

@@ -1,16 +1,19 @@
-use Rattle.sqlx_pool_core.proofs.Answered.{detach-answered}
-use Rattle.sqlx_pool_core.proofs.Moving.{detach-moves}
-use Rattle.std.proofs.Common.{◌∙◌}
+use Rattle.sqlx_pool_core.proofs.Alone.{plain-alone, moves-alone}
+use Rattle.std.proofs.Common.{rules, subst, refl, ◌∙◌}
+use Rattle.sqlx_pool_core.specs.Sound.{IsSound}
+use Rattle.sqlx_pool_core.specs.Moves.{one_if}
+use Rattle.sqlx_pool_core.specs.ReturnSteps.{detach_marks}
 use Rattle.sqlx_pool_core.proofs.AnswersAtMarks.{owner-at}
 use Rattle.sqlx_pool_core.proofs.pool_core.PoolCore.detach.Goals as goal
 
 pub returns-clause-makes : goal.returns-clause-makes
-returns-clause-makes g c = λ marks s.
-    detach-answered c.args.self.now c.release.new.self marks c.release.ensures.sound s c.args.client c.args.id c.release.result c.release.ensures.answer c.release.ensures.becomes
+returns-clause-makes g c =
+    plain-alone _ _ _ c.self.view_is (λ core. detach_marks c.args.id c.detach-held.result) _ refl c.self.invariant c.sound-2.ensures c.detach-held.ensures.stays c.detach-held.ensures.draws c.detach-held.ensures.makes
 
 pub returns-clause-moves : goal.returns-clause-moves
-returns-clause-moves g c =
-    detach-moves c.args.self.now c.release.new.self c.release.ensures.sound c.args.client c.args.id c.release.result c.release.ensures.answer c.release.ensures.becomes
+returns-clause-moves g c = moves-alone _ _ _ c.self.view_is (λ core. detach_marks c.args.id c.detach-held.result) _ (one_if c.detach-held.result) 0 refl c.detach-held.ensures.moves
 
 pub returns-clause-marks : goal.returns-clause-marks
-returns-clause-marks g c = λ marks s. c.release.ensures.answer ∙ owner-at c.args.self.now marks s c.release.ensures.sound c.args.client c.args.id
+returns-clause-marks g c = λ marks s.
+    let sound : IsSound c.args.self.now = subst IsSound c.self.view_is c.sound.ensures in
+    (search rules) ∙ owner-at c.args.self.now marks s sound c.args.client c.args.id

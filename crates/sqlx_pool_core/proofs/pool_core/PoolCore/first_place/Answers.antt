@@ -1,19 +1,18 @@
-use Rattle.sqlx_pool_core.proofs.Answered.{place-answered}
-use Rattle.sqlx_pool_core.proofs.Moving.{place-moves}
-use Rattle.std.proofs.Common.{◌∙◌, ap, ℕ, max}
-use Rattle.sqlx_pool_core.specs.Core.{Core}
+use Rattle.sqlx_pool_core.proofs.Alone.{plain-alone, moves-alone}
+use Rattle.std.proofs.Common.{rules, refl, ◌≡◌, ◌∙◌, max, []}
+use Rattle.sqlx_pool_core.specs.Moves.{place_room}
 use Rattle.sqlx_pool_core.specs.KeepingSteps.{has_place}
 use Rattle.sqlx_pool_core.proofs.KeepingAtMarks.{place-at}
 use Rattle.sqlx_pool_core.proofs.pool_core.PoolCore.first_place.Goals as goal
 
 pub returns-clause-makes : goal.returns-clause-makes
-returns-clause-makes g c = λ marks s.
-    place-answered c.args.self.now c.hold_place.new.self marks c.hold_place.ensures.sound s c.hold_place.result c.hold_place.ensures.becomes
+returns-clause-makes g c =
+    plain-alone _ _ _ c.self.view_is (λ core. []) _ refl c.self.invariant c.sound.ensures c.hold_place-held.ensures.stays c.hold_place-held.ensures.draws c.hold_place-held.ensures.makes
 
 pub returns-clause-moves : goal.returns-clause-moves
-returns-clause-moves g c = place-moves c.args.self.now c.hold_place.new.self c.hold_place.ensures.sound c.hold_place.result c.hold_place.ensures.becomes
+returns-clause-moves g c = moves-alone _ _ _ c.self.view_is (λ core. []) _ 0 (place_room c.hold_place-held.result) refl c.hold_place-held.ensures.moves
 
 pub returns-clause-marks : goal.returns-clause-marks
 returns-clause-marks g c = λ marks s.
-    let number = c.max.ensures ∙ ap (λ (n : ℕ). max n 1) (c.get_min_connections-minimum.ensures ∙ ap (λ (core : Core g.row.C.Denot). core.options.min_connections) c.self.view_is) in
-    c.hold_place.ensures.answer ∙ ap (λ (n : ℕ). has_place n c.args.self.now) number ∙ place-at c.args.self.now marks s (max c.args.self.now.options.min_connections 1)
+    let answer : c.hold_place-held.result ≡ has_place (max c.args.self.now.options.min_connections 1) c.args.self.now = search rules in
+    answer ∙ place-at c.args.self.now marks s (max c.args.self.now.options.min_connections 1)

@@ -1,28 +1,21 @@
-use Rattle.std.proofs.Common.{subst, ℕ}
-use Rattle.sqlx_pool_core.specs.Makes.{Makes}
-use Rattle.sqlx_pool_core.specs.ReturnSteps.{give_marks}
-use Rattle.sqlx_pool_core.proofs.Answered.{give-answered}
-use Rattle.sqlx_pool_core.proofs.Moving.{give-moves}
-use Rattle.sqlx_pool_core.specs.Moves.{Moves, given_back}
-use Rattle.std.proofs.Common.{◌≡◌}
-use Rattle.sqlx_log.specs.Marks.{owner_of}
-use Rattle.sqlx_log.specs.Answers.{owns, is_kept_at}
-use Rattle.sqlx_pool_core.specs.Limits.{limits_of}
-use Rattle.sqlx_pool_core.specs.Answers.{is_kept, is_held}
+use Rattle.sqlx_pool_core.proofs.Alone.{plain-alone, moves-alone}
+use Rattle.std.proofs.Common.{rules, subst, ◌≡◌, ap, ℕ, max}
+use Rattle.sqlx_pool_core.specs.Core.{loan_of}
+use Rattle.sqlx_pool_core.specs.Sound.{IsSound}
+use Rattle.sqlx_pool_core.specs.Moves.{given_back}
+use Rattle.sqlx_pool_core.specs.ReturnSteps.{give_answer, give_marks}
 use Rattle.sqlx_pool_core.proofs.AnswersAtMarks.{give-at}
 use Rattle.sqlx_pool_core.proofs.pool_core.PoolCore.give.Goals as goal
 
 pub returns-clause-makes : goal.returns-clause-makes
-returns-clause-makes g c = λ marks s.
-    subst (λ (m : ℕ). Makes c.args.self.now.options.max_connections marks (give_marks c.args.lent.id m c.take_back.result) c.take_back.new.self) c.moment-moment.ensures.moment
-    (give-answered c.args.self.now c.take_back.new.self marks c.moment-moment.ensures.sound s c.args.client c.moment-moment.result.0 c.args.lent c.args.accepted c.take_back.result c.take_back.ensures.answer c.take_back.ensures.becomes)
+returns-clause-makes g c =
+    plain-alone _ _ _ c.self.view_is (λ core. give_marks c.args.lent.id (max core.last c.args.now.0) c.give-given.result) _ (ap (λ (m : ℕ). give_marks c.args.lent.id m c.give-given.result) c.moment-moment.ensures) c.self.invariant c.sound-2.ensures c.give-given.ensures.stays c.give-given.ensures.draws c.give-given.ensures.makes
 
 pub returns-clause-moves : goal.returns-clause-moves
-returns-clause-moves g c =
-    subst (λ (m : ℕ). Moves c.args.self.now c.take_back.new.self (give_marks c.args.lent.id m c.take_back.result) (given_back c.take_back.result) 0) c.moment-moment.ensures.moment
-    (give-moves c.args.self.now c.take_back.new.self c.moment-moment.ensures.sound c.args.client c.moment-moment.result.0 c.args.lent c.args.accepted c.take_back.result c.take_back.ensures.answer c.take_back.ensures.becomes)
+returns-clause-moves g c = moves-alone _ _ _ c.self.view_is (λ core. give_marks c.args.lent.id (max core.last c.args.now.0) c.give-given.result) _ (given_back c.give-given.result) 0 (ap (λ (m : ℕ). give_marks c.args.lent.id m c.give-given.result) c.moment-moment.ensures) c.give-given.ensures.moves
 
 pub returns-clause-marks : goal.returns-clause-marks
 returns-clause-marks g c = λ marks s.
-    subst (λ (m : ℕ). (is_kept c.take_back.result ≡ is_kept_at (limits_of c.args.self.now.options) marks c.args.client c.args.lent.id m c.args.accepted) × (is_held c.take_back.result ≡ owns c.args.client (owner_of c.args.lent.id marks))) c.moment-moment.ensures.moment
-    (give-at c.args.self.now marks s c.moment-moment.ensures.sound c.args.client c.moment-moment.result.0 c.args.accepted c.args.lent c.take_back.result c.take_back.ensures.answer)
+    let sound : IsSound c.args.self.now = subst IsSound c.self.view_is c.sound.ensures in
+    let answer : c.give-given.result ≡ give_answer c.args.self.now.options c.args.self.now.shut (max c.args.self.now.last c.args.now.0) c.args.accepted (loan_of c.args.client c.args.lent.id c.args.self.now.held) c.args.lent = search rules in
+    give-at c.args.self.now marks s sound c.args.client (max c.args.self.now.last c.args.now.0) c.args.accepted c.args.lent c.give-given.result answer

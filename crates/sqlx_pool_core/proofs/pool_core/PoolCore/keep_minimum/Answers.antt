@@ -1,102 +1,171 @@
-use Rattle.std.proofs.Common.{◌≡◌, refl, arith, subst, ap, inl, inr, false, ℕ, max}
-use Rattle.sqlx_pool_core.specs.declared.filled.Filled.TheVariants as filled
-use Rattle.sqlx_pool_core.specs.Makes.{Makes}
-use Rattle.sqlx_pool_core.specs.KeepingSteps.{lacks}
-use Rattle.sqlx_pool_core.specs.KeepWith.{openings_made}
-use Rattle.sqlx_pool_core.specs.ToldTries.{tries_told, IsToldEnough, OpensAsTold}
-use Rattle.sqlx_pool_core.proofs.KeepRuns.{made-more, made-end, opens-more, opens-freed, opens-still, has-place}
-use Rattle.sqlx_pool_core.proofs.PollOutcome.{either-before}
-use Rattle.sqlx_pool_core.proofs.Lacking.{below-lack, above-lack, place-left, place-short, lacks-within}
-use Rattle.sqlx_pool_core.proofs.ToldTries.{told-opened, told-ended, told-full, told-short}
+use Rattle.std.proofs.Common.{◌≡◌, ◌+◌, max, ℕ, Bool, true, [], ◌∷◌, None, Option, refl, sym, ap, ◌∙◌, subst, arith, inl, inr}
+use Rattle.sqlx_pool_core.specs.Core.{Core}
+use Rattle.sqlx_pool_core.specs.KeepingSteps.{done, done_marks, placed}
+use Rattle.sqlx_pool_core.specs.declared.options.PoolOptions.{PoolOptions}
+use Rattle.sqlx_pool_core.specs.declared.probe.Opening.{Opening}
+use Rattle.sqlx_pool_core.specs.declared.probe.Opening.TheVariants.{Opened, Rejected, Transient, Failed}
+use Rattle.sqlx_pool_core.specs.Chain.{Tries}
+use Rattle.sqlx_pool_core.specs.Minimum.{filled, raw_of}
+use Rattle.sqlx_pool_core.specs.Logs.{Logs}
+use Rattle.sqlx_pool_core.proofs.Polling.{logs-by}
+use Rattle.sqlx_pool_core.proofs.CallsKeep.{minimum-more}
+use Rattle.sqlx_pool_core.proofs.KeepRuns.{kept-so, kept-place}
+use Rattle.sqlx_pool_core.proofs.KeepEnds.{kept-ends, kept-short}
+use Rattle.sqlx_pool_core.proofs.Keeping.{step-marked, step-unmarked, before-more, keeps-ended, place-open, place-room, filled-size, filled-options}
 use Rattle.sqlx_pool_core.proofs.pool_core.PoolCore.keep_minimum.Goals as goal
 
-pub returns-in-Short-clause-makes : goal.returns-in-Short-clause-makes
-returns-in-Short-clause-makes g c = λ marks s.
-    made-end g.X.Outside.depth c.args.self.now c.loop-opened.self c.open_one.new.self c.loop-opened.opened c.args.now.0 c.loop-opened.invariant.opens filled.Short refl marks (c.loop-opened.invariant.made marks s) c.in-Short.ensures.makes
+-- a place that was held, and what became of it
+step : {C : Type 0} (now : ℕ) (o : Opening C) (core mid next : Core C) → mid ≡ placed true core → next ≡ done mid.shut (max mid.last now) (raw_of o) mid → next ≡ filled now o core
+step {C} now o core mid next held is = is ∙ ap (λ (c : Core C). done c.shut (max c.last now) (raw_of o) c) held
 
-pub returns-in-Refused-clause-makes : goal.returns-in-Refused-clause-makes
-returns-in-Refused-clause-makes g c = λ marks s.
-    made-end g.X.Outside.depth c.args.self.now c.loop-opened.self c.open_one.new.self c.loop-opened.opened c.args.now.0 c.loop-opened.invariant.opens filled.Refused refl marks (c.loop-opened.invariant.made marks s) c.in-Refused.ensures.makes
+pub overflow_add-opened : goal.overflow_add-opened
+overflow_add-opened g c =
+    let room = place-room c.places.self (sym c.places-test.ensures.answer) in
+    let within = c.places.invariant.within in
+    let is = c.places.invariant.max in
+    omega (arith, room, within, is)
 
-pub returns-in-Refused-clause-opens : goal.returns-in-Refused-clause-opens
-returns-in-Refused-clause-opens g c =
-    opens-freed g.X.Outside.depth c.args.self.now c.loop-opened.self c.loop-opened.opened c.args.now.0 c.loop-opened.invariant.opens c.open_one.new.self c.in-Refused.ensures.becomes
+pub places-preserved : goal.places-preserved
+places-preserved g c =
+    let core = c.places.self in
+    let place = sym c.places-test.ensures.answer in
+    let becomes = step c.args.now.0 (Opened c.in-Opened.raw) core c.minimum_place.new.self c.fill.new.self c.places-test.ensures.becomes c.fill.ensures.becomes in
+    let same = filled-options c.args.now.0 c.in-Opened.raw core c.fill.new.self becomes (place-open core place) in
+    let grown = filled-size c.args.now.0 c.in-Opened.raw core c.fill.new.self becomes (place-open core place) in
+    let within = c.places.invariant.within in
+    record {
+      so_far = before-more g.X.Outside.does g.X.Outside.depth c.args.options.now c.args.now.0 c.args.self.now core c.args.out.now c.places.out c.places.opened c.places.invariant.so_far c.in-Opened.raw c.try_connect.new.out c.fill.new.self place
+          (subst (λ (hook : Bool). Tries g.X.Outside.does g.X.Outside.depth hook c.args.options.now (Opened c.in-Opened.raw) c.places.out c.try_connect.new.out) c.places.invariant.hook c.in-Opened.ensures) becomes
+          (step-marked c.args.now.0 (Opened c.in-Opened.raw) core c.minimum_place.new.self c.fill.new.self c.places-test.ensures.becomes c.minimum_place.ensures.makes c.fill.ensures.makes);
+      hook = c.places.invariant.hook ∙ ap (λ (o : PoolOptions). o.after_connect) (sym same);
+      within = omega (arith, grown, within);
+      max = c.places.invariant.max ∙ ap (λ (o : PoolOptions). o.max_connections) (sym same);
+    }
 
-pub loop-opened-preserved : goal.loop-opened-preserved
-loop-opened-preserved g c = record {
-  made = λ marks s. made-more g.X.Outside.depth c.args.self.now c.loop-opened.self c.open_one.new.self c.loop-opened.opened c.args.now.0 c.loop-opened.invariant.opens marks (c.loop-opened.invariant.made marks s) c.in-Opened.ensures.makes;
-  opens = opens-more g.X.Outside.depth c.args.self.now c.loop-opened.self c.loop-opened.opened c.args.now.0 c.loop-opened.invariant.opens c.open_one.new.self (has-place c.loop-opened.self.options.min_connections c.loop-opened.self c.in-Opened.ensures.place) c.in-Opened.ensures.becomes;
-  most = let below = below-lack g.X.Outside.depth c.args.self.now c.loop-opened.self c.loop-opened.opened c.args.now.0 c.loop-opened.invariant.opens c.in-Opened.ensures.place in omega (arith, below);
-  behind = told-opened _ _ (ap (λ o. o.after_connect) c.loop-opened.invariant.opens.options) (g.X.Outside.told c.args.out.now) (g.X.Outside.told c.loop-opened.out) (g.X.Outside.told c.open_one.new.out) c.loop-opened.opened c.loop-opened.invariant.behind (c.in-Opened.ensures.tells refl);
-  faults = let a = c.loop-opened.invariant.faults in let b = c.in-Opened.ensures.faults in omega (arith, a, b);
-  refusals = let a = c.loop-opened.invariant.refusals in let b = c.in-Opened.ensures.refusals in omega (arith, a, b);
-}
+plus_none : (n : ℕ) → n ≡ n + 0
+plus_none n = omega arith
+
+-- the try of a place, by the pool's own options
+tried : (g : _) (c : goal.After-fill-in-Rejected g) (o : Opening _) → c.try_connect.result ≡ o → Tries g.X.Outside.does g.X.Outside.depth c.places.self.options.after_connect c.args.options.now o c.places.out c.try_connect.new.out
+tried g c o e =
+    subst (λ (o : Opening _). Tries g.X.Outside.does g.X.Outside.depth c.places.self.options.after_connect c.args.options.now o c.places.out c.try_connect.new.out) e
+    (subst (λ (hook : Bool). Tries g.X.Outside.does g.X.Outside.depth hook c.args.options.now c.try_connect.result c.places.out c.try_connect.new.out) c.places.invariant.hook c.try_connect.ensures)
+
+-- what a place came to for which nothing was opened
+unfilled : (g : _) (c : goal.After-fill-in-Rejected g) (o : Opening _) → raw_of o ≡ None → (c.fill-in-Rejected.new.self ≡ filled c.args.now.0 o c.places.self) × Logs c.places.self [] c.fill-in-Rejected.new.self
+unfilled g c o none =
+    let core = c.places.self in
+    let next = c.fill-in-Rejected.new.self in
+    let by : next ≡ done c.minimum_place.new.self.shut (max c.minimum_place.new.self.last c.args.now.0) (raw_of o) c.minimum_place.new.self = c.fill-in-Rejected.ensures.becomes ∙ ap (λ (r : Option _). done c.minimum_place.new.self.shut (max c.minimum_place.new.self.last c.args.now.0) r c.minimum_place.new.self) (sym none) in (
+      step c.args.now.0 o core c.minimum_place.new.self next c.places-test.ensures.becomes by,
+      step-unmarked c.args.now.0 o core next none
+          (step-marked c.args.now.0 o core c.minimum_place.new.self next c.places-test.ensures.becomes c.minimum_place.ensures.makes
+          (logs-by c.minimum_place.new.self next _ _ (ap (λ (r : Option _). done_marks c.minimum_place.new.self.shut c.minimum_place.new.self.next_conn (max c.minimum_place.new.self.last c.args.now.0) r) none) c.fill-in-Rejected.ensures.makes)),
+    )
+
+pub returns-in-Rejected-clause-keeps : goal.returns-in-Rejected-clause-keeps
+returns-in-Rejected-clause-keeps g c = elim c.in-Rejected.is [
+  | inl e ↦ let u = unfilled g c Rejected refl in
+      keeps-ended g.X.Outside.does g.X.Outside.depth c.args.options.now c.args.now.0 c.args.self.now c.places.self c.args.out.now c.places.out c.places.opened c.places.invariant.so_far (Rejected ∷ []) c.fill-in-Rejected.new.self c.try_connect.new.out _
+      (sym c.places-test.ensures.answer, tried g c Rejected e, u.0, u.1) (plus_none c.places.opened) refl
+  | inr e ↦ let u = unfilled g c Transient refl in
+      keeps-ended g.X.Outside.does g.X.Outside.depth c.args.options.now c.args.now.0 c.args.self.now c.places.self c.args.out.now c.places.out c.places.opened c.places.invariant.so_far (Transient ∷ []) c.fill-in-Rejected.new.self c.try_connect.new.out _
+      (sym c.places-test.ensures.answer, tried g c Transient e, u.0, u.1) (plus_none c.places.opened) refl
+]
+
+pub returns-in-Failed-clause-keeps : goal.returns-in-Failed-clause-keeps
+returns-in-Failed-clause-keeps g c =
+    let core = c.places.self in
+    keeps-ended g.X.Outside.does g.X.Outside.depth c.args.options.now c.args.now.0 c.args.self.now core c.args.out.now c.places.out c.places.opened c.places.invariant.so_far (Failed c.in-Failed.error ∷ []) c.fill-in-Failed.new.self c.try_connect.new.out _ (
+      sym c.places-test.ensures.answer,
+      subst (λ (hook : Bool). Tries g.X.Outside.does g.X.Outside.depth hook c.args.options.now (Failed c.in-Failed.error) c.places.out c.try_connect.new.out) c.places.invariant.hook c.in-Failed.ensures,
+      step c.args.now.0 (Failed c.in-Failed.error) core c.minimum_place.new.self c.fill-in-Failed.new.self c.places-test.ensures.becomes c.fill-in-Failed.ensures.becomes,
+      step-unmarked c.args.now.0 (Failed c.in-Failed.error) core c.fill-in-Failed.new.self refl (step-marked c.args.now.0 (Failed c.in-Failed.error) core c.minimum_place.new.self c.fill-in-Failed.new.self c.places-test.ensures.becomes c.minimum_place.ensures.makes c.fill-in-Failed.ensures.makes),
+    )
+    (plus_none c.places.opened) c.is_want-short.ensures
+
+pub returns-clause-keeps : goal.returns-clause-keeps
+returns-clause-keeps g c =
+    keeps-ended g.X.Outside.does g.X.Outside.depth c.args.options.now c.args.now.0 c.args.self.now c.places.self c.args.out.now c.places.out c.places.opened c.places.invariant.so_far [] c.minimum_place.new.self c.places.out _
+    (sym c.places-test.ensures.answer, c.places-test.ensures.becomes, refl) (plus_none c.places.opened) refl
+
+pub returns-in-Rejected-clause-counts : goal.returns-in-Rejected-clause-counts
+returns-in-Rejected-clause-counts g c =
+    let k = returns-in-Rejected-clause-keeps g c in (
+      minimum-more g.X.Outside.does g.X.Outside.depth g.X.Outside.faults (λ x a b d. (g.met.X.Outside.facts x a b d).more_faults) _ _ _ _ _ _ _ k,
+      minimum-more g.X.Outside.does g.X.Outside.depth g.X.Outside.refusals (λ x a b d. (g.met.X.Outside.facts x a b d).more_refusals) _ _ _ _ _ _ _ k,
+    )
+
+pub returns-in-Failed-clause-counts : goal.returns-in-Failed-clause-counts
+returns-in-Failed-clause-counts g c =
+    let k = returns-in-Failed-clause-keeps g c in (
+      minimum-more g.X.Outside.does g.X.Outside.depth g.X.Outside.faults (λ x a b d. (g.met.X.Outside.facts x a b d).more_faults) _ _ _ _ _ _ _ k,
+      minimum-more g.X.Outside.does g.X.Outside.depth g.X.Outside.refusals (λ x a b d. (g.met.X.Outside.facts x a b d).more_refusals) _ _ _ _ _ _ _ k,
+    )
+
+pub returns-clause-counts : goal.returns-clause-counts
+returns-clause-counts g c =
+    let k = returns-clause-keeps g c in (
+      minimum-more g.X.Outside.does g.X.Outside.depth g.X.Outside.faults (λ x a b d. (g.met.X.Outside.facts x a b d).more_faults) _ _ _ _ _ _ _ k,
+      minimum-more g.X.Outside.does g.X.Outside.depth g.X.Outside.refusals (λ x a b d. (g.met.X.Outside.facts x a b d).more_refusals) _ _ _ _ _ _ _ k,
+    )
+
+pub returns-in-Rejected-clause-makes : goal.returns-in-Rejected-clause-makes
+returns-in-Rejected-clause-makes g c = (kept-so g.X.Outside.does g.X.Outside.depth g.X.Outside.faults g.X.Outside.refusals g.X.Outside.IsShort g.met.X.Outside.facts c.args.options.now c.args.now.0 c.args.self.now _ _ _ _ (returns-in-Rejected-clause-keeps g c)).makes
+
+pub returns-in-Rejected-clause-opens : goal.returns-in-Rejected-clause-opens
+returns-in-Rejected-clause-opens g c = (kept-so g.X.Outside.does g.X.Outside.depth g.X.Outside.faults g.X.Outside.refusals g.X.Outside.IsShort g.met.X.Outside.facts c.args.options.now c.args.now.0 c.args.self.now _ _ _ _ (returns-in-Rejected-clause-keeps g c)).opens
+
+pub returns-in-Rejected-clause-most : goal.returns-in-Rejected-clause-most
+returns-in-Rejected-clause-most g c = (kept-so g.X.Outside.does g.X.Outside.depth g.X.Outside.faults g.X.Outside.refusals g.X.Outside.IsShort g.met.X.Outside.facts c.args.options.now c.args.now.0 c.args.self.now _ _ _ _ (returns-in-Rejected-clause-keeps g c)).most
+
+pub returns-in-Rejected-clause-place : goal.returns-in-Rejected-clause-place
+returns-in-Rejected-clause-place g c =
+    kept-place g.X.Outside.does g.X.Outside.depth g.X.Outside.faults g.X.Outside.refusals g.X.Outside.IsShort g.met.X.Outside.facts c.args.options.now c.args.now.0 c.args.self.now _ _
+    (kept-so g.X.Outside.does g.X.Outside.depth g.X.Outside.faults g.X.Outside.refusals g.X.Outside.IsShort g.met.X.Outside.facts c.args.options.now c.args.now.0 c.args.self.now _ _ _ _ (returns-in-Rejected-clause-keeps g c))
+
+pub returns-in-Failed-clause-makes : goal.returns-in-Failed-clause-makes
+returns-in-Failed-clause-makes g c = (kept-so g.X.Outside.does g.X.Outside.depth g.X.Outside.faults g.X.Outside.refusals g.X.Outside.IsShort g.met.X.Outside.facts c.args.options.now c.args.now.0 c.args.self.now _ _ _ _ (returns-in-Failed-clause-keeps g c)).makes
+
+pub returns-in-Failed-clause-opens : goal.returns-in-Failed-clause-opens
+returns-in-Failed-clause-opens g c = (kept-so g.X.Outside.does g.X.Outside.depth g.X.Outside.faults g.X.Outside.refusals g.X.Outside.IsShort g.met.X.Outside.facts c.args.options.now c.args.now.0 c.args.self.now _ _ _ _ (returns-in-Failed-clause-keeps g c)).opens
+
+pub returns-in-Failed-clause-most : goal.returns-in-Failed-clause-most
+returns-in-Failed-clause-most g c = (kept-so g.X.Outside.does g.X.Outside.depth g.X.Outside.faults g.X.Outside.refusals g.X.Outside.IsShort g.met.X.Outside.facts c.args.options.now c.args.now.0 c.args.self.now _ _ _ _ (returns-in-Failed-clause-keeps g c)).most
+
+pub returns-in-Failed-clause-place : goal.returns-in-Failed-clause-place
+returns-in-Failed-clause-place g c =
+    kept-place g.X.Outside.does g.X.Outside.depth g.X.Outside.faults g.X.Outside.refusals g.X.Outside.IsShort g.met.X.Outside.facts c.args.options.now c.args.now.0 c.args.self.now _ _
+    (kept-so g.X.Outside.does g.X.Outside.depth g.X.Outside.faults g.X.Outside.refusals g.X.Outside.IsShort g.met.X.Outside.facts c.args.options.now c.args.now.0 c.args.self.now _ _ _ _ (returns-in-Failed-clause-keeps g c))
 
 pub returns-clause-makes : goal.returns-clause-makes
-returns-clause-makes g c = λ marks s.
-    let all : c.loop-opened.opened ≡ c.get_max_connections-max.result = omega arith in
-    subst (λ (k : ℕ). Makes c.args.self.now.options.max_connections marks (openings_made k c.args.self.now.next_conn (max c.args.self.now.last c.args.now.0)) c.loop-opened.self) all (c.loop-opened.invariant.made marks s)
+returns-clause-makes g c = (kept-so g.X.Outside.does g.X.Outside.depth g.X.Outside.faults g.X.Outside.refusals g.X.Outside.IsShort g.met.X.Outside.facts c.args.options.now c.args.now.0 c.args.self.now _ _ _ _ (returns-clause-keeps g c)).makes
 
--- ---- memory was wanting
+pub returns-clause-opens : goal.returns-clause-opens
+returns-clause-opens g c = (kept-so g.X.Outside.does g.X.Outside.depth g.X.Outside.faults g.X.Outside.refusals g.X.Outside.IsShort g.met.X.Outside.facts c.args.options.now c.args.now.0 c.args.self.now _ _ _ _ (returns-clause-keeps g c)).opens
 
-pub returns-in-Short-clause-opens : goal.returns-in-Short-clause-opens
-returns-in-Short-clause-opens g c =
-    opens-freed g.X.Outside.depth c.args.self.now c.loop-opened.self c.loop-opened.opened c.args.now.0 c.loop-opened.invariant.opens c.open_one.new.self c.in-Short.ensures.becomes
+pub returns-clause-most : goal.returns-clause-most
+returns-clause-most g c = (kept-so g.X.Outside.does g.X.Outside.depth g.X.Outside.faults g.X.Outside.refusals g.X.Outside.IsShort g.met.X.Outside.facts c.args.options.now c.args.now.0 c.args.self.now _ _ _ _ (returns-clause-keeps g c)).most
 
-pub returns-in-Short-clause-place : goal.returns-in-Short-clause-place
-returns-in-Short-clause-place g c =
-    place-left g.X.Outside.depth c.args.self.now c.open_one.new.self c.loop-opened.opened c.args.now.0
-    (opens-freed g.X.Outside.depth c.args.self.now c.loop-opened.self c.loop-opened.opened c.args.now.0 c.loop-opened.invariant.opens c.open_one.new.self c.in-Short.ensures.becomes)
+pub returns-clause-place : goal.returns-clause-place
+returns-clause-place g c =
+    kept-place g.X.Outside.does g.X.Outside.depth g.X.Outside.faults g.X.Outside.refusals g.X.Outside.IsShort g.met.X.Outside.facts c.args.options.now c.args.now.0 c.args.self.now _ _
+    (kept-so g.X.Outside.does g.X.Outside.depth g.X.Outside.faults g.X.Outside.refusals g.X.Outside.IsShort g.met.X.Outside.facts c.args.options.now c.args.now.0 c.args.self.now _ _ _ _ (returns-clause-keeps g c))
 
-pub returns-in-Short-clause-short : goal.returns-in-Short-clause-short
-returns-in-Short-clause-short g c = λ _. (
-  place-short g.X.Outside.depth c.args.self.now c.open_one.new.self c.loop-opened.opened c.args.now.0
-      (opens-freed g.X.Outside.depth c.args.self.now c.loop-opened.self c.loop-opened.opened c.args.now.0 c.loop-opened.invariant.opens c.open_one.new.self c.in-Short.ensures.becomes)
-      (below-lack g.X.Outside.depth c.args.self.now c.loop-opened.self c.loop-opened.opened c.args.now.0 c.loop-opened.invariant.opens c.in-Short.ensures.place),
-  c.in-Short.ensures.want refl,
-)
+pub returns-in-Rejected-clause-ends : goal.returns-in-Rejected-clause-ends
+returns-in-Rejected-clause-ends g c = kept-ends g.X.Outside.does g.X.Outside.depth g.X.Outside.faults g.X.Outside.refusals g.X.Outside.IsShort g.met.X.Outside.facts c.args.options.now c.args.now.0 c.args.self.now _ _ _ _ (returns-in-Rejected-clause-keeps g c)
 
-pub returns-in-Short-clause-told : goal.returns-in-Short-clause-told
-returns-in-Short-clause-told g c =
-    told-short c.loop-opened.opened _ _ _ c.loop-opened.invariant.behind (below-lack g.X.Outside.depth c.args.self.now c.loop-opened.self c.loop-opened.opened c.args.now.0 c.loop-opened.invariant.opens c.in-Short.ensures.place)
+pub returns-in-Rejected-clause-short : goal.returns-in-Rejected-clause-short
+returns-in-Rejected-clause-short g c = kept-short g.X.Outside.does g.X.Outside.depth g.X.Outside.faults g.X.Outside.refusals g.X.Outside.IsShort g.met.X.Outside.facts c.args.options.now c.args.now.0 c.args.self.now _ _ _ _ (returns-in-Rejected-clause-keeps g c)
 
--- ---- no place was there
+pub returns-in-Failed-clause-ends : goal.returns-in-Failed-clause-ends
+returns-in-Failed-clause-ends g c = kept-ends g.X.Outside.does g.X.Outside.depth g.X.Outside.faults g.X.Outside.refusals g.X.Outside.IsShort g.met.X.Outside.facts c.args.options.now c.args.now.0 c.args.self.now _ _ _ _ (returns-in-Failed-clause-keeps g c)
 
-pub returns-in-Full-clause-place : goal.returns-in-Full-clause-place
-returns-in-Full-clause-place g c =
-    place-left g.X.Outside.depth c.args.self.now c.open_one.new.self c.loop-opened.opened c.args.now.0
-    (opens-still g.X.Outside.depth c.args.self.now c.loop-opened.self c.loop-opened.opened c.args.now.0 c.loop-opened.invariant.opens c.open_one.new.self c.in-Full.ensures.becomes)
+pub returns-in-Failed-clause-short : goal.returns-in-Failed-clause-short
+returns-in-Failed-clause-short g c = kept-short g.X.Outside.does g.X.Outside.depth g.X.Outside.faults g.X.Outside.refusals g.X.Outside.IsShort g.met.X.Outside.facts c.args.options.now c.args.now.0 c.args.self.now _ _ _ _ (returns-in-Failed-clause-keeps g c)
 
-pub returns-in-Full-clause-told : goal.returns-in-Full-clause-told
-returns-in-Full-clause-told g c =
-    let most = c.loop-opened.invariant.most in
-    let all = above-lack g.X.Outside.depth c.args.self.now c.loop-opened.self c.loop-opened.opened c.args.now.0 c.loop-opened.invariant.opens c.in-Full.ensures.place in
-    told-full c.loop-opened.opened _ _ _ c.loop-opened.invariant.behind (omega (arith, most, all))
+pub returns-clause-ends : goal.returns-clause-ends
+returns-clause-ends g c = kept-ends g.X.Outside.does g.X.Outside.depth g.X.Outside.faults g.X.Outside.refusals g.X.Outside.IsShort g.met.X.Outside.facts c.args.options.now c.args.now.0 c.args.self.now _ _ _ _ (returns-clause-keeps g c)
 
--- ---- a connect or its hook was refused
-
-pub returns-in-Refused-clause-place : goal.returns-in-Refused-clause-place
-returns-in-Refused-clause-place g c =
-    place-left g.X.Outside.depth c.args.self.now c.open_one.new.self c.loop-opened.opened c.args.now.0
-    (opens-freed g.X.Outside.depth c.args.self.now c.loop-opened.self c.loop-opened.opened c.args.now.0 c.loop-opened.invariant.opens c.open_one.new.self c.in-Refused.ensures.becomes)
-
-pub returns-in-Refused-clause-told : goal.returns-in-Refused-clause-told
-returns-in-Refused-clause-told g c =
-    told-ended _ _ (ap (λ o. o.after_connect) c.loop-opened.invariant.opens.options) (g.X.Outside.told c.args.out.now) (g.X.Outside.told c.loop-opened.out) (g.X.Outside.told c.open_one.new.out) c.loop-opened.opened c.loop-opened.invariant.behind
-    _ (c.in-Refused.ensures.tells refl) (below-lack g.X.Outside.depth c.args.self.now c.loop-opened.self c.loop-opened.opened c.args.now.0 c.loop-opened.invariant.opens c.in-Refused.ensures.place)
-
-pub returns-in-Refused-clause-ends : goal.returns-in-Refused-clause-ends
-returns-in-Refused-clause-ends g c = inr (inl (either-before _ _ _ _ _ _ (c.in-Refused.ensures.cause refl) c.loop-opened.invariant.faults c.loop-opened.invariant.refusals))
-
--- ---- the maximum was opened
-
-pub returns-clause-told : goal.returns-clause-told
-returns-clause-told g c =
-    let most = c.loop-opened.invariant.most in
-    let within = lacks-within c.args.self.now in
-    let is : c.loop-opened.opened ≡ c.get_max_connections-max.result = omega arith in
-    let same = ap (λ core. core.options.max_connections) c.self.view_is in
-    let all : c.loop-opened.opened ≡ lacks c.args.self.now = omega (arith, most, within, same) in
-    subst (λ (k : ℕ). IsToldEnough (lacks c.args.self.now) (tries_told c.args.self.now.options.after_connect (g.X.Outside.told c.args.out.now))
-    → OpensAsTold (lacks c.args.self.now) (tries_told c.args.self.now.options.after_connect (g.X.Outside.told c.args.out.now)) k false) is
-    (told-full c.loop-opened.opened _ _ _ c.loop-opened.invariant.behind all)
+pub returns-clause-short : goal.returns-clause-short
+returns-clause-short g c = kept-short g.X.Outside.does g.X.Outside.depth g.X.Outside.faults g.X.Outside.refusals g.X.Outside.IsShort g.met.X.Outside.facts c.args.options.now c.args.now.0 c.args.self.now _ _ _ _ (returns-clause-keeps g c)

@@ -1,16 +1,19 @@
-use Rattle.sqlx_pool_core.proofs.Answered.{leak-answered}
-use Rattle.sqlx_pool_core.proofs.Moving.{leak-moves}
-use Rattle.std.proofs.Common.{◌∙◌}
+use Rattle.sqlx_pool_core.proofs.Alone.{plain-alone, moves-alone}
+use Rattle.std.proofs.Common.{rules, subst, refl, ◌∙◌}
+use Rattle.sqlx_pool_core.specs.Sound.{IsSound}
+use Rattle.sqlx_pool_core.specs.Moves.{one_if}
+use Rattle.sqlx_pool_core.specs.ReturnSteps.{leak_marks}
 use Rattle.sqlx_pool_core.proofs.AnswersAtMarks.{owner-at}
 use Rattle.sqlx_pool_core.proofs.pool_core.PoolCore.leak.Goals as goal
 
 pub returns-clause-makes : goal.returns-clause-makes
-returns-clause-makes g c = λ marks s.
-    leak-answered c.args.self.now c.lose.new.self marks c.lose.ensures.sound s c.args.client c.args.id c.lose.result c.lose.ensures.answer c.lose.ensures.becomes
+returns-clause-makes g c =
+    plain-alone _ _ _ c.self.view_is (λ core. leak_marks c.args.id c.leak-held.result) _ refl c.self.invariant c.sound-2.ensures c.leak-held.ensures.stays c.leak-held.ensures.draws c.leak-held.ensures.makes
 
 pub returns-clause-moves : goal.returns-clause-moves
-returns-clause-moves g c =
-    leak-moves c.args.self.now c.lose.new.self c.lose.ensures.sound c.args.client c.args.id c.lose.result c.lose.ensures.answer c.lose.ensures.becomes
+returns-clause-moves g c = moves-alone _ _ _ c.self.view_is (λ core. leak_marks c.args.id c.leak-held.result) _ (one_if c.leak-held.result) 0 refl c.leak-held.ensures.moves
 
 pub returns-clause-marks : goal.returns-clause-marks
-returns-clause-marks g c = λ marks s. c.lose.ensures.answer ∙ owner-at c.args.self.now marks s c.lose.ensures.sound c.args.client c.args.id
+returns-clause-marks g c = λ marks s.
+    let sound : IsSound c.args.self.now = subst IsSound c.self.view_is c.sound.ensures in
+    (search rules) ∙ owner-at c.args.self.now marks s sound c.args.client c.args.id

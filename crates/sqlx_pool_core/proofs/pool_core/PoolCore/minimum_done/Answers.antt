@@ -1,17 +1,11 @@
-use Rattle.std.proofs.Common.{ℕ, subst}
-use Rattle.sqlx_pool_core.specs.Makes.{Makes}
+use Rattle.sqlx_pool_core.proofs.Alone.{plain-alone, moves-alone}
+use Rattle.std.proofs.Common.{ap₂, ℕ, Bool, max}
 use Rattle.sqlx_pool_core.specs.KeepingSteps.{done_marks}
-use Rattle.sqlx_pool_core.proofs.Answered.{done-answered}
-use Rattle.sqlx_pool_core.specs.Moves.{Moves}
-use Rattle.sqlx_pool_core.proofs.Moving.{done-moves}
 use Rattle.sqlx_pool_core.proofs.pool_core.PoolCore.minimum_done.Goals as goal
 
 pub returns-clause-makes : goal.returns-clause-makes
-returns-clause-makes g c = λ marks s.
-    subst (λ (m : ℕ). Makes c.args.self.now.options.max_connections marks (done_marks c.args.self.now.shut c.args.self.now.next_conn m c.args.raw) c.done_at.new.self) c.moment-moment.ensures.moment
-    (done-answered c.args.self.now c.done_at.new.self marks c.moment-moment.ensures.sound s c.moment-moment.result.0 c.args.raw c.requires c.done_at.ensures.becomes)
+returns-clause-makes g c =
+    plain-alone _ _ _ c.self.view_is (λ core. done_marks core.shut core.next_conn (max core.last c.args.now.0) c.args.raw) _ (ap₂ (λ (b : Bool) (m : ℕ). done_marks b c.self.inside.pool.next_conn m c.args.raw) c.self.invariant.closed c.moment-moment.ensures) c.self.invariant c.sound-2.ensures c.minimum_done-back.ensures.stays c.minimum_done-back.ensures.draws c.minimum_done-back.ensures.makes
 
 pub returns-clause-moves : goal.returns-clause-moves
-returns-clause-moves g c =
-    subst (λ (m : ℕ). Moves c.args.self.now c.done_at.new.self (done_marks c.args.self.now.shut c.args.self.now.next_conn m c.args.raw) 0 0) c.moment-moment.ensures.moment
-    (done-moves c.args.self.now c.done_at.new.self c.moment-moment.ensures.sound c.moment-moment.result.0 c.args.raw c.requires c.done_at.ensures.becomes)
+returns-clause-moves g c = moves-alone _ _ _ c.self.view_is (λ core. done_marks core.shut core.next_conn (max core.last c.args.now.0) c.args.raw) _ 0 0 (ap₂ (λ (b : Bool) (m : ℕ). done_marks b c.self.inside.pool.next_conn m c.args.raw) c.self.invariant.closed c.moment-moment.ensures) c.minimum_done-back.ensures.moves

@@ -1,20 +1,19 @@
-use Rattle.sqlx_pool_core.proofs.Answered.{reap-answered}
-use Rattle.sqlx_pool_core.proofs.Moving.{reap-moves}
-use Rattle.std.proofs.Common.{◌∙◌, ap, ℕ}
-use Rattle.sqlx_pool_core.specs.Limits.{limits_of}
-use Rattle.sqlx_log.specs.EventTable.{reaped_at}
+use Rattle.sqlx_pool_core.proofs.Alone.{plain-alone, moves-alone}
+use Rattle.std.proofs.Common.{rules, refl, ◌≡◌, max}
+use Rattle.sqlx_pool_core.specs.Core.{waiting, free}
+use Rattle.sqlx_log.specs.EventTable.{may_pass}
+use Rattle.sqlx_pool_core.specs.KeepingSteps.{reap_answer, reap_marks}
 use Rattle.sqlx_pool_core.proofs.KeepingAtMarks.{reap-at}
 use Rattle.sqlx_pool_core.proofs.pool_core.PoolCore.reap.Goals as goal
 
 pub returns-clause-makes : goal.returns-clause-makes
-returns-clause-makes g c = λ marks s.
-    reap-answered c.args.self.now c.reap_at.new.self marks c.moment-moment.ensures.sound s c.moment-moment.result.0 c.reap_at.result c.reap_at.ensures.answer c.reap_at.ensures.becomes
+returns-clause-makes g c =
+    plain-alone _ _ _ c.self.view_is (λ core. reap_marks c.reap-reaped.result) _ refl c.self.invariant c.sound.ensures c.reap-reaped.ensures.stays c.reap-reaped.ensures.draws c.reap-reaped.ensures.makes
 
 pub returns-clause-moves : goal.returns-clause-moves
-returns-clause-moves g c =
-    reap-moves c.args.self.now c.reap_at.new.self c.moment-moment.ensures.sound c.moment-moment.result.0 c.reap_at.result c.reap_at.ensures.answer c.reap_at.ensures.becomes
+returns-clause-moves g c = moves-alone _ _ _ c.self.view_is (λ core. reap_marks c.reap-reaped.result) _ 0 0 refl c.reap-reaped.ensures.moves
 
 pub returns-clause-marks : goal.returns-clause-marks
 returns-clause-marks g c = λ marks s.
-    reap-at c.args.self.now marks s c.moment-moment.result.0 c.reap_at.result c.reap_at.ensures.answer
-    ∙ ap (λ (m : ℕ). reaped_at (limits_of c.args.self.now.options) c.args.self.now.places marks m) c.moment-moment.ensures.moment
+    let answer : c.reap-reaped.result ≡ reap_answer (may_pass c.args.self.now.shut (waiting c.args.self.now.tickets) (free c.args.self.now)) c.args.self.now.options (max c.args.self.now.last c.args.now.0) c.args.self.now.idle = search rules in
+    reap-at c.args.self.now marks s (max c.args.self.now.last c.args.now.0) c.reap-reaped.result answer

@@ -1,17 +1,21 @@
-use Rattle.sqlx_pool_core.proofs.Answered.{try-answered}
-use Rattle.sqlx_pool_core.proofs.Moving.{try-moves}
-use Rattle.std.proofs.Common.{◌∙◌, ap, option_map}
+use Rattle.sqlx_pool_core.proofs.Alone.{try-alone, moves-alone}
+use Rattle.std.proofs.Common.{rules, refl, ◌≡◌, ◌∙◌, ap, option_map}
+use Rattle.sqlx_pool_core.specs.Core.{waiting, free}
+use Rattle.sqlx_log.specs.EventTable.{may_pass}
 use Rattle.sqlx_pool_core.specs.Answers.{lent_conn}
+use Rattle.sqlx_pool_core.specs.Moves.{try_room}
+use Rattle.sqlx_pool_core.specs.PollSteps.{try_marks, try_lent}
 use Rattle.sqlx_pool_core.proofs.AnswersAtMarks.{try-at}
 use Rattle.sqlx_pool_core.proofs.pool_core.PoolCore.try_acquire.Goals as goal
 
 pub returns-clause-makes : goal.returns-clause-makes
-returns-clause-makes g c = λ marks s.
-    try-answered c.args.self.now c.lend_first.new.self marks c.moment-moment.ensures.sound s c.args.client c.moment-moment.result.0 c.lend_first.result c.lend_first.ensures.answer c.lend_first.ensures.becomes
+returns-clause-makes g c =
+    try-alone _ _ _ c.self.view_is c.may_pass-passes.result (λ core. try_marks c.args.client c.try_acquire-lent.result) _ refl c.self.invariant c.sound.ensures c.try_acquire-lent.ensures.stays c.may_pass-passes.ensures c.try_acquire-lent.ensures.draws c.try_acquire-lent.ensures.makes
 
 pub returns-clause-moves : goal.returns-clause-moves
-returns-clause-moves g c =
-    try-moves c.args.self.now c.lend_first.new.self c.moment-moment.ensures.sound c.args.client c.moment-moment.result.0 c.lend_first.result c.lend_first.ensures.answer c.lend_first.ensures.becomes
+returns-clause-moves g c = moves-alone _ _ _ c.self.view_is (λ core. try_marks c.args.client c.try_acquire-lent.result) _ 0 (try_room c.try_acquire-lent.result) refl c.try_acquire-lent.ensures.moves
 
 pub returns-clause-marks : goal.returns-clause-marks
-returns-clause-marks g c = λ marks s. ap (option_map lent_conn) c.lend_first.ensures.answer ∙ try-at c.args.self.now marks s
+returns-clause-marks g c = λ marks s.
+    let answer : c.try_acquire-lent.result ≡ try_lent (may_pass c.args.self.now.shut (waiting c.args.self.now.tickets) (free c.args.self.now)) c.args.self.now.idle = search rules in
+    ap (option_map lent_conn) answer ∙ try-at c.args.self.now marks s

@@ -1,0 +1,53 @@
+//! What opens connections to a shared store.
+
+use crate::SharedMem;
+use crate::connection::SharedMemConnection;
+use mem_driver::{Answer, MemLink, MemSession, MemStore};
+use sqlx_any::{AnyConnectOptions, AnyConnection, Connector, Faults};
+use sqlx_text::{Error, OutOfMemory};
+use std::alloc::Global;
+use std::sync::{Arc, Mutex, Wait};
+
+/// Opens connections to one store, whatever the options are.
+#[derive(Drop)]
+pub struct SharedMemConnector<R> {
+    rt: R,
+    store: Arc<Mutex<MemStore>, Global>,
+}
+
+impl<R: Copy> SharedMemConnector<R> {
+    /// A connector to the store. The handle is that by which its connections wait for the lock.
+    pub fn new(alloc: Global, rt: R, store: MemStore) -> Result<Self, OutOfMemory> {
+        match Arc::new(alloc, Mutex::new(store)) {
+            Ok(store) => Ok(SharedMemConnector { rt, store }),
+            Err(_) => Err(OutOfMemory),
+        }
+    }
+
+    /// A connector to the same store. In sqlx: `clone`.
+    pub fn try_clone(&self) -> Result<Self, OutOfMemory> {
+        match Arc::try_clone(&self.store) {
+            Ok(store) => Ok(SharedMemConnector { rt: self.rt, store }),
+            Err(_) => Err(OutOfMemory),
+        }
+    }
+}
+
+impl<R> Faults for SharedMemConnector<R> {
+    ghost faults = { λ _. 0 };
+}
+
+impl<R: Wait + Copy + Drop> Connector<SharedMem<R>> for SharedMemConnector<R> {
+    /// Opens a connection. It is refused for want of memory alone.
+    fn connect(
+        &mut self,
+        alloc: Global,
+        _options: &AnyConnectOptions,
+    ) -> Result<AnyConnection<SharedMemConnection<R>>, Error> {
+        let shared = self.try_clone()?;
+        let link = MemLink::connect(alloc, &mut shared.store.lock(&shared.rt))?;
+        let session = MemSession::new(MemStore::new(alloc), link, Answer::Accept);
+        let SharedMemConnector { rt, store } = shared;
+        Ok(AnyConnection::new(SharedMemConnection::new(rt, store, session)))
+    }
+}

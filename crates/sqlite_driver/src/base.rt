@@ -1,0 +1,67 @@
+//! The database under a connection, in memory or in a file.
+
+use crate::refusal::{Refusal, refused};
+use crate::statements::{self, Items};
+use sqlite::{Connection, File, FileStore, MemStore};
+use sqlx_any::AnyArguments;
+use std::alloc::Global;
+
+/// A database's own connection.
+#[derive(Drop)]
+pub(crate) enum Base {
+    Memory(Connection<MemStore>),
+    File(Connection<FileStore<File>>),
+}
+
+impl Base {
+    /// Runs a text with its arguments.
+    pub(crate) fn run(
+        &mut self,
+        alloc: Global,
+        text: &str,
+        arguments: &Option<AnyArguments>,
+    ) -> Result<Items, Refusal> {
+        match self {
+            Base::Memory(conn) => statements::run(conn, alloc, text, arguments),
+            Base::File(conn) => statements::run(conn, alloc, text, arguments),
+        }
+    }
+
+    /// Runs a text of a level.
+    pub(crate) fn perform(&mut self, alloc: Global, text: &str) -> Result<(), Refusal> {
+        match self {
+            Base::Memory(conn) => statements::perform(conn, alloc, text),
+            Base::File(conn) => statements::perform(conn, alloc, text),
+        }
+    }
+
+    /// Rolls back to this depth.
+    pub(crate) fn roll_back_to(&mut self, alloc: Global, depth: usize) -> Result<(), Refusal> {
+        match self {
+            Base::Memory(conn) => statements::roll_back_to(conn, alloc, depth),
+            Base::File(conn) => statements::roll_back_to(conn, alloc, depth),
+        }
+    }
+
+    /// Whether no transaction is open.
+    pub(crate) fn is_autocommit(&self) -> bool {
+        match self {
+            Base::Memory(conn) => conn.is_autocommit(),
+            Base::File(conn) => conn.is_autocommit(),
+        }
+    }
+
+    /// Closes it; the log beside a file is copied into it.
+    pub(crate) fn close(self, alloc: Global) -> Result<(), Refusal> {
+        match self {
+            Base::Memory(conn) => {
+                drop(conn);
+                Ok(())
+            }
+            Base::File(conn) => match conn.close() {
+                Ok(()) => Ok(()),
+                Err(error) => Err(refused(alloc, error)),
+            },
+        }
+    }
+}

@@ -1,0 +1,226 @@
+//! A connection to a database, and its levels.
+ghost use Rattle.std.specs.Prelude.{◌≡◌, ◌≢◌, ◌≤◌, ◌<◌, ◌+◌, ◌-◌, Err, IfErr, OnErr, OnOk};
+ghost use Rattle.sqlx_text.specs.declared.error.Error.{Error};
+ghost use Rattle.sqlx_traits.specs.Faults.{BeginCause, FaultCause, HasRisen};
+
+use crate::base::Base;
+use crate::refusal::Refusal;
+use crate::statements::Items;
+use sqlx_any::AnyArguments;
+use sqlx_text::{Error, OutOfMemory, SqlStr};
+use std::alloc::Global;
+
+/// A connection to a database. It keeps its depth by the calls that succeeded.
+#[derive(Drop)]
+pub struct SqliteConnection {
+    base: Base,
+    alloc: Global,
+    pub(crate) depth: usize,
+    /// To which depth levels that ended without a text are still to be rolled back.
+    goes_back_to: Option<usize>,
+    pub(crate) faults: u64,
+}
+
+impl SqliteConnection {
+    /// A connection over the database's own, which has no level open.
+    pub(crate) fn new(alloc: Global, base: Base) -> Self
+        ensures depth { result.depth ≡ 0 }
+        ensures faults { result.faults ≡ 0 }
+    {
+        SqliteConnection {
+            base,
+            alloc,
+            depth: 0,
+            goes_back_to: None,
+            faults: 0,
+        }
+    }
+
+    /// Counts a refusal, and tells it.
+    pub(crate) fn refuse(&mut self, refusal: Refusal) -> Error
+        ensures depth { self.new.depth ≡ self.old.depth }
+        ensures rises { self.old.faults ≤ self.new.faults }
+        ensures cause { FaultCause self.old.faults self.new.faults result }
+        ensures inside { result ≢ Error.InvalidSavePointStatement }
+        ensures failed { result ≢ Error.BeginFailed }
+    {
+        self.count_fault();
+        refusal.error()
+    }
+
+    fn count_fault(&mut self)
+        ensures depth { self.new.depth ≡ self.old.depth }
+        ensures risen { HasRisen self.old.faults self.new.faults }
+        ensures rises { self.old.faults ≤ self.new.faults }
+    {
+        self.faults = self.faults.saturating_add(1);
+    }
+
+    /// Rolls back the levels that ended without a text.
+    pub(crate) fn settle(&mut self) -> Result<(), Error>
+        ensures depth { self.new.depth ≡ self.old.depth }
+        ensures rises { self.old.faults ≤ self.new.faults }
+        ensures cause { IfErr result (FaultCause self.old.faults self.new.faults) }
+        ensures inside { result ≢ Err Error.InvalidSavePointStatement }
+        ensures failed { result ≢ Err Error.BeginFailed }
+    {
+        let Some(depth) = self.goes_back_to else {
+            return Ok(());
+        };
+        match self.base.roll_back_to(self.alloc, depth) {
+            Ok(()) => {
+                self.goes_back_to = None;
+                Ok(())
+            }
+            Err(refusal) => Err(self.refuse(refusal)),
+        }
+    }
+
+    /// Runs a text with its arguments, once what was to be rolled back is.
+    pub(crate) fn run(
+        &mut self,
+        alloc: Global,
+        text: &str,
+        arguments: &Option<AnyArguments>,
+    ) -> Result<Items, Error>
+        ensures depth { self.new.depth ≡ self.old.depth }
+        ensures rises { self.old.faults ≤ self.new.faults }
+        ensures cause { IfErr result (FaultCause self.old.faults self.new.faults) }
+    {
+        match self.settle() {
+            Ok(()) => match self.base.run(alloc, text, arguments) {
+                Ok(items) => Ok(items),
+                Err(refusal) => Err(self.refuse(refusal)),
+            },
+            Err(error) => Err(error),
+        }
+    }
+
+    /// Runs a text of a level, likewise.
+    fn perform(&mut self, text: Result<SqlStr, OutOfMemory>) -> Result<(), Error>
+        ensures depth { self.new.depth ≡ self.old.depth }
+        ensures rises { self.old.faults ≤ self.new.faults }
+        ensures cause { IfErr result (FaultCause self.old.faults self.new.faults) }
+        ensures inside { result ≢ Err Error.InvalidSavePointStatement }
+        ensures failed { result ≢ Err Error.BeginFailed }
+    {
+        match self.settle() {
+            Ok(()) => match text {
+                Ok(text) => self.hand_on(text),
+                Err(OutOfMemory) => Err(Error::OutOfMemory),
+            },
+            Err(error) => Err(error),
+        }
+    }
+
+    fn hand_on(&mut self, text: SqlStr) -> Result<(), Error>
+        ensures depth { self.new.depth ≡ self.old.depth }
+        ensures rises { self.old.faults ≤ self.new.faults }
+        ensures cause { IfErr result (FaultCause self.old.faults self.new.faults) }
+        ensures inside { result ≢ Err Error.InvalidSavePointStatement }
+        ensures failed { result ≢ Err Error.BeginFailed }
+    {
+        let done = self.base.perform(self.alloc, text.as_str());
+        drop(text);
+        match done {
+            Ok(()) => Ok(()),
+            Err(refusal) => Err(self.refuse(refusal)),
+        }
+    }
+
+    /// Begins a level by its text.
+    pub(crate) fn begin_level(&mut self, text: Result<SqlStr, OutOfMemory>) -> Result<(), Error>
+        ensures ok { OnOk result (self.new.depth ≡ self.old.depth + 1) }
+        ensures err { OnErr result (self.new.depth ≡ self.old.depth) }
+        ensures rises { self.old.faults ≤ self.new.faults }
+        ensures cause { IfErr result (BeginCause self.old.faults self.new.faults) }
+        ensures inside { result ≢ Err Error.InvalidSavePointStatement }
+        ensures failed { result ≢ Err Error.BeginFailed }
+    {
+        let Some(deeper) = self.depth.checked_add(1) else {
+            return Err(Error::OutOfMemory);
+        };
+        match self.perform(text) {
+            Ok(()) => {
+                self.depth = deeper;
+                Ok(())
+            }
+            Err(error) => Err(error),
+        }
+    }
+
+    /// Begins a level by a text of the caller's own, outside of any.
+    pub(crate) fn begin_by(&mut self, text: SqlStr) -> Result<(), Error>
+        requires { self.old.depth ≡ 0 }
+        ensures ok { OnOk result (self.new.depth ≡ 1) }
+        ensures err { OnErr result (self.new.depth ≡ 0) }
+        ensures rises { self.old.faults ≤ self.new.faults }
+        ensures cause { IfErr result (BeginCause self.old.faults self.new.faults) }
+        ensures inside { result ≢ Err Error.InvalidSavePointStatement }
+    {
+        match self.perform(Ok(text)) {
+            Ok(()) => self.begun(),
+            Err(error) => Err(error),
+        }
+    }
+
+    /// Whether what ran has begun a transaction.
+    fn begun(&mut self) -> Result<(), Error>
+        requires { self.old.depth ≡ 0 }
+        ensures ok { OnOk result (self.new.depth ≡ 1) }
+        ensures err { OnErr result (self.new.depth ≡ 0) }
+        ensures rises { self.old.faults ≤ self.new.faults }
+        ensures cause { IfErr result (BeginCause self.old.faults self.new.faults) }
+        ensures inside { result ≢ Err Error.InvalidSavePointStatement }
+    {
+        if self.base.is_autocommit() {
+            self.count_fault();
+            Err(Error::BeginFailed)
+        } else {
+            self.depth = 1;
+            Ok(())
+        }
+    }
+
+    /// Ends the innermost level by its text, and without one where that is refused.
+    pub(crate) fn end_level(&mut self, text: Result<SqlStr, OutOfMemory>) -> Result<(), Error>
+        requires { 0 < self.old.depth }
+        ensures levels { self.new.depth ≡ self.old.depth - 1 }
+        ensures rises { self.old.faults ≤ self.new.faults }
+        ensures cause { IfErr result (FaultCause self.old.faults self.new.faults) }
+    {
+        match self.perform(text) {
+            Ok(()) => {
+                self.depth -= 1;
+                Ok(())
+            }
+            Err(error) => {
+                self.give_up();
+                Err(error)
+            }
+        }
+    }
+
+    /// Ends the innermost level, which is rolled back before the next statement or ping.
+    pub(crate) fn give_up(&mut self)
+        requires { 0 < self.old.depth }
+        ensures levels { self.new.depth ≡ self.old.depth - 1 }
+        ensures faults { self.new.faults ≡ self.old.faults }
+    {
+        self.depth -= 1;
+        let depth = match self.goes_back_to {
+            Some(noted) if noted < self.depth => noted,
+            _ => self.depth,
+        };
+        self.goes_back_to = Some(depth);
+    }
+
+    /// Closes the database. What isn't committed is rolled back.
+    pub(crate) fn end(self) -> Result<(), Error> {
+        let SqliteConnection { base, alloc, .. } = self;
+        match base.close(alloc) {
+            Ok(()) => Ok(()),
+            Err(refusal) => Err(refusal.error()),
+        }
+    }
+}

@@ -1,0 +1,68 @@
+//! Files that are opened by a URL.
+ghost use Rattle.std.specs.Prelude.{◌≡◌, IfOk};
+
+use crate::Sqlite;
+use crate::base::Base;
+use crate::connection::SqliteConnection;
+use crate::open::in_memory;
+use crate::refusal::refused;
+use sqlite::Connection;
+use sqlx_any::{AnyConnectOptions, AnyConnection, Connector, Faults, expect_scheme};
+use sqlx_text::Error;
+use std::alloc::Global;
+use std::rt::HostRuntime;
+
+/// Opens files by URLs such as `sqlite:notes.db`, and makes those that aren't there.
+#[derive(Drop)]
+pub struct SqliteFiles {
+    rt: HostRuntime,
+    faults: u64,
+}
+
+impl SqliteFiles {
+    /// What opens files by the runtime.
+    pub fn new(rt: HostRuntime) -> SqliteFiles
+        ensures { result.faults ≡ 0 }
+    {
+        SqliteFiles { rt, faults: 0 }
+    }
+}
+
+impl Faults for SqliteFiles {
+    ghost faults = { λ files. files.faults };
+}
+
+impl Connector<Sqlite> for SqliteFiles {
+    /// Opens the file whose path is that of the URL, or a database in memory.
+    fn connect(
+        &mut self,
+        alloc: Global,
+        options: &AnyConnectOptions,
+    ) -> Result<AnyConnection<SqliteConnection>, Error> {
+        match opened(alloc, &self.rt, options) {
+            Ok(conn) => Ok(AnyConnection::new(conn)),
+            Err(error) => {
+                self.faults = self.faults.saturating_add(1);
+                Err(error)
+            }
+        }
+    }
+}
+
+fn opened(
+    alloc: Global,
+    rt: &HostRuntime,
+    options: &AnyConnectOptions,
+) -> Result<SqliteConnection, Error>
+    ensures { IfOk result (λ conn. conn.depth ≡ 0) }
+{
+    expect_scheme(alloc, &options.database_url, "sqlite")?;
+    let path = options.database_url.path();
+    if path == ":memory:" {
+        return in_memory(alloc);
+    }
+    match Connection::open(rt, path) {
+        Ok(conn) => Ok(SqliteConnection::new(alloc, Base::File(conn))),
+        Err(error) => Err(refused(alloc, error).error()),
+    }
+}

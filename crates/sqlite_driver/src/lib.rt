@@ -1,0 +1,18 @@
+//! SQLite as a driver: a connection to a database of the crate `sqlite` is a backend of `Any`, so
+//! that queries and transactions run on it. What its rows are no clause of this crate says.
+#![tactic(auto)]
+
+mod backend;
+mod base;
+mod connection;
+mod files;
+mod open;
+mod refusal;
+mod statements;
+mod values;
+
+pub use connection::SqliteConnection;
+pub use files::SqliteFiles;
+
+/// The database of such connections: what queries on it are written for.
+pub type Sqlite = sqlx_any::Any<SqliteConnection>;

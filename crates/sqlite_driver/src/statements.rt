@@ -1,0 +1,118 @@
+//! Statements on the database's own connection.
+
+use crate::refusal::{Refusal, refused};
+use crate::values::{lent_all, row};
+use sqlite::types::ValueRef;
+use sqlite::{Alter, Connection, Row, Statement};
+use sqlx_any::{AnyArguments, AnyQueryResult, AnyRow, Either};
+use sqlx_savepoints::rollback_ansi_transaction_sql;
+use sqlx_text::OutOfMemory;
+use std::alloc::Global;
+use std::collections::VecDeque;
+
+/// What a statement gives: rows, and then a result.
+pub(crate) type Items = VecDeque<Either<AnyQueryResult, AnyRow>>;
+
+fn changed<S: Alter>(
+    conn: &mut Connection<S>,
+    alloc: Global,
+    text: &str,
+    values: &[ValueRef<'_>],
+) -> Result<u64, Refusal> {
+    match conn.execute(text, values) {
+        Ok(rows) => Ok(rows as u64),
+        Err(error) => Err(refused(alloc, error)),
+    }
+}
+
+fn prepared<S: Alter>(
+    conn: &mut Connection<S>,
+    alloc: Global,
+    text: &str,
+) -> Result<Statement, Refusal> {
+    match conn.prepare(text) {
+        Ok(statement) => Ok(statement),
+        Err(error) => Err(refused(alloc, error)),
+    }
+}
+
+fn shown<S: Alter>(
+    conn: &mut Connection<S>,
+    alloc: Global,
+    text: &str,
+    values: &[ValueRef<'_>],
+) -> Result<Vec<Row>, Refusal> {
+    match conn.query_all(text, values) {
+        Ok(rows) => Ok(rows),
+        Err(error) => Err(refused(alloc, error)),
+    }
+}
+
+/// These rows under the names of the statement's columns.
+fn listed(alloc: Global, statement: &Statement, rows: &[Row]) -> Result<Items, Refusal> {
+    let mut items = VecDeque::new(alloc);
+    for shown in rows {
+        let row = row(alloc, statement.column_names(), shown)?;
+        if items.push_back(Either::Right(row)).is_err() {
+            return Err(Refusal::OutOfMemory);
+        }
+    }
+    Ok(items)
+}
+
+/// These rows, and then a result.
+fn finished(items: Items, rows_affected: u64, id: Option<i64>) -> Result<Items, Refusal> {
+    let mut items = items;
+    let result = AnyQueryResult {
+        rows_affected,
+        last_insert_id: id,
+    };
+    match items.push_back(Either::Left(result)) {
+        Ok(()) => Ok(items),
+        Err(_) => Err(Refusal::OutOfMemory),
+    }
+}
+
+/// Runs a text: one that begins with `SELECT ` gives its rows, any other how many rows it changed.
+pub(crate) fn run<S: Alter>(
+    conn: &mut Connection<S>,
+    alloc: Global,
+    text: &str,
+    arguments: &Option<AnyArguments>,
+) -> Result<Items, Refusal> {
+    let values = lent_all(alloc, arguments)?;
+    if text.starts_with("SELECT ") {
+        let statement = prepared(conn, alloc, text)?;
+        let rows = shown(conn, alloc, text, values.as_slice())?;
+        return finished(listed(alloc, &statement, rows.as_slice())?, 0, None);
+    }
+    let rows = changed(conn, alloc, text, values.as_slice())?;
+    finished(VecDeque::new(alloc), rows, Some(conn.last_insert_rowid()))
+}
+
+/// Runs a text of a level.
+pub(crate) fn perform<S: Alter>(
+    conn: &mut Connection<S>,
+    alloc: Global,
+    text: &str,
+) -> Result<(), Refusal> {
+    match changed(conn, alloc, text, &[]) {
+        Ok(_) => Ok(()),
+        Err(refusal) => Err(refusal),
+    }
+}
+
+/// Rolls back to this depth, where the database is in a transaction at all.
+pub(crate) fn roll_back_to<S: Alter>(
+    conn: &mut Connection<S>,
+    alloc: Global,
+    depth: usize,
+) -> Result<(), Refusal> {
+    if conn.is_autocommit() {
+        return Ok(());
+    }
+    match rollback_ansi_transaction_sql(alloc, depth.saturating_add(1)) {
+        Ok(text) => perform(conn, alloc, text.as_str()),
+        Err(OutOfMemory) => Err(Refusal::OutOfMemory),
+    }
+}

@@ -1,0 +1,12 @@
+use Rattle.sqlx_pool_core.proofs.PollEnds.{tries-cause}
+use Rattle.sqlx_pool_core.proofs.CallsKeep.{tries-more}
+use Rattle.sqlx_pool.proofs.checks.tried.Goals as goal
+
+pub returns-clause-cause : goal.returns-clause-cause
+returns-clause-cause g c = tries-cause g.X.Outside.does g.X.Outside.depth g.X.Outside.faults g.X.Outside.refusals g.X.Outside.IsShort g.met.X.Outside.facts _ _ _ _ _ c.try_connect.ensures
+
+pub returns-clause-counts : goal.returns-clause-counts
+returns-clause-counts g c = (
+  tries-more g.X.Outside.does g.X.Outside.depth g.X.Outside.faults (λ x a b d. (g.met.X.Outside.facts x a b d).more_faults) _ _ _ _ _ c.try_connect.ensures,
+  tries-more g.X.Outside.does g.X.Outside.depth g.X.Outside.refusals (λ x a b d. (g.met.X.Outside.facts x a b d).more_refusals) _ _ _ _ _ c.try_connect.ensures,
+)

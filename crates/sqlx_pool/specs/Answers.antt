@@ -1,0 +1,50 @@
+-- What is asked of the answers of steps.
+use Rattle.std.specs.Prelude.{⊤, Bool, true, false, Option, Some, None}
+use Rattle.sqlx_pool_core.specs.declared.steps.Lent.{Lent}
+use Rattle.sqlx_pool_core.specs.declared.steps.AfterTest.{AfterTest}
+use Rattle.sqlx_pool_core.specs.declared.steps.AfterTest.TheVariants as tested
+use Rattle.sqlx_pool_core.specs.declared.steps.Tried.{Tried}
+use Rattle.sqlx_pool_core.specs.declared.steps.Tried.TheVariants as tried
+use Rattle.sqlx_pool_core.specs.declared.steps.AfterConnect.{AfterConnect}
+use Rattle.sqlx_pool_core.specs.declared.steps.AfterConnect.TheVariants as connected
+
+module _ {C : Type 0} where
+  -- the test lends its connection
+  abbrev pub lends_tested : AfterTest C → Bool
+  lends_tested (tested.Ready lent) = true
+  lends_tested other = false
+
+  -- P of the connection that a test lends, if it does
+  abbrev pub IfTestLends : AfterTest C → (Lent C → Type 0) → Type 0
+  IfTestLends (tested.Ready lent) P = P lent
+  IfTestLends other P = ⊤
+
+  -- the try lends its connection
+  abbrev pub lends_new : AfterConnect C → Bool
+  lends_new (connected.Ready lent) = true
+  lends_new other = false
+
+  -- P of the connection that a try lends, if it does
+  abbrev pub IfTryLends : AfterConnect C → (Lent C → Type 0) → Type 0
+  IfTryLends (connected.Ready lent) P = P lent
+  IfTryLends other P = ⊤
+
+  -- P of the connection that a try opened, if it did
+  abbrev pub IfTried : Tried C → (C → Type 0) → Type 0
+  IfTried (tried.Opened raw) P = P raw
+  IfTried other P = ⊤
+
+  -- the connection that is lent past the line, without its share
+  abbrev pub lent_alone : {S : Type 0} → Option (Lent C × S) → Option (Lent C)
+  lent_alone None = None
+  lent_alone (Some (lent, share)) = Some lent
+
+  -- the try was refused for good
+  abbrev pub is_fatal : Tried C → Bool
+  is_fatal tried.Fatal = true
+  is_fatal other = false
+
+  -- the ticket ended by a try that was refused for good
+  abbrev pub is_ended : AfterConnect C → Bool
+  is_ended connected.Ended = true
+  is_ended other = false

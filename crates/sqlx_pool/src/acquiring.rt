@@ -1,0 +1,117 @@
+//! A connection that was asked for and isn't there yet.
+
+ghost use Rattle.std.specs.Prelude.{◌≡◌, ℕ, ◌<◌, ◌≤◌};
+ghost use Rattle.sqlx_pool.specs.Booked.{CountsIf};
+ghost use Rattle.sqlx_pool.specs.Polling.{is_ready, IfReady};
+
+use crate::stage::{Stage, Why};
+use crate::{Loans, PoolConnectionOf, PoolOf, Tally, checks};
+use sqlx_pool_core::Outside;
+use sqlx_pool_core::probe::Check;
+use sqlx_text::{Depth, Error, Moment};
+use std::alloc::Global;
+use std::sync::Wait;
+use std::sync::ledger::Ledger;
+
+/// What a poll came to.
+pub enum Polling<T, P> {
+    /// The connection is lent.
+    Ready(T),
+    /// Poll again later.
+    Pending(P, Why),
+    /// The ticket ended.
+    Failed(Error),
+}
+
+/// What a poll of a pool came to.
+pub type PoolPollOf<C, O, H, L> = Polling<PoolConnectionOf<C, O, H, L>, AcquiringOf<C, O, H, L>>;
+
+/// A ticket of a client. It ends by a poll that answers a connection or an error, or by `cancel`; it can't be let go
+/// otherwise.
+pub struct AcquiringOf<C: Depth, O, H: Ledger, L: Loans> {
+    pool: PoolOf<C, O, H, L>,
+    client: u32,
+    ticket: u64,
+}
+
+impl<C: Depth + Drop, O: Drop, H: Ledger, L: Loans> AcquiringOf<C, O, H, L> {
+    pub(crate) fn new(pool: PoolOf<C, O, H, L>, client: u32, ticket: u64) -> Self {
+        AcquiringOf {
+            pool,
+            client,
+            ticket,
+        }
+    }
+
+    /// The number of the ticket.
+    pub fn ticket(&self) -> u64
+        ensures { result ≡ self.now.ticket }
+    {
+        self.ticket
+    }
+
+    /// Polls the ticket: idle connections are tested by ping and hook where they are set, at most `idle_tries` of them up
+    /// to the first that passes; then, or where none is idle, a connection is opened. What isn't lent is closed. The lock isn't held meanwhile. The tally
+    /// counts a loan.
+    pub fn poll<R: Wait, X: Outside<C, O>>(
+        self,
+        rt: &R,
+        alloc: Global,
+        now: Moment,
+        out: &mut X,
+        tally: &mut Tally<L>,
+    ) -> PoolPollOf<C, O, H, L>
+        requires { 0 < tally.old.parts }
+        ensures tally { CountsIf (is_ready result) tally.old tally.new }
+        ensures flat { IfReady result (λ conn. C.levels conn.raw ≡ 0) }
+        ensures counts { (X.faults out.old ≤ X.faults out.new) × (X.refusals out.old ≤ X.refusals out.new) }
+    {
+        let AcquiringOf {
+            pool,
+            client,
+            ticket,
+        } = self;
+        let begun = pool
+            .shared
+            .locked
+            .lock(rt)
+            .begin(client, ticket, now, tally);
+        let tries = pool.shared.options.get_idle_tries();
+        let tested = pool.test::<R, X>(rt, client, ticket, begun, tries, out, tally);
+        let stage = pool.connect::<R, X>(rt, alloc, client, ticket, now, tested, out, tally);
+        match stage {
+            Stage::Lent(lent, held) => {
+                Polling::Ready(PoolConnectionOf::new(pool, client, lent, held))
+            }
+            Stage::Pending(why) => Polling::Pending(AcquiringOf::new(pool, client, ticket), why),
+            Stage::Failed(error) => {
+                drop(pool);
+                Polling::Failed(error)
+            }
+            Stage::Left { raw, hard, error } => {
+                drop(pool);
+                close_left::<C, O, X>(raw, hard, out);
+                Polling::Failed(error)
+            }
+            Stage::Test(_, _) | Stage::Connect => unreachable!(),
+        }
+    }
+
+    /// Gives the ticket up. It ends, and frees what it held: true.
+    pub fn cancel<R: Wait>(self, rt: &R) -> bool {
+        let AcquiringOf {
+            pool,
+            client,
+            ticket,
+        } = self;
+        pool.shared.locked.lock(rt).cancel(client, ticket)
+    }
+}
+
+// Closes a connection that a poll left.
+fn close_left<C, O, X: Outside<C, O>>(raw: C, hard: bool, out: &mut X)
+    ensures counts { (X.faults out.old ≤ X.faults out.new) × (X.refusals out.old ≤ X.refusals out.new) }
+{
+    let check = if hard { Check::CloseHard } else { Check::Close };
+    checks::close_by::<C, O, X>(check, raw, out);
+}

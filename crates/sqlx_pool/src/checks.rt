@@ -1,0 +1,140 @@
+//! What is asked of the outside between two locked steps: the core's own test of an idle connection, try to open one
+//! and test of one that comes back. Nothing here knows the lock. Each reads the connection's own depth last.
+
+ghost use Rattle.std.specs.Prelude.{◌≡◌, ℕ, ◌≤◌};
+ghost use Rattle.sqlx_pool_core.specs.PollParts.{IfAccepted, IfOpened, IfFailed, IsForGood};
+ghost use Rattle.sqlx_pool_core.specs.Giving.{is_pass};
+ghost use Rattle.sqlx_pool_core.specs.PollSteps.{judged};
+ghost use Rattle.sqlx_pool.specs.Checks.{IfPassed};
+
+use sqlx_pool_core::probe::{self, Check, Opening};
+use sqlx_pool_core::{Idle, Lent, Outside, PoolConnectionMetadata, PoolOptions, Verdict};
+use sqlx_text::{Depth, Moment};
+use std::alloc::Global;
+
+// The test of an idle connection asks nothing of the outside.
+pub fn tests_nothing(options: &PoolOptions) -> bool {
+    !options.get_test_before_acquire() && !options.get_before_acquire()
+}
+
+// What a check comes to where the connection's own depth is read behind it: with a level open none passes.
+fn flat<C: Depth>(check: Check, raw: &C) -> Check
+    ensures { IfPassed result (C.levels raw.now ≡ 0) }
+{
+    match check {
+        Check::Pass => {
+            let levels = raw.depth();
+            if levels == 0 {
+                Check::Pass
+            } else {
+                Check::CloseHard
+            }
+        }
+        Check::Close => Check::Close,
+        Check::CloseHard => Check::CloseHard,
+    }
+}
+
+// The connection passed.
+pub fn passes(check: Check) -> bool
+    ensures { result ≡ is_pass check }
+{
+    match check {
+        Check::Pass => true,
+        Check::Close | Check::CloseHard => false,
+    }
+}
+
+// Closes a connection as a check says.
+pub fn close_by<C, O, X: Outside<C, O>>(check: Check, raw: C, out: &mut X)
+    ensures counts { (X.faults out.old ≤ X.faults out.new) × (X.refusals out.old ≤ X.refusals out.new) }
+{
+    match check {
+        Check::CloseHard => out.close_hard(raw),
+        Check::Pass => out.close(raw),
+        Check::Close => out.close(raw),
+    }
+}
+
+// Tests an idle connection at a moment, and closes what doesn't pass.
+fn tested<C, O, X: Outside<C, O>>(
+    options: &PoolOptions,
+    idle: Idle<C>,
+    moment: Moment,
+    out: &mut X,
+) -> Verdict<C>
+    ensures judged { judged result ≡ idle.lent.id }
+    ensures counts { (X.faults out.old ≤ X.faults out.new) × (X.refusals out.old ≤ X.refusals out.new) }
+{
+    probe::test::<C, O, X>(options, idle, moment, out)
+}
+
+// Tests an idle connection at a moment, and closes what doesn't pass or has a level open.
+pub fn judge<C: Depth, O, X: Outside<C, O>>(
+    options: &PoolOptions,
+    idle: Idle<C>,
+    moment: Moment,
+    out: &mut X,
+) -> Verdict<C>
+    ensures judged { judged result ≡ idle.lent.id }
+    ensures flat { IfAccepted result (λ raw. C.levels raw ≡ 0) }
+    ensures counts { (X.faults out.old ≤ X.faults out.new) × (X.refusals out.old ≤ X.refusals out.new) }
+{
+    match tested::<C, O, X>(options, idle, moment, out) {
+        Verdict::Accepted(lent) => {
+            if lent.raw.depth() == 0 {
+                Verdict::Accepted(lent)
+            } else {
+                let id = lent.id;
+                close_by::<C, O, X>(Check::CloseHard, lent.raw, out);
+                Verdict::Refused(id)
+            }
+        }
+        Verdict::Refused(id) => Verdict::Refused(id),
+    }
+}
+
+// Tries to open a connection, and closes one that its hook refuses.
+fn tried<C, O, X: Outside<C, O>>(alloc: Global, hook: bool, connect: &O, out: &mut X) -> Opening<C>
+    ensures cause { IfFailed result (λ e. IsForGood (X.faults out.old) (X.faults out.new) e) }
+    ensures counts { (X.faults out.old ≤ X.faults out.new) × (X.refusals out.old ≤ X.refusals out.new) }
+{
+    probe::try_connect::<C, O, X>(alloc, hook, connect, out)
+}
+
+// Tries to open a connection, and closes one that its hook refuses or leaves with a level open.
+pub fn try_open<C: Depth, O, X: Outside<C, O>>(
+    alloc: Global,
+    options: &PoolOptions,
+    connect: &O,
+    out: &mut X,
+) -> Opening<C>
+    ensures flat { IfOpened result (λ raw. C.levels raw ≡ 0) }
+    ensures cause { IfFailed result (λ e. IsForGood (X.faults out.old) (X.faults out.new) e) }
+    ensures counts { (X.faults out.old ≤ X.faults out.new) × (X.refusals out.old ≤ X.refusals out.new) }
+{
+    match tried::<C, O, X>(alloc, options.get_after_connect(), connect, out) {
+        Opening::Opened(raw) => {
+            if raw.depth() == 0 {
+                Opening::Opened(raw)
+            } else {
+                close_by::<C, O, X>(Check::CloseHard, raw, out);
+                Opening::Rejected
+            }
+        }
+        opening => opening,
+    }
+}
+
+// Tests a connection that comes back: by the hook after a release where it is set, by its depth, and by a ping.
+pub fn may_rest<C: Depth, O, X: Outside<C, O>>(
+    options: &PoolOptions,
+    raw: &mut C,
+    meta: PoolConnectionMetadata,
+    out: &mut X,
+) -> Check
+    ensures flat { IfPassed result (C.levels raw.new ≡ 0) }
+{
+    let check = probe::returns::<C, O, X>(options.get_after_release(), raw, meta, out);
+    flat(check, raw)
+}

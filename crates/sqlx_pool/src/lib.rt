@@ -1,0 +1,63 @@
+//! A connection pool that threads share: one pool behind a lock, with the log of all that its steps did.
+//!
+//! The rules are those of `sqlx_pool_core`. Here they are made steps under one lock, whose value always stands for
+//! its log; the connects, pings and hooks run between these steps, while the lock is free.
+#![tactic(auto)]
+
+mod acquiring;
+mod books;
+mod checks;
+mod close_event;
+mod connection;
+mod filled;
+mod hold;
+mod locked;
+mod pool;
+mod record;
+mod stage;
+mod tally;
+
+pub use acquiring::{AcquiringOf, Polling, PoolPollOf};
+pub use close_event::{CloseEventOf, Step};
+pub use connection::{PoolConnectionOf, Returned};
+pub use locked::Locked;
+pub use pool::PoolOf;
+pub use sqlx_pool_core::{CloseState, Mark, Openings, PoolConnectionMetadata, PoolOptions};
+use sqlx_traits::Database;
+pub use stage::Why;
+pub use tally::{Held, Loans, Tally};
+
+/// The pool of a database.
+pub type Pool<DB, H, L> = PoolOf<<DB as Database>::Connection, <DB as Database>::Options, H, L>;
+
+/// A ticket of a database's pool.
+pub type Acquiring<DB, H, L> = AcquiringOf<
+    <DB as Database>::Connection,
+    <DB as Database>::Options,
+    H,
+    L,
+>;
+
+/// A connection that the pool of a database has lent.
+pub type PoolConnection<DB, H, L> = PoolConnectionOf<
+    <DB as Database>::Connection,
+    <DB as Database>::Options,
+    H,
+    L,
+>;
+
+/// What a poll of a database's pool came to.
+pub type PoolPoll<DB, H, L> = PoolPollOf<
+    <DB as Database>::Connection,
+    <DB as Database>::Options,
+    H,
+    L,
+>;
+
+/// What tells that the pool of a database is closed.
+pub type CloseEvent<DB, H, L> = CloseEventOf<
+    <DB as Database>::Connection,
+    <DB as Database>::Options,
+    H,
+    L,
+>;

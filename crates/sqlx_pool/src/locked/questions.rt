@@ -1,0 +1,109 @@
+//! What the value under the lock is asked without a change, and its connect options.
+
+ghost use Rattle.std.specs.Prelude.{◌≡◌, ℕ, ◌+◌, ◌++◌, List, not, length, IfOk};
+ghost use Rattle.std.specs.List.{list_any};
+ghost use Rattle.sqlx_log.specs.Marks.{is_shut, is_open, idle_of};
+ghost use Rattle.sqlx_log.specs.EventTable.{closes, size_at};
+ghost use Rattle.sqlx_pool_core.specs.KeepingSteps.{close_state_of};
+ghost use Rattle.sqlx_pool_core.specs.Limits.{limits_of};
+ghost use Rattle.sqlx_pool_core.specs.Logs.{moment_of};
+ghost use Rattle.sqlx_pool.specs.State.{IsStanding};
+
+use super::Locked;
+use crate::Loans;
+use sqlx_pool_core::{CloseState, Mark, PoolOptions};
+use sqlx_text::{Depth, Moment, OutOfMemory};
+use std::alloc::Global;
+use std::mem;
+use std::sync::ledger::Ledger;
+
+impl<C: Depth, O, H: Ledger, L: Loans> Locked<C, O, H, L> {
+    /// What holds of the value whenever its lock is free.
+    pub fn facts(&self)
+        ensures { IsStanding C.levels L.max self.now }
+    {
+        let _ = &self.core;
+    }
+
+    /// How the pool was set up.
+    pub fn options(&self) -> &PoolOptions
+        ensures { result.now ≡ self.now.core.options }
+    {
+        self.core.options()
+    }
+
+    /// The options by which connections are opened.
+    pub fn connect_options(&self) -> &O
+        ensures { result.now ≡ self.now.connect }
+    {
+        &self.connect
+    }
+
+    /// Sets the options by which connections are opened from now on; the former ones come back.
+    pub fn set_connect_options(&mut self, options: O) -> O
+        ensures former { result ≡ self.old.connect }
+        ensures set { self.new ≡ record self.old { connect = options } }
+    {
+        mem::replace(&mut self.connect, options)
+    }
+
+    /// The moment that a step goes by: one below the last moment counts as the last one.
+    pub fn moment(&self, now: Moment) -> Moment
+        ensures { result.0 ≡ moment_of self.now.core now }
+    {
+        self.core.moment(now)
+    }
+
+    /// Whether a connection of this opening would be closed rather than kept.
+    pub fn must_close(&self, created: Moment, now: Moment) -> bool
+        ensures { result ≡ closes (limits_of self.now.core.options) (list_any is_shut self.now.marks) created.0 (moment_of self.now.core now) }
+    {
+        self.core.must_close(created, now)
+    }
+
+    /// How many connections there are or may be.
+    pub fn size(&self) -> u32
+        ensures { result ≡ size_at self.now.core.places self.now.marks }
+    {
+        self.core.size()
+    }
+
+    /// How many connections are idle.
+    pub fn num_idle(&self) -> usize
+        ensures { result ≡ length (idle_of self.now.marks) }
+    {
+        self.core.num_idle()
+    }
+
+    /// Whether the pool is closed.
+    pub fn is_closed(&self) -> bool
+        ensures { is_open self.now.marks ≡ not result }
+    {
+        self.core.is_closed()
+    }
+
+    /// How far the pool is closed.
+    pub fn closing(&self) -> CloseState
+        ensures { result ≡ close_state_of self.now.marks }
+    {
+        self.core.closing()
+    }
+
+    /// How many marks the log has.
+    pub fn log_len(&self) -> usize
+        ensures { result ≡ length self.now.marks }
+    {
+        self.log.len()
+    }
+
+    /// A copy of the log.
+    pub fn read_log(&self, alloc: Global) -> Result<Vec<Mark>, OutOfMemory>
+        ensures { IfOk result (λ log. log.items ≡ self.now.marks) }
+    {
+        let mut copy = Vec::new(alloc);
+        match copy.extend_from_slice(self.log.as_slice()) {
+            Ok(()) => Ok(copy),
+            Err(_) => Err(OutOfMemory),
+        }
+    }
+}

@@ -1,0 +1,202 @@
+//! The pool that threads share: a handle on one locked value. Each call takes the lock for one step at a time.
+
+ghost use Rattle.std.specs.Prelude.{◌≡◌, ℕ, ◌+◌, ◌^◌, ◌<◌, ◌≤◌, ◌⊎◌, List, [], is_some, IfOk, IfErr, IfSome, OnErr};
+ghost use Rattle.sqlx_text.specs.declared.error.Error.{Error};
+ghost use Rattle.sqlx_log.specs.FairLog.{IsFair};
+ghost use Rattle.sqlx_pool.specs.Booked.{CountsIf};
+
+mod first;
+mod keeping;
+mod polls;
+
+use crate::{AcquiringOf, CloseEventOf, Loans, Locked, PoolConnectionOf, Tally};
+use sqlx_pool_core::{CloseState, Mark, PoolOptions};
+use sqlx_text::{Depth, Error, Moment, OutOfMemory};
+use std::alloc::Global;
+use std::sync::ledger::{Blank, Ledger};
+use std::sync::{Arc, Mutex, Wait};
+
+// What the handles of a pool share: the locked value, and how the pool was set up.
+#[derive(Drop)]
+pub(crate) struct Shared<C: Depth, O, H: Ledger, L: Loans> {
+    pub(crate) locked: Mutex<Locked<C, Arc<O, Global>, H, L>>,
+    pub(crate) options: PoolOptions,
+}
+
+/// A pool of connections of the type `C`, which are opened by options of the type `O`. Handles on it go into as many
+/// threads as need be.
+#[derive(Drop)]
+pub struct PoolOf<C: Depth, O, H: Ledger, L: Loans> {
+    pub(crate) shared: Arc<Shared<C, O, H, L>, Global>,
+}
+
+impl<C: Depth + Drop, O: Drop, H: Ledger, L: Loans> PoolOf<C, O, H, L> {
+    /// A pool with no connection yet, and the tally of its loans with every part. The two blanks are the ledgers of the
+    /// connections that are held and of the loans. In sqlx: `connect_lazy_with`.
+    pub fn connect_lazy_with(
+        alloc: Global,
+        options: PoolOptions,
+        connect: O,
+        held: Blank,
+        loans: Blank,
+    ) -> Result<(Self, Tally<L>), OutOfMemory>
+        requires some { 1 ≤ options.max_connections }
+        requires tries { (1 ≤ options.idle_tries) × (options.idle_tries ≤ 16) }
+        requires max { options.max_connections ≡ L.max }
+        requires held { (held.name ≡ H.name) × (held.parts ≡ H.parts) × (held.parts ≡ 2 ^ 32) }
+        requires loans { (loans.name ≡ L.name) × (loans.parts ≡ L.parts) }
+        ensures tally { IfOk result (λ made. made.1 ≡ record { parts = L.parts; loans = 0 }) }
+    {
+        let Ok(connect) = Arc::new(alloc, connect) else {
+            return Err(OutOfMemory);
+        };
+        let (locked, tally) = Locked::new(alloc, options, connect, held, loans)?;
+        let shared = Shared {
+            locked: Mutex::new(locked),
+            options,
+        };
+        match Arc::new(alloc, shared) {
+            Ok(shared) => Ok((PoolOf { shared }, tally)),
+            Err(_) => Err(OutOfMemory),
+        }
+    }
+
+    /// Another handle on the same pool. In sqlx: `clone`.
+    pub fn try_clone(&self) -> Result<Self, OutOfMemory> {
+        match Arc::try_clone(&self.shared) {
+            Ok(shared) => Ok(PoolOf { shared }),
+            Err(_) => Err(OutOfMemory),
+        }
+    }
+
+    /// Asks for a connection: a ticket at the end of the line, which is polled by the value that comes back.
+    pub fn acquire<R: Wait>(
+        &self,
+        rt: &R,
+        alloc: Global,
+        now: Moment,
+        client: u32,
+    ) -> Result<AcquiringOf<C, O, H, L>, Error>
+        ensures { IfErr result (λ e. (e ≡ Error.PoolClosed) ⊎ ((e ≡ Error.Exhausted) ⊎ (e ≡ Error.OutOfMemory))) }
+    {
+        let Ok(pool) = self.try_clone() else {
+            return Err(Error::OutOfMemory);
+        };
+        let asked = self.shared.locked.lock(rt).ask(alloc, now, client);
+        match asked {
+            Ok(ticket) => Ok(AcquiringOf::new(pool, client, ticket)),
+            Err(error) => {
+                drop(pool);
+                Err(error)
+            }
+        }
+    }
+
+    /// The first idle connection, past the line and without a test: where the pool is open, a connection is idle, and
+    /// fewer tickets wait than permits are free. `Exhausted` where 2^62 loans were made.
+    pub fn try_acquire<R: Wait>(
+        &self,
+        rt: &R,
+        alloc: Global,
+        now: Moment,
+        client: u32,
+        tally: &mut Tally<L>,
+    ) -> Result<Option<PoolConnectionOf<C, O, H, L>>, Error>
+        requires { 0 < tally.old.parts }
+        ensures tally { IfOk result (λ lent. CountsIf (is_some lent) tally.old tally.new) }
+        ensures flat { IfOk result (λ lent. IfSome lent (λ conn. C.levels conn.raw ≡ 0)) }
+        ensures causes { IfErr result (λ e. (e ≡ Error.Exhausted) ⊎ (e ≡ Error.OutOfMemory)) }
+        ensures err { OnErr result (tally.new ≡ tally.old) }
+    {
+        let Ok(pool) = self.try_clone() else {
+            return Err(Error::OutOfMemory);
+        };
+        let tried = self
+            .shared
+            .locked
+            .lock(rt)
+            .try_acquire(alloc, now, client, tally);
+        match tried {
+            Ok(Some((lent, held))) => Ok(Some(PoolConnectionOf::new(pool, client, lent, held))),
+            Ok(None) => {
+                drop(pool);
+                Ok(None)
+            }
+            Err(error) => {
+                drop(pool);
+                Err(error)
+            }
+        }
+    }
+
+    /// How many connections there are or may be.
+    pub fn size<R: Wait>(&self, rt: &R) -> u32 {
+        self.shared.locked.lock(rt).size()
+    }
+
+    /// How many connections are idle.
+    pub fn num_idle<R: Wait>(&self, rt: &R) -> usize {
+        self.shared.locked.lock(rt).num_idle()
+    }
+
+    /// Whether the pool is closed.
+    pub fn is_closed<R: Wait>(&self, rt: &R) -> bool {
+        self.shared.locked.lock(rt).is_closed()
+    }
+
+    /// How far the pool is closed.
+    pub fn closing<R: Wait>(&self, rt: &R) -> CloseState {
+        self.shared.locked.lock(rt).closing()
+    }
+
+    /// What tells that the pool is closed.
+    pub fn close_event(&self) -> Result<CloseEventOf<C, O, H, L>, OutOfMemory> {
+        match self.try_clone() {
+            Ok(pool) => Ok(CloseEventOf::new(pool)),
+            Err(short) => Err(short),
+        }
+    }
+
+    /// How the pool was set up.
+    pub fn options(&self) -> &PoolOptions {
+        &self.shared.options
+    }
+
+    /// The options by which connections are opened.
+    pub fn connect_options<R: Wait>(&self, rt: &R) -> Result<Arc<O, Global>, OutOfMemory> {
+        let guard = self.shared.locked.lock(rt);
+        match Arc::try_clone(guard.connect_options()) {
+            Ok(connect) => Ok(connect),
+            Err(_) => Err(OutOfMemory),
+        }
+    }
+
+    /// Sets the options by which connections are opened from now on.
+    pub fn set_connect_options<R: Wait>(
+        &self,
+        rt: &R,
+        alloc: Global,
+        options: O,
+    ) -> Result<(), OutOfMemory> {
+        let Ok(options) = Arc::new(alloc, options) else {
+            return Err(OutOfMemory);
+        };
+        let former = self.shared.locked.lock(rt).set_connect_options(options);
+        drop(former);
+        Ok(())
+    }
+
+    /// How many marks the log has.
+    pub fn log_len<R: Wait>(&self, rt: &R) -> usize {
+        self.shared.locked.lock(rt).log_len()
+    }
+
+    /// A copy of the log: fair from the start, for a pool of this maximum.
+    pub fn read_log<R: Wait>(&self, rt: &R, alloc: Global) -> Result<Vec<Mark>, OutOfMemory>
+        ensures { IfOk result (λ log. IsFair L.max [] log.items) }
+    {
+        let guard = self.shared.locked.lock(rt);
+        guard.facts();
+        guard.read_log(alloc)
+    }
+}

@@ -1,0 +1,226 @@
+//! What keeps a pool in shape, and closing it: one locked step a connection, with the connects and closes between.
+
+ghost use Rattle.std.specs.Prelude.{◌≡◌, ℕ, ◌≤◌, true, false, length};
+ghost use Rattle.sqlx_pool_core.specs.Giving.{is_pass};
+ghost use Rattle.sqlx_pool.specs.Checks.{IfPassed};
+
+use super::PoolOf;
+use crate::filled::Filled;
+use crate::{Loans, Locked, checks};
+use sqlx_pool_core::probe::{Check, Opening};
+use sqlx_pool_core::{Idle, Openings, Outside, PoolConnectionMetadata};
+use sqlx_text::{Depth, Error, Moment};
+use std::alloc::Global;
+use std::collections::VecDeque;
+use std::sync::Wait;
+use std::sync::ledger::Ledger;
+
+impl<C: Depth, O, H: Ledger, L: Loans> Locked<C, O, H, L> {
+    // The moment at which a connection that comes back is tested; None where the pool is closed or it is too old.
+    fn tests_at(&self, created: Moment, now: Moment) -> Option<Moment> {
+        if self.must_close(created, now) {
+            None
+        } else {
+            Some(self.moment(now))
+        }
+    }
+}
+
+// Closes idle connections, and tells how many.
+fn close_all<C: Drop, O, X: Outside<C, O>>(idle: VecDeque<Idle<C>>, out: &mut X) -> usize
+    ensures { result ≡ length idle.items }
+{
+    let mut idle = idle;
+    let count = idle.len();
+    for _ in 0..count {
+        if let Some(closed) = idle.pop_front() {
+            out.close(closed.lent.raw);
+        }
+    }
+    count
+}
+
+impl<C: Depth + Drop, O: Drop, H: Ledger, L: Loans> PoolOf<C, O, H, L> {
+    // Tests a connection that comes back, unless it is to be closed anyway.
+    pub(crate) fn check<R: Wait, X: Outside<C, O>>(
+        &self,
+        rt: &R,
+        closes: bool,
+        created: Moment,
+        now: Moment,
+        raw: &mut C,
+        out: &mut X,
+    ) -> Check
+        ensures flat { IfPassed result (C.levels raw.new ≡ 0) }
+        ensures closes { closes ≡ true → is_pass result ≡ false }
+    {
+        if closes {
+            return Check::Close;
+        }
+        let tests_at = self.shared.locked.lock(rt).tests_at(created, now);
+        match tests_at {
+            None => Check::Close,
+            Some(moment) => {
+                let meta = PoolConnectionMetadata {
+                    age: moment.0.saturating_sub(created.0),
+                    idle_for: 0,
+                };
+                checks::may_rest::<C, O, X>(&self.shared.options, raw, meta, out)
+            }
+        }
+    }
+
+    /// Closes the pool: from now on it serves no ticket and keeps no connection. The idle connections are closed; their
+    /// number comes back. A second close gives 0.
+    pub fn close<R: Wait, X: Outside<C, O>>(&self, rt: &R, out: &mut X) -> usize {
+        let idle = self.shared.locked.lock(rt).close();
+        close_all::<C, O, X>(idle, out)
+    }
+
+    /// Closes the idle connections that rest for longer than the idle limit or are older than the lifetime, at most as
+    /// many as the pool may have, and then keeps the minimum. How many were closed, and what the minimum came to.
+    pub fn reap<R: Wait, X: Outside<C, O>>(
+        &self,
+        rt: &R,
+        alloc: Global,
+        now: Moment,
+        out: &mut X,
+    ) -> (u32, Openings) {
+        let reaped = self.reap_all::<R, X>(rt, now, out);
+        (reaped, self.keep_minimum::<R, X>(rt, alloc, now, out))
+    }
+
+    // Closes what is to be reaped.
+    fn reap_all<R: Wait, X: Outside<C, O>>(&self, rt: &R, now: Moment, out: &mut X) -> u32 {
+        let max = self.shared.options.get_max_connections();
+        for reaped in 0..max {
+            let idle = self.shared.locked.lock(rt).reap(now);
+            match idle {
+                Some(idle) => out.close(idle.lent.raw),
+                None => return reaped,
+            }
+        }
+        max
+    }
+
+    // Keeps the minimum after a loan that ended; after another nothing is opened.
+    pub(crate) fn keep_minimum_if<R: Wait, X: Outside<C, O>>(
+        &self,
+        ended: bool,
+        rt: &R,
+        alloc: Global,
+        now: Moment,
+        out: &mut X,
+    ) -> Openings {
+        if ended {
+            self.keep_minimum::<R, X>(rt, alloc, now, out)
+        } else {
+            Openings {
+                opened: 0,
+                short: false,
+            }
+        }
+    }
+
+    /// Opens connections up to the minimum, and puts them last among the idle: one by one, while the pool is open, has
+    /// fewer connections than the minimum and the maximum, and fewer tickets wait than permits are free; at most as many
+    /// as the pool may have. The first refusal, or want of memory, ends it.
+    pub fn keep_minimum<R: Wait, X: Outside<C, O>>(
+        &self,
+        rt: &R,
+        alloc: Global,
+        now: Moment,
+        out: &mut X,
+    ) -> Openings {
+        let max = self.shared.options.get_max_connections();
+        for opened in 0..max {
+            match self.open_one::<R, X>(rt, alloc, now, out) {
+                Filled::Opened => {}
+                Filled::Short => {
+                    return Openings {
+                        opened,
+                        short: true,
+                    };
+                }
+                Filled::Full | Filled::Refused => {
+                    return Openings {
+                        opened,
+                        short: false,
+                    };
+                }
+            }
+        }
+        Openings {
+            opened: max,
+            short: false,
+        }
+    }
+
+    // Tries to open one connection for the minimum, where a place may be held.
+    fn open_one<R: Wait, X: Outside<C, O>>(
+        &self,
+        rt: &R,
+        alloc: Global,
+        now: Moment,
+        out: &mut X,
+    ) -> Filled {
+        let place = self.shared.locked.lock(rt).minimum_place(alloc);
+        match place {
+            Ok(true) => self.fill_place::<R, X>(rt, alloc, now, out),
+            Ok(false) => Filled::Full,
+            Err(_) => Filled::Short,
+        }
+    }
+
+    // Tries to open a connection for a place that is held.
+    fn fill_place<R: Wait, X: Outside<C, O>>(
+        &self,
+        rt: &R,
+        alloc: Global,
+        now: Moment,
+        out: &mut X,
+    ) -> Filled {
+        match self.open::<R, X>(rt, alloc, out) {
+            Opening::Opened(raw) => self.keep_new::<R, X>(rt, now, raw, out),
+            Opening::Rejected | Opening::Transient => {
+                self.let_go(rt, now);
+                Filled::Refused
+            }
+            Opening::Failed(error) => {
+                self.let_go(rt, now);
+                let filled = match &error {
+                    Error::OutOfMemory => Filled::Short,
+                    _ => Filled::Refused,
+                };
+                drop(error);
+                filled
+            }
+        }
+    }
+
+    // Puts a new connection last among the idle; in a pool that was closed meanwhile it is closed.
+    pub(super) fn keep_new<R: Wait, X: Outside<C, O>>(
+        &self,
+        rt: &R,
+        now: Moment,
+        raw: C,
+        out: &mut X,
+    ) -> Filled
+        requires { C.levels raw ≡ 0 }
+    {
+        let back = self.shared.locked.lock(rt).minimum_done(now, Some(raw));
+        match back {
+            None => Filled::Opened,
+            Some(raw) => {
+                out.close(raw);
+                Filled::Full
+            }
+        }
+    }
+
+    // Gives a place back for which nothing was opened.
+    pub(super) fn let_go<R: Wait>(&self, rt: &R, now: Moment) {
+        let back = self.shared.locked.lock(rt).minimum_done(now, None);
+        drop(back);
+    }
+}

@@ -1,0 +1,329 @@
+-- What a whole poll answers, by the calls that it made.
+use Rattle.std.proofs.Common.{◌≡◌, ◌==◌, ℕ, ◌≤◌, ◌<◌, ◌⊎◌, inl, inr, Bool, true, false, cond, Option, Some, None, List, [], ◌∷◌, ◌++◌, ◌+◌, drop, All, Result, Ok, Err, refl, sym, ap, subst, ◌∙◌, arith}
+use Rattle.std.proofs.lemmas.Bool.{eqb-true, ltb-true}
+use Rattle.std.proofs.lemmas.List.{append_assoc}
+use Rattle.std.proofs.lemmas.List.Elements.{All-head, All-tail}
+use Rattle.sqlx_text.specs.declared.Moment.{Moment}
+use Rattle.sqlx_text.specs.declared.error.Error.{Error}
+use Rattle.sqlx_text.specs.declared.error.Error.TheVariants.{OutOfMemory}
+use Rattle.sqlx_log.specs.declared.mark.Mark.{Mark}
+use Rattle.sqlx_pool_core.specs.declared.options.PoolOptions.{PoolOptions}
+use Rattle.sqlx_pool_core.specs.declared.outside.PoolConnectionMetadata.{PoolConnectionMetadata}
+use Rattle.sqlx_pool_core.specs.declared.probe.Check.{Check}
+use Rattle.sqlx_pool_core.specs.declared.probe.Check.TheVariants as check
+use Rattle.sqlx_pool_core.specs.declared.probe.Opening.{Opening}
+use Rattle.sqlx_pool_core.specs.declared.probe.Opening.TheVariants as opening
+use Rattle.sqlx_pool_core.specs.declared.steps.Idle.{Idle}
+use Rattle.sqlx_pool_core.specs.declared.steps.Lent.{Lent}
+use Rattle.sqlx_pool_core.specs.declared.steps.Start.{Start}
+use Rattle.sqlx_pool_core.specs.declared.steps.Start.TheVariants as start
+use Rattle.sqlx_pool_core.specs.declared.steps.Verdict.{Verdict}
+use Rattle.sqlx_pool_core.specs.declared.steps.Verdict.TheVariants as verdict
+use Rattle.sqlx_pool_core.specs.declared.steps.Polled.{Polled}
+use Rattle.sqlx_pool_core.specs.declared.steps.Polled.TheVariants as polled
+use Rattle.sqlx_pool_core.specs.declared.steps.AfterTest.{AfterTest}
+use Rattle.sqlx_pool_core.specs.declared.steps.AfterTest.TheVariants as tested
+use Rattle.sqlx_pool_core.specs.declared.ticket.Ticket.{Ticket}
+use Rattle.sqlx_pool_core.specs.declared.ticket.Phase.{Phase}
+use Rattle.sqlx_pool_core.specs.declared.ticket.Phase.TheVariants as phase
+use Rattle.sqlx_pool_core.specs.Calls.{Call, Facts, Levels, connect, ping}
+use Rattle.sqlx_pool_core.specs.Chain.{check_by, Pings, LooksIf, Sorts, Tests, SetsUp, KeepsIf, Follows, Tries}
+use Rattle.sqlx_pool_core.specs.Core.{Core}
+use Rattle.sqlx_pool_core.specs.Outside.{HasRisen, says_ok, is_transient}
+use Rattle.sqlx_pool_core.specs.OwnTurn.{own_turn}
+use Rattle.sqlx_pool_core.specs.PollParts.{IfAccepted, IfOpened, IfFailed, IfReady, IfRefused, IsForGood, first_depth, StayAtRest}
+use Rattle.sqlx_pool_core.specs.PollSteps.{phase_for, start_answer, started, tested_at, may_test_next, test_answer, after_test}
+use Rattle.sqlx_pool_core.specs.Walk.{Next, Test, Connect, Answer, first, then_by, last, judges, tells, Connects, Goes, Polls}
+use Rattle.sqlx_pool_core.proofs.CallsKeep.{tests-keep, tests-more}
+use Rattle.sqlx_pool_core.proofs.WholePoll.{takes, taken-phase}
+use Rattle.sqlx_pool_core.proofs.Polling.{tested-found, next-found}
+
+-- ---- levels
+
+-- the hook left no level open
+abbrev pub IfPass : Check → Type 0 → Type 0
+IfPass check.Pass P = P
+IfPass check.Close P = Unit {0}
+IfPass check.CloseHard P = Unit {0}
+
+check-rests : (answer : Result Bool Error) (n : ℕ) (c : Check) → c ≡ check_by answer n → IfPass c (n ≡ 0)
+check-rests answer n c e = subst (λ (d : Check). IfPass d (n ≡ 0)) (sym e) (by answer)
+  where
+    at : (b : Bool) → (n == 0) ≡ b → IfPass (cond b check.Pass check.CloseHard) (n ≡ 0)
+    at true is = eqb-true n 0 is
+    at false is = tt
+
+    by : (answer : Result Bool Error) → IfPass (check_by answer n) (n ≡ 0)
+    by (Ok true) = at (n == 0) refl
+    by (Ok false) = tt
+    by (Err e) = tt
+
+ok-rests : (answer : Result (Unit {0}) Error) (n : ℕ) → true ≡ says_ok answer n → n ≡ 0
+ok-rests (Ok done) n e = eqb-true n 0 (sym e)
+ok-rests (Err x) n e = absurd cc
+
+module _ {C O X : Type 0} (does : Call C O → X → X → Type 0) (depth : X → C → ℕ) (levels : (c : Call C O) (old new : X) → does c old new → Levels depth c old new) where
+  ping-rests : (asked : Bool) (raw now : C) (good : Bool) (old new : X) → depth old raw ≡ 0 → Pings does depth asked raw now good old new → depth new now ≡ 0
+  ping-rests true raw now good old new rests p = levels (ping raw p.0 now) old new p.1 ∙ rests
+  ping-rests false raw now good old new rests p = (λ i. depth (p.2 i) (p.0 i)) ∙ rests
+
+  look-rests : (good hook : Bool) (meta : PoolConnectionMetadata) (raw now : C) (c : Check) (old new : X) → depth old raw ≡ 0 → LooksIf does depth good hook meta raw now c old new → IfPass c (depth new now ≡ 0)
+  look-rests true true meta raw now c old new rests p = check-rests p.0 (depth new now) c p.2
+  look-rests true false meta raw now c old new rests p = subst (λ (d : Check). IfPass d (depth new now ≡ 0)) (sym p.1) ((λ i. depth (p.2 i) (p.0 i)) ∙ rests)
+  look-rests false hook meta raw now c old new rests p = subst (λ (d : Check). IfPass d (depth new now ≡ 0)) (sym p.1) tt
+
+  sort-rests : (c : Check) (lent : Lent C) (v : Verdict C) (old new : X) → IfPass c (depth old lent.raw ≡ 0) → Sorts does depth c lent v old new → IfAccepted v (λ raw. depth new raw ≡ 0)
+  sort-rests check.Pass lent v old new rests s = subst (λ (w : Verdict C). IfAccepted w (λ raw. depth new raw ≡ 0)) (sym s.0) (ap (λ (x : X). depth x lent.raw) s.1 ∙ rests)
+  sort-rests check.Close lent v old new rests s = subst (λ (w : Verdict C). IfAccepted w (λ raw. depth new raw ≡ 0)) (sym s.0) tt
+  sort-rests check.CloseHard lent v old new rests s = subst (λ (w : Verdict C). IfAccepted w (λ raw. depth new raw ≡ 0)) (sym s.0) tt
+
+  pub tests-rest : (options : PoolOptions) (m : ℕ) (i : Idle C) (v : Verdict C) (old new : X) → depth old i.lent.raw ≡ 0 → Tests does depth options m i v old new → IfAccepted v (λ raw. depth new raw ≡ 0)
+  tests-rest options m i v old new rests t =
+      let k = t.checks in
+      sort-rests t.check (record i.lent { raw = t.raw }) v t.between new (look-rests _ _ _ _ _ _ _ _ (ping-rests _ _ _ _ _ _ rests k.pings) k.looks) t.sorts
+
+  keep-rests : (good : Bool) (raw : C) (o : Opening C) (old new : X) → (good ≡ true → depth old raw ≡ 0) → KeepsIf does depth good raw o old new → IfOpened o (λ raw. depth new raw ≡ 0)
+  keep-rests true raw o old new rests k = subst (λ (p : Opening C). IfOpened p (λ raw. depth new raw ≡ 0)) (sym k.0) (ap (λ (x : X). depth x raw) k.1 ∙ rests refl)
+  keep-rests false raw o old new rests k = subst (λ (p : Opening C). IfOpened p (λ raw. depth new raw ≡ 0)) (sym k.0) tt
+
+  set-rests : (hook : Bool) (raw now : C) (good : Bool) (old new : X) → depth old raw ≡ 0 → SetsUp does depth hook raw now good old new → good ≡ true → depth new now ≡ 0
+  set-rests true raw now good old new rests s is = ok-rests s.0 (depth new now) (sym is ∙ s.2)
+  set-rests false raw now good old new rests s is = (λ i. depth (s.2 i) (s.0 i)) ∙ rests
+
+  refused-rests : (o : Opening C) (e : Error) (b : Bool) (new : X) → o ≡ cond b opening.Transient (opening.Failed e) → IfOpened o (λ raw. depth new raw ≡ 0)
+  refused-rests o e true new is = subst (λ (p : Opening C). IfOpened p (λ raw. depth new raw ≡ 0)) (sym is) tt
+  refused-rests o e false new is = subst (λ (p : Opening C). IfOpened p (λ raw. depth new raw ≡ 0)) (sym is) tt
+
+  follow-rests : (hook : Bool) (options : O) (r : Result C Error) (o : Opening C) (old mid new : X) → does (connect options r) old mid → Follows does depth hook r o mid new → IfOpened o (λ raw. depth new raw ≡ 0)
+  follow-rests hook options (Ok raw) o old mid new d f = keep-rests f.good f.now o f.between new (set-rests hook raw f.now f.good mid f.between (levels (connect options (Ok raw)) old mid d) f.sets_up) f.keeps
+  follow-rests hook options (Err e) o old mid new d f = refused-rests o e (is_transient e) new f.0
+
+  pub tries-rest : (hook : Bool) (options : O) (o : Opening C) (old new : X) → Tries does depth hook options o old new → IfOpened o (λ raw. depth new raw ≡ 0)
+  tries-rest hook options o old new t = follow-rests hook options t.answer o old t.between new t.connects t.follows
+
+-- ---- causes
+
+later : (e : Error) (a b c : ℕ) → b ≤ c → (e ≡ OutOfMemory) ⊎ HasRisen a b → (e ≡ OutOfMemory) ⊎ HasRisen a c
+later e a b c h (inl want) = inl want
+later e a b c h (inr (inl risen)) = inr (inl (omega (arith, h, risen)))
+later e a b c h (inr (inr full)) = inr (inr (omega (arith, h, full)))
+
+sooner : (e : Error) (a b c : ℕ) → a ≤ b → (e ≡ OutOfMemory) ⊎ HasRisen b c → (e ≡ OutOfMemory) ⊎ HasRisen a c
+sooner e a b c h (inl want) = inl want
+sooner e a b c h (inr (inl risen)) = inr (inl (omega (arith, h, risen)))
+sooner e a b c h (inr (inr full)) = inr (inr full)
+
+module _ {C O X : Type 0} (does : Call C O → X → X → Type 0) (depth : X → C → ℕ) (faults refusals : X → ℕ) (IsShort : X → Type 0) (facts : (c : Call C O) (old new : X) → does c old new → Facts faults refusals depth IsShort c old new) where
+  keep-cause : (good : Bool) (raw : C) (o : Opening C) (old new : X) (P : Error → Type 0) → KeepsIf does depth good raw o old new → IfFailed o P
+  keep-cause true raw o old new P k = subst (λ (p : Opening C). IfFailed p P) (sym k.0) tt
+  keep-cause false raw o old new P k = subst (λ (p : Opening C). IfFailed p P) (sym k.0) tt
+
+  refused-cause : (o : Opening C) (e : Error) (b : Bool) (old mid new : X) → is_transient e ≡ b → o ≡ cond b opening.Transient (opening.Failed e) → (e ≡ OutOfMemory) ⊎ HasRisen (faults old) (faults mid) → new ≡ mid
+      → IfFailed o (λ e. IsForGood (faults old) (faults new) e)
+  refused-cause o e true old mid new t is why kept = subst (λ (p : Opening C). IfFailed p (λ e. IsForGood (faults old) (faults new) e)) (sym is) tt
+  refused-cause o e false old mid new t is why kept =
+      subst (λ (p : Opening C). IfFailed p (λ e. IsForGood (faults old) (faults new) e)) (sym is) (subst (λ (x : X). (e ≡ OutOfMemory) ⊎ HasRisen (faults old) (faults x)) (sym kept) why, t)
+
+  pub tries-cause : (hook : Bool) (options : O) (o : Opening C) (old new : X) → Tries does depth hook options o old new → IfFailed o (λ e. IsForGood (faults old) (faults new) e)
+  tries-cause hook options o old new t = by t.answer t.connects t.follows
+    where
+      by : (r : Result C Error) → does (connect options r) old t.between → Follows does depth hook r o t.between new → IfFailed o (λ e. IsForGood (faults old) (faults new) e)
+      by (Ok raw) d f = keep-cause f.good f.now o f.between new _ f.keeps
+      by (Err e) d f = refused-cause o e (is_transient e) old t.between new refl f.0 (facts (connect options (Err e)) old t.between d).causes f.1
+
+-- ---- what a poll answers
+
+-- P of the answer, if it is given
+abbrev pub IfAnswer : {C : Type 0} → Next C → (Polled C → Type 0) → Type 0
+IfAnswer (Answer answer) P = P answer
+IfAnswer other P = Unit {0}
+
+-- it isn't a connect that was refused
+abbrev pub IsPlain : {C : Type 0} → Polled C → Type 0
+IsPlain (polled.Refused error) = ⊥
+IsPlain other = Unit {0}
+
+unrefused : {C : Type 0} (a : Polled C) (P : Error → Type 0) → IsPlain a → IfRefused a P
+unrefused (polled.Refused e) P h = absurd h
+unrefused polled.NotHeld P h = tt
+unrefused polled.Closed P h = tt
+unrefused polled.TimedOut P h = tt
+unrefused polled.Exhausted P h = tt
+unrefused polled.Waiting P h = tt
+unrefused (polled.Backoff until) P h = tt
+unrefused (polled.Ready lent) P h = tt
+
+first-plain : {C : Type 0} (s : Start C) → IfAnswer (first s) IsPlain
+first-plain start.NotHeld = tt
+first-plain start.Closed = tt
+first-plain start.TimedOut = tt
+first-plain start.Exhausted = tt
+first-plain start.Waiting = tt
+first-plain (start.Backoff until) = tt
+first-plain (start.Test i) = tt
+first-plain start.Connect = tt
+
+then-plain : {C : Type 0} (a : AfterTest C) → IfAnswer (then_by a) IsPlain
+then-plain (tested.NotHeld verdict) = tt
+then-plain (tested.Closed raw) = tt
+then-plain (tested.Ready lent) = tt
+then-plain (tested.Test i) = tt
+then-plain tested.Connect = tt
+
+sooner-refused : {C : Type 0} (a b c : ℕ) (r : Polled C) → a ≤ b → IfRefused r (λ e. IsForGood b c e) → IfRefused r (λ e. IsForGood a c e)
+sooner-refused a b c (polled.Refused e) h why = (sooner e a b c h why.0, why.1)
+sooner-refused a b c polled.NotHeld h why = tt
+sooner-refused a b c polled.Closed h why = tt
+sooner-refused a b c polled.TimedOut h why = tt
+sooner-refused a b c polled.Exhausted h why = tt
+sooner-refused a b c polled.Waiting h why = tt
+sooner-refused a b c (polled.Backoff until) h why = tt
+sooner-refused a b c (polled.Ready lent) h why = tt
+
+-- where one more is tested, more than one may be in a poll
+may-next : (c : ℕ) (created : Moment) (tries : ℕ) (p : Option Phase) → tested_at c p ≡ Some created → may_test_next tries p ≡ true → 1 < tries
+may-next c created tries (Some (phase.Testing d since before)) e may = let h = ltb-true (before + 1) tries may in omega (arith, h)
+may-next c created tries (Some phase.Waiting) e may = absurd cc
+may-next c created tries (Some phase.Connecting) e may = absurd cc
+may-next c created tries (Some (phase.Backoff until)) e may = absurd cc
+may-next c created tries None e may = absurd cc
+
+module _ {C O X : Type 0} (does : Call C O → X → X → Type 0) (depth : X → C → ℕ) (faults refusals : X → ℕ) (IsShort : X → Type 0) (facts : (c : Call C O) (old new : X) → does c old new → Facts faults refusals depth IsShort c old new)
+    (options : O) (k t m : ℕ) where
+  ends-cause : (core : Core C) (o : Opening C) (x : Ticket) (P : Error → Type 0) → IfFailed o P → IfRefused (last (tells m x core o) o) P
+  ends-cause core (opening.Opened raw) x P h = tt
+  ends-cause core opening.Rejected x P h = tt
+  ends-cause core opening.Transient x P h = tt
+  ends-cause core (opening.Failed e) x P h = h
+
+  connects-cause : (core new : Core C) (old now : X) (r : Polled C) (made : List Mark) → Connects does depth options k t m core new old now r made → IfRefused r (λ e. IsForGood (faults old) (faults now) e)
+  connects-cause core new old now r made c =
+      subst (λ (p : Polled C). IfRefused p (λ e. IsForGood (faults old) (faults now) e)) (sym c.answer)
+      (ends-cause core c.opening c.x _ (tries-cause does depth faults refusals IsShort facts core.options.after_connect options c.opening old now c.tries))
+
+  goes-cause : (verdicts : List (Verdict C)) (next : Next C) (core new : Core C) (old now : X) (r : Polled C) (made : List Mark) → IfAnswer next IsPlain
+      → Goes does depth options k t m verdicts next core new old now r made → IfRefused r (λ e. IsForGood (faults old) (faults now) e)
+  goes-cause [] (Answer a) core new old now r made plain g = subst (λ (p : Polled C). IfRefused p (λ e. IsForGood (faults old) (faults now) e)) (sym g.0) (unrefused a _ plain)
+  goes-cause [] Connect core new old now r made plain g = connects-cause core new old now r made g
+  goes-cause [] (Test i) core new old now r made plain g = absurd g
+  goes-cause (v ∷ vs) (Test i) core new old now r made plain g =
+      sooner-refused (faults old) (faults g.0) (faults now) r (tests-more does depth faults (λ c a b d. (facts c a b d).more_faults) core.options m i v old g.0 g.1.1.0)
+      (goes-cause vs (then_by (judges k t core i v)) _ new g.0 now r g.1.0 (then-plain (judges k t core i v)) g.1.1.2)
+  goes-cause (v ∷ vs) (Answer a) core new old now r made plain g = absurd g
+  goes-cause (v ∷ vs) Connect core new old now r made plain g = absurd g
+
+  -- a connect is refused for good for want of memory, or a fault was counted
+  pub polls-cause : (core new : Core C) (old now : X) (r : Polled C) → Polls does depth options k t m core new old now r → IfRefused r (λ e. IsForGood (faults old) (faults now) e)
+  polls-cause core new old now r p = goes-cause p.verdicts (first p.begun) _ new old now r p.later (first-plain p.begun) p.goes
+
+  -- ---- levels
+
+  -- what is lent next has no level open, or has none when its test begins
+  abbrev Rests : Next C → X → Type 0
+  Rests (Answer a) old = IfReady a (λ lent. depth old lent.raw ≡ 0)
+  Rests (Test i) old = depth old i.lent.raw ≡ 0
+  Rests Connect old = Unit {0}
+
+  opened-rests : (core mid : Core C) (o : Opening C) (x : Ticket) (new : X) → IfOpened o (λ raw. depth new raw ≡ 0) → IfReady (last (tells m x mid o) o) (λ lent. depth new lent.raw ≡ 0)
+  opened-rests core mid (opening.Opened raw) x new h = h
+  opened-rests core mid opening.Rejected x new h = tt
+  opened-rests core mid opening.Transient x new h = tt
+  opened-rests core mid (opening.Failed e) x new h = tt
+
+  connects-rest : (core new : Core C) (old now : X) (r : Polled C) (made : List Mark) → Connects does depth options k t m core new old now r made → IfReady r (λ lent. depth now lent.raw ≡ 0)
+  connects-rest core new old now r made c =
+      subst (λ (p : Polled C). IfReady p (λ lent. depth now lent.raw ≡ 0)) (sym c.answer)
+      (opened-rests core core c.opening c.x now (tries-rest does depth (λ c a b d. (facts c a b d).levels) core.options.after_connect options c.opening old now c.tries))
+
+  -- ---- several tests
+
+  -- The ticket is under test, and the idle connections are the last of these.
+  record IsUnder (others : List (Idle C)) (i : Idle C) (core : Core C) : Type 0 where
+    under : tested_at i.lent.id (phase_for k t core.tickets) ≡ Some i.lent.created
+    front : List (Idle C)
+    behind : others ≡ front ++ core.idle
+
+  -- so the poll is, where a connection is tested next
+  abbrev UnderIf : List (Idle C) → Next C → Core C → Type 0
+  UnderIf others (Test i) core = IsUnder others i core
+  UnderIf others next core = Unit {0}
+
+  -- Where the poll is: what is lent next rests.
+  record Is (others : List (Idle C)) (tries : ℕ) (next : Next C) (core : Core C) (old : X) : Type 0 where
+    rest : Rests next old
+    under : UnderIf others next core
+    tries_is : core.options.idle_tries ≡ tries
+
+  abbrev at_rest : X → Idle C → Type 0
+  at_rest x i = depth x i.lent.raw ≡ 0
+
+  all_behind : (P : Idle C → Type 0) (front rest : List (Idle C)) → All P (front ++ rest) → All P rest
+  all_behind P [] rest h = h
+  all_behind P (i ∷ front) rest h = all_behind P front rest (All-tail P i (front ++ rest) h)
+
+  then_is : (others : List (Idle C)) (tries : ℕ) (i : Idle C) (v : Verdict C) (core : Core C) (old between : X) → Is others tries (Test i) core old → IfAccepted v (λ raw. depth between raw ≡ 0)
+      → (1 < tries → All (at_rest between) others) → Is others tries (then_by (judges k t core i v)) (after_test k t (judges k t core i v) core) between
+  then_is others tries i v core old between is good rests = by v (may_test_next core.options.idle_tries (phase_for k t core.tickets)) core.idle refl refl good
+    where
+      Goal : Verdict C → Bool → List (Idle C) → Type 0
+      Goal w next idle = Is others tries (then_by (test_answer (Some i.lent.created) false next idle w)) (after_test k t (test_answer (Some i.lent.created) false next idle w) core) between
+
+      by : (w : Verdict C) (next : Bool) (idle : List (Idle C)) → may_test_next core.options.idle_tries (phase_for k t core.tickets) ≡ next → core.idle ≡ idle → IfAccepted w (λ raw. depth between raw ≡ 0) → Goal w next idle
+      by (verdict.Accepted lent) next idle may e good = record { rest = good; under = tt; tries_is = is.tries_is }
+      by (verdict.Refused n) false idle may e good = record { rest = tt; under = tt; tries_is = is.tries_is }
+      by (verdict.Refused n) true [] may e good = record { rest = tt; under = tt; tries_is = is.tries_is }
+      by (verdict.Refused n) true (j ∷ rest) may e good =
+          let u : IsUnder others i core = is.under in
+          let all : All (at_rest between) (j ∷ rest) =
+          subst (λ (l : List (Idle C)). All (at_rest between) l) e (all_behind (at_rest between) u.front core.idle (subst (λ (l : List (Idle C)). All (at_rest between) l) u.behind
+          (rests (subst (λ (n : ℕ). 1 < n) is.tries_is (may-next i.lent.id i.lent.created core.options.idle_tries (phase_for k t core.tickets) u.under may))))) in
+          record {
+            rest = All-head (at_rest between) j rest all;
+            under = record {
+              under = next-found core (after_test k t (tested.Test j) core) k t i.lent.id i.lent.created j u.under refl;
+              front = u.front ++ j ∷ [];
+              behind = u.behind ∙ ap (λ (l : List (Idle C)). u.front ++ l) e ∙ sym (append_assoc u.front (j ∷ []) rest) ∙ ap (λ (l : List (Idle C)). (u.front ++ j ∷ []) ++ drop 1 l) (sym e);
+            };
+            tries_is = is.tries_is;
+          }
+
+  goes-rest : (others : List (Idle C)) (tries : ℕ) → (later : 1 < tries → (c : Call C O) (x y : X) → does c x y → All (at_rest x) others → All (at_rest y) others)
+      → (verdicts : List (Verdict C)) (next : Next C) (core new : Core C) (old now : X) (r : Polled C) (made : List Mark) → Is others tries next core old → (1 < tries → All (at_rest old) others)
+      → Goes does depth options k t m verdicts next core new old now r made → IfReady r (λ lent. depth now lent.raw ≡ 0)
+  goes-rest others tries later [] (Answer a) core new old now r made is rests g =
+      subst (λ (p : Polled C). IfReady p (λ lent. depth now lent.raw ≡ 0)) (sym g.0) (subst (λ (x : X). IfReady a (λ lent. depth x lent.raw ≡ 0)) (sym g.3) is.rest)
+  goes-rest others tries later [] Connect core new old now r made is rests g = connects-rest core new old now r made g
+  goes-rest others tries later [] (Test i) core new old now r made is rests g = absurd g
+  goes-rest others tries later (v ∷ vs) (Test i) core new old now r made is rests g =
+      let rests_now : 1 < tries → All (at_rest g.0) others = λ h. tests-keep does depth (λ x. All (at_rest x) others) (later h) core.options m i v old g.0 (rests h) g.1.1.0 in
+      goes-rest others tries later vs (then_by (judges k t core i v)) _ new g.0 now r g.1.0
+      (then_is others tries i v core old g.0 is (tests-rest does depth (λ c a b d. (facts c a b d).levels) core.options m i v old g.0 is.rest g.1.1.0) rests_now) rests_now g.1.1.2
+  goes-rest others tries later (v ∷ vs) (Answer a) core new old now r made is rests g = absurd g
+  goes-rest others tries later (v ∷ vs) Connect core new old now r made is rests g = absurd g
+
+  begun-is : (core : Core C) (begun : Start C) (old : X) → begun ≡ start_answer (own_turn core k t m) core.idle → first_depth (depth old) core.idle ≡ 0
+      → Is (drop 1 core.idle) core.options.idle_tries (first begun) (started t m begun core) old
+  begun-is core start.NotHeld old step h = record { rest = tt; under = tt; tries_is = refl }
+  begun-is core start.Closed old step h = record { rest = tt; under = tt; tries_is = refl }
+  begun-is core start.TimedOut old step h = record { rest = tt; under = tt; tries_is = refl }
+  begun-is core start.Exhausted old step h = record { rest = tt; under = tt; tries_is = refl }
+  begun-is core start.Waiting old step h = record { rest = tt; under = tt; tries_is = refl }
+  begun-is core (start.Backoff until) old step h = record { rest = tt; under = tt; tries_is = refl }
+  begun-is core start.Connect old step h = record { rest = tt; under = tt; tries_is = refl }
+  begun-is core (start.Test i) old step h =
+      let tk = takes core k t m i step in
+      record {
+        rest = sym (ap (first_depth (depth old)) tk.idle) ∙ h;
+        under = record {
+          under = tested-found i.lent.id i.lent.id i.lent.created 0 _ (taken-phase core (started t m (start.Test i) core) k t m i tk refl) refl;
+          front = [];
+          behind = refl;
+        };
+        tries_is = refl;
+      }
+
+  -- what is lent has no level open, where the first idle connection has none and no call opens one of the others
+  pub polls-rest : (core new : Core C) (old now : X) (r : Polled C) → first_depth (depth old) core.idle ≡ 0 → (1 < core.options.idle_tries → StayAtRest does depth (drop 1 core.idle) old)
+      → Polls does depth options k t m core new old now r → IfReady r (λ lent. depth now lent.raw ≡ 0)
+  polls-rest core new old now r rests others p =
+      goes-rest (drop 1 core.idle) core.options.idle_tries (λ h. (others h).later) p.verdicts (first p.begun) _ new old now r p.later (begun-is core p.begun old p.step rests) (λ h. (others h).now) p.goes

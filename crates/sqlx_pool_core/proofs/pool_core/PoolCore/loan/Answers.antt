@@ -1,9 +1,0 @@
-use Rattle.std.proofs.Common.{rules}
-use Rattle.sqlx_pool_core.proofs.GiveCode.{loan-own-if, loan-conn-if}
-use Rattle.sqlx_pool_core.proofs.pool_core.PoolCore.loan.Goals as goal
-
-pub returns-clause-own : goal.returns-clause-own
-returns-clause-own g c = loan-own-if c.args.client c.args.conn c.args.self.now.held c.loan_for.result (search rules)
-
-pub returns-clause-conn : goal.returns-clause-conn
-returns-clause-conn g c = loan-conn-if c.args.client c.args.conn c.args.self.now.held c.loan_for.result (search rules)

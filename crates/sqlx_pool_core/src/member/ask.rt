@@ -1,0 +1,151 @@
+//! The steps before and beside a poll: asking, cancelling, and lending past the line.
+
+ghost use Rattle.std.specs.Prelude.{◌≡◌, ℕ, ◌+◌, ◌<◌, ◌≤◌, ◌^◌, ◌↔◌, List, [], ◌∷◌, Option, Some, None, IfOk, OnOk, OnErr, IfErr, length, true, false, is_some, ◌⊎◌};
+ghost use Rattle.sqlx_text.specs.declared.Error.{Error};
+ghost use Rattle.sqlx_log.specs.declared.mark.Mark.{Mark};
+ghost use Rattle.sqlx_log.specs.EventTable.{may_pass};
+ghost use Rattle.sqlx_pool_core.specs.Core.{waiting, free};
+ghost use Rattle.sqlx_pool_core.specs.Sound.{IsSound};
+ghost use Rattle.sqlx_pool_core.specs.StandsFor.{StandsIn};
+ghost use Rattle.sqlx_pool_core.specs.Makes.{MakesIn, MakesWhere};
+ghost use Rattle.sqlx_pool_core.specs.Numbers.{Draws, Stays};
+ghost use Rattle.sqlx_pool_core.specs.Moves.{Moves, ask_room, try_room};
+ghost use Rattle.sqlx_pool_core.specs.OwnTurn.{PastOwnLine};
+ghost use Rattle.sqlx_pool_core.specs.PollSteps.{phase_for, may_cancel, cancel_marks, cancelled, try_lent, try_marks, after_try};
+ghost use Rattle.sqlx_pool_core.specs.Edits.{at_moment, asked};
+
+use super::{Member, NUMBERS};
+use crate::lists;
+use crate::steps::Lent;
+use crate::ticket::{Held, Phase, Ticket};
+use sqlx_text::{Error, Moment};
+
+impl<C> Member<C> {
+    /// Asks for a connection at a moment.
+    pub fn ask(&mut self, client: u32, moment: Moment) -> Result<u64, Error>
+        ensures numbered { IfOk result (λ ticket. ticket ≡ self.old.next_ticket) }
+        ensures closed { (result ≡ Err Error.PoolClosed) ↔ (self.old.closed ≡ true) }
+        ensures exhausted { (result ≡ Err Error.Exhausted) ↔ ((self.old.closed ≡ false) × (2 ^ 63 < self.old.next_ticket)) }
+        ensures causes { IfErr result (λ e. (e ≡ Error.PoolClosed) ⊎ ((e ≡ Error.Exhausted) ⊎ (e ≡ Error.OutOfMemory))) }
+        ensures makes { (marks : List Mark) → StandsIn self.old marks → IfOk result (λ ticket. MakesIn self.old.options.max_connections marks (Mark.Asked ticket client (moment.0 + self.old.options.acquire_timeout) ∷ []) self.new) }
+        ensures stays { Stays self.old self.new }
+        ensures draws { IfOk result (λ ticket. Draws self.old self.new (Mark.Asked ticket client (moment.0 + self.old.options.acquire_timeout) ∷ [])) }
+        ensures moves { IfOk result (λ ticket. Moves self.old self.new (Mark.Asked ticket client (moment.0 + self.old.options.acquire_timeout) ∷ []) 0 (ask_room self.old.options.idle_tries)) }
+        ensures becomes { OnOk result (self.new ≡ at_moment moment.0 (asked client (moment.0 + self.old.options.acquire_timeout) self.old)) }
+        ensures err { OnErr result (self.new ≡ self.old) }
+    {
+        if self.closed {
+            return Err(Error::PoolClosed);
+        }
+        if self.next_ticket > NUMBERS {
+            return Err(Error::Exhausted);
+        }
+        let deadline = u128::from(moment.0) + u128::from(self.options.get_acquire_timeout());
+        self.ask_until(client, deadline, moment)
+    }
+
+    // Asks at a moment.
+    fn ask_until(&mut self, client: u32, deadline: u128, moment: Moment) -> Result<u64, Error>
+        requires open { self.old.closed ≡ false }
+        requires few { self.old.next_ticket ≤ 2 ^ 63 }
+        ensures numbered { IfOk result (λ ticket. ticket ≡ self.old.next_ticket) }
+        ensures makes { (marks : List Mark) → StandsIn self.old marks → OnOk result (MakesIn self.old.options.max_connections marks (Mark.Asked self.old.next_ticket client deadline ∷ []) self.new) }
+        ensures draws { OnOk result (Draws self.old self.new (Mark.Asked self.old.next_ticket client deadline ∷ [])) }
+        ensures moves { OnOk result (Moves self.old self.new (Mark.Asked self.old.next_ticket client deadline ∷ []) 0 (ask_room self.old.options.idle_tries)) }
+        ensures becomes { OnOk result (self.new ≡ at_moment moment.0 (asked client deadline self.old)) }
+        ensures memory { IfErr result (λ e. e ≡ Error.OutOfMemory) }
+        ensures err { OnErr result (self.new ≡ self.old) }
+    {
+        let number = self.next_ticket;
+        let ticket = Ticket {
+            number,
+            client,
+            deadline,
+            phase: Phase::Waiting,
+            first_try: Moment(0),
+            last_wait: None,
+        };
+        let Ok(()) = self.tickets.push(ticket) else {
+            return Err(Error::OutOfMemory);
+        };
+        self.next_ticket = number + 1;
+        self.last = moment;
+        Ok(number)
+    }
+
+    /// Ends a ticket that waits or is in backoff.
+    pub fn cancel(&mut self, client: u32, ticket: u64) -> bool
+        ensures answer { result ≡ may_cancel (phase_for client ticket self.old.tickets) }
+        ensures makes { (marks : List Mark) → StandsIn self.old marks → MakesIn self.old.options.max_connections marks (cancel_marks ticket result) self.new }
+        ensures stays { Stays self.old self.new }
+        ensures draws { Draws self.old self.new (cancel_marks ticket result) }
+        ensures moves { Moves self.old self.new (cancel_marks ticket result) 0 0 }
+        ensures becomes { self.new ≡ cancelled ticket result self.old }
+    {
+        self.end_at_rest(client, ticket)
+    }
+
+    // Ends a ticket, unless a step of its own is under way.
+    fn end_at_rest(&mut self, client: u32, ticket: u64) -> bool
+        ensures answer { result ≡ may_cancel (phase_for client ticket self.old.tickets) }
+        ensures becomes { self.new ≡ cancelled ticket result self.old }
+        ensures sound { IsSound self.old }
+    {
+        let Some(found) = self.find(client, ticket) else {
+            return false;
+        };
+        if matches!(found.phase, Phase::Testing { .. } | Phase::Connecting) {
+            return false;
+        }
+        self.end_ticket(ticket);
+        true
+    }
+
+    /// Connections may be lent, reaped or opened past the pool's own line.
+    pub fn may_pass(&self) -> bool
+        ensures { result ≡ may_pass self.now.closed (waiting self.now.tickets) (free self.now) }
+    {
+        !self.closed && lists::waiting_of(&self.tickets) < self.num_free() as usize
+    }
+
+    /// Whether a connection would be lent past the line, where that lets one pass.
+    pub fn may_lend(&self, passes: bool) -> bool
+        ensures { result ≡ is_some (try_lent passes self.now.idle) }
+    {
+        passes && !self.idle.is_empty()
+    }
+
+    /// Lends the first idle connection at a moment, where the line lets it pass.
+    pub fn try_acquire(&mut self, client: u32, moment: Moment, passes: bool) -> Option<Lent<C>>
+        requires permit { passes ≡ true → 0 < free self.old }
+        requires open { passes ≡ true → self.old.closed ≡ false }
+        ensures answer { result ≡ try_lent passes self.old.idle }
+        ensures makes { (marks : List Mark) → StandsIn self.old marks → MakesWhere (PastOwnLine self.old passes) self.old.options.max_connections marks (try_marks client result) self.new }
+        ensures stays { Stays self.old self.new }
+        ensures draws { Draws self.old self.new (try_marks client result) }
+        ensures moves { Moves self.old self.new (try_marks client result) 0 (try_room result) }
+        ensures becomes { self.new ≡ after_try client moment.0 result self.old }
+    {
+        self.sound();
+        self.lend_first(client, moment, passes)
+    }
+
+    // Lends the first idle connection, where the line lets it pass.
+    fn lend_first(&mut self, client: u32, moment: Moment, passes: bool) -> Option<Lent<C>>
+        requires permit { passes ≡ true → 0 < free self.old }
+        ensures answer { result ≡ try_lent passes self.old.idle }
+        ensures becomes { self.new ≡ after_try client moment.0 result self.old }
+    {
+        if !passes {
+            return None;
+        }
+        let lent = self.idle.pop_front()?.lent;
+        self.held.push_reserved(Held {
+            conn: lent.id,
+            client,
+            created: lent.created,
+        });
+        self.last = moment;
+        Some(lent)
+    }
+}

@@ -1,0 +1,10 @@
+use Rattle.tests_pool_threads.proofs.rows.a_pool_that_connects.Given as goal
+
+abbrev pub ghosts-opens_first-H-Ledger : goal.ghosts-opens_first-H-Ledger
+ghosts-opens_first-H-Ledger g a = record { name = a.held.name; parts = a.held.parts }
+
+abbrev pub ghosts-opens_first-L-Ledger : goal.ghosts-opens_first-L-Ledger
+ghosts-opens_first-L-Ledger g a = record { name = a.loans.name; parts = a.loans.parts }
+
+abbrev pub ghosts-opens_first-L-Loans : goal.ghosts-opens_first-L-Loans
+ghosts-opens_first-L-Loans g a = record { max = 3 }

@@ -1,0 +1,12 @@
+//! Tests of the threaded pool: a pool of one on one thread, call by call with the length of its log; a close while a
+//! ticket waits; the first connections; loans by two threads; and what goes between threads.
+#![tactic(auto)]
+
+#[cfg(test)]
+mod outside;
+#[cfg(test)]
+mod rows;
+#[cfg(test)]
+mod traits;
+#[cfg(test)]
+mod two_threads;
