@@ -17,6 +17,7 @@ pub mod CancelAndTry
 pub mod Dispatch
 pub mod Asked
 pub mod Polls
+pub mod PollTests
 pub mod PollPlays
 pub mod ScriptChain
 pub mod PolledPlays

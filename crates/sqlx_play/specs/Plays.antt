@@ -4,7 +4,7 @@ use Rattle.std.specs.FinMap.{get}
 use Rattle.std.specs.Io.KnownBytes.{Appends}
 use Rattle.sqlx_script.specs.declared.pool_line.PoolLine.{PoolLine}
 use Rattle.sqlx_script.specs.Words.{lines_of}
-use Rattle.sqlx_script.specs.Grammar.{Script, IsScript, reading_from}
+use Rattle.sqlx_script.specs.Grammar.{Script, IsScript, Reading, reading_from}
 use Rattle.sqlx_pool_core.specs.Core.{Core}
 use Rattle.sqlx_pool_core.specs.StandsFor.{StandsFor}
 use Rattle.mem_store.specs.Store.{Store, Link}
@@ -19,20 +19,24 @@ use Rattle.sqlx_play.specs.ScriptRuns.{runs_of}
 
 -- ---- playing the lines after the first
 
+-- what lines after the first say, of the script of a pool
+abbrev pub reading_of : PoolLine → List ℕ → Reading
+reading_of pool text = reading_from pool.counts_tests 2 0 (lines_of text)
+
 -- The replies to the events of these lines.
 abbrev pub lines_text : PoolLine → List ℕ → List ℕ
-lines_text pool text = replies_text (pairs_after pool [] (reading_from 2 0 (lines_of text)).events)
+lines_text pool text = replies_text (pairs_after pool [] (reading_of pool text).events)
 
 -- No line after the first is bad, the replies were written, and the stage is as it is after them.
 pub record PlaysLines (text : List ℕ) (pool : PoolLine) (before now : Option (List ℕ)) (stage : Stage) : Type 0 where
-  pub good : (reading_from 2 0 (lines_of text)).bad ≡ None
+  pub good : (reading_of pool text).bad ≡ None
   pub written : Appends before now (lines_text pool text)
-  pub stage_after : StageStands stage (pairs_after pool [] (reading_from 2 0 (lines_of text)).events)
-  pub runs_after : stage.out.store.runs ≡ runs_of (pairs_after pool [] (reading_from 2 0 (lines_of text)).events)
+  pub stage_after : StageStands stage (pairs_after pool [] (reading_of pool text).events)
+  pub runs_after : stage.out.store.runs ≡ runs_of (pairs_after pool [] (reading_of pool text).events)
 
 -- A line after the first is bad, and the replies before it were written.
 pub record StopsAt (text : List ℕ) (pool : PoolLine) (before now : Option (List ℕ)) (n : ℕ) : Type 0 where
-  pub bad : (reading_from 2 0 (lines_of text)).bad ≡ Some n
+  pub bad : (reading_of pool text).bad ≡ Some n
   pub written : Appends before now (lines_text pool text)
 
 -- ---- playing

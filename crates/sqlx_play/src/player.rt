@@ -4,7 +4,7 @@ ghost use Rattle.std.specs.Io.KnownBytes.{Appends};
 ghost use Rattle.sqlx_script.specs.declared.step.Event.{Event};
 ghost use Rattle.sqlx_script.specs.declared.reply.Reply.{Reply};
 ghost use Rattle.sqlx_script.specs.Texts.{reply_text, line_of};
-ghost use Rattle.sqlx_script.specs.Built.{is_built};
+ghost use Rattle.sqlx_script.specs.Built.{has_few_opens};
 ghost use Rattle.sqlx_script.specs.Grammar.{Script, script_of, limit};
 ghost use Rattle.sqlx_rules.specs.Answer.{answer};
 ghost use Rattle.sqlx_play.specs.StageStands.{StageStands, last_of, numbers_of};
@@ -51,7 +51,7 @@ fn play_event<K: Sink>(
     event: &Event,
     sink: &mut K,
 ) -> Result<(), PlayError>
-    requires built { is_built event.now.step ≡ true }
+    requires few { has_few_opens event.now.step ≡ true }
     requires numbers { numbers_of stage.old ≤ 2 ^ 62 }
     requires in_order { last_of stage.old ≤ event.now.moment.0 }
     ensures ok { OnOk result ((pairs : Pairs) → StageStands stage.old pairs →
@@ -89,12 +89,13 @@ fn play_lines<K: Sink>(
     ensures cause { IfErr result (TextCause (StopsAt text.now stage.old.pool (K.written sink.old) (K.written sink.new))
         (WrotePart (K.written sink.old) (K.written sink.new) (lines_text stage.old.pool text.now)) (K.faults sink.old) (K.faults sink.new)) }
 {
+    let counts_tests = stage.pool.counts_tests;
     let mut rest = text;
     let mut last: u64 = 0;
     let mut number: u64 = 2;
     while !rest.is_empty() {
         let (line, after) = cut_line(rest);
-        let event = match read_event(line) {
+        let event = match read_event(line, counts_tests) {
             Some(event) if event.moment.0 >= last => event,
             _ => return Err(PlayError::ScriptLine(number)),
         };
