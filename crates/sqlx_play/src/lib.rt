@@ -18,5 +18,4 @@ pub use memory::{MemSink, MemSource, SureSink, SureSource};
 pub use outside::ScriptOutside;
 pub use player::{Played, play, run};
 pub use sqlx_rules::laws;
-pub use stage::Stage;
 pub use standard::{StdSink, StdSource};
