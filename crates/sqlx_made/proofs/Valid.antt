@@ -7,9 +7,9 @@ use Rattle.std.proofs.lemmas.Bool.Decides.{nat_tests}
 use Rattle.std.proofs.lemmas.List.{length-append}
 use Rattle.std.proofs.lemmas.List.Folds.{list_all-append}
 use Rattle.sqlx_script.specs.Words.{lines_of}
-use Rattle.sqlx_script.specs.Numbers.{number_in, millis, nanos, name_number, key, value, exactly, limit_nanos}
+use Rattle.sqlx_script.specs.Numbers.{number_in, millis, nanos, name_number, key, value, limit_nanos}
 use Rattle.sqlx_script.specs.Letters.{plus_or_minus, switches}
-use Rattle.sqlx_script.specs.Grammar.{event_of, event_words, pool_of, pool_words, limits_after, reading_at, reading_from, with_event, Script, script_after, script_lines, IsScript}
+use Rattle.sqlx_script.specs.Grammar.{event_of, event_words, pool_of, pool_words, pool_name, limits_after, reading_at, reading_from, with_event, Script, script_after, script_lines, IsScript}
 use Rattle.sqlx_script.specs.declared.pool_line.PoolLine.{PoolLine}
 use Rattle.sqlx_script.specs.declared.step.Event.{Event}
 use Rattle.sqlx_script.specs.declared.step.Step.{Step}
@@ -31,7 +31,7 @@ pub record IsLine (i : ℕ) (line : List ℕ) : Type 0 where
   pub one : list_all (λ b. not (b == 10)) text ≡ true
   pub short : length line ≤ 88
   pub step : Step
-  pub reads : event_of line ≡ Some (at i step)
+  pub reads : event_of false line ≡ Some (at i step)
 
 inner_one : (text : List ℕ) → list_all is_inner text ≡ true → list_all (λ b. not (b == 10)) text ≡ true
 inner_one [] h = refl
@@ -51,7 +51,7 @@ line_short : (w : List ℕ) (ws : List (List ℕ)) → AreWords (w ∷ ws) → l
 line_short w [] h = omega (arith, h.0.short, length-append w (10 ∷ []))
 line_short w (next ∷ ws) h = omega (arith, h.0.short, length-append w (32 ∷ line_of_words (next ∷ ws)), line_short next ws h.1)
 
-line_from : (i : ℕ) (w : List ℕ) (ws : List (List ℕ)) (step : Step) → AreWords (w ∷ ws) → length (w ∷ ws) ≤ 8 → event_words (w ∷ ws) ≡ Some (at i step) → IsLine i (line_of_words (w ∷ ws))
+line_from : (i : ℕ) (w : List ℕ) (ws : List (List ℕ)) (step : Step) → AreWords (w ∷ ws) → length (w ∷ ws) ≤ 8 → event_words false (w ∷ ws) ≡ Some (at i step) → IsLine i (line_of_words (w ∷ ws))
 unfolding event_of
 line_from i w ws step h few reads = record {
   text = join_with_byte 32 (w ∷ ws);
@@ -59,7 +59,7 @@ line_from i w ws step h few reads = record {
   one = joined_one w ws h;
   short = omega (arith, few, line_short w ws h);
   step = step;
-  reads = whole-line_of_words event_words w ws h ∙ reads;
+  reads = whole-line_of_words (event_words false) w ws h ∙ reads;
 }
 
 minus_reads : plus_or_minus 45 ≡ Some false
@@ -180,20 +180,20 @@ line_at-is seed i h =
 -- Lines that read as events, and none of them bad.
 record Reads (n last : ℕ) (lines : List (List ℕ)) : Type 0 where
   events : List Event
-  are : reading_from n last lines ≡ record { events = events; bad = None }
+  are : reading_from false n last lines ≡ record { events = events; bad = None }
 
-read_more : (i last : ℕ) (lines : List (List ℕ)) (line : List ℕ) (step : Step) → event_of line ≡ Some (at i step) → last ≤ nanos i → Reads (i + 1) (nanos i) lines → Reads i last (line ∷ lines)
+read_more : (i last : ℕ) (lines : List (List ℕ)) (line : List ℕ) (step : Step) → event_of false line ≡ Some (at i step) → last ≤ nanos i → Reads (i + 1) (nanos i) lines → Reads i last (line ∷ lines)
 unfolding reading_from
 read_more i last lines line step reads rises rest =
     let no_fall : nat_lt (nanos i) last ≡ false = grind (arith, nat_tests) in
     record {
       events = at i step ∷ rest.events;
       are =
-          ap (reading_at i last (λ now. reading_from (i + 1) now lines)) reads
+          ap (reading_at i last (λ now. reading_from false (i + 1) now lines)) reads
           ∙ cond-false (nat_lt (nanos i) last) _ _ no_fall ∙ ap (with_event (at i step)) rest.are;
     }
 
-none_read : (n last : ℕ) → reading_from n last [] ≡ record { events = []; bad = None }
+none_read : (n last : ℕ) → reading_from false n last [] ≡ record { events = []; bad = None }
 unfolding reading_from
 none_read n last = refl
 
@@ -228,15 +228,17 @@ made_pool = record {
   after_connect = false;
   before_acquire = false;
   after_release = false;
+  tries = 1;
+  counts_tests = false;
 }
 
 pool_reads : pool_of first_line ≡ Some made_pool
-unfolding made_pool pool_of pool_words limits_after number_in exactly limit_nanos switches plus_or_minus
+unfolding made_pool pool_of pool_words pool_name limits_after number_in limit_nanos switches plus_or_minus
 pool_reads = refl
 
 -- the made script is a script
 pub made_is_script : (count seed : ℕ) → 1 ≤ count → count ≤ 10000 → (script : Script) × IsScript (made_text count seed) script
-unfolding script_lines
+unfolding script_lines made_pool
 made_is_script count seed some few =
     let lines = lines_read seed (count - 1) 2 0 (omega (arith, some, few)) (omega arith) in
     let cut = lines_of-line (codes "pool 1 0 1000 - - +---") (lines_from seed 2 (count - 1)) refl in
