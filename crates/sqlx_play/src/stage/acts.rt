@@ -2,7 +2,7 @@
 ghost use Rattle.std.specs.Prelude.{◌≡◌, true, false, ◌≤◌, Option, Some, None, IfOk, OnOk, IfErr};
 ghost use Rattle.sqlx_savepoints.specs.Texts as texts;
 ghost use Rattle.mem_store.specs.Statements.{Reads};
-ghost use Rattle.mem_store.specs.Acts.{act_of, refusal_of};
+ghost use Rattle.mem_store.specs.Acts.{act_of};
 ghost use Rattle.mem_store.specs.Errors.{error_of};
 ghost use Rattle.mem_store.specs.declared.statement.Statement.{Statement as Held};
 ghost use Rattle.mem_store.specs.declared.act.Act.{Act as Doing};
