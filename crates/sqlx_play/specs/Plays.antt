@@ -1,21 +1,38 @@
 -- What playing a script is: all of its output was written, and the headline holds.
-use Rattle.std.specs.Prelude.{◌≡◌, ℕ, ℤ, List, [], Option, Some, None}
+use Rattle.std.specs.Prelude.{◌≡◌, ℕ, ℤ, List, [], ◌∷◌, ◌++◌, Option, Some, None}
 use Rattle.std.specs.FinMap.{get}
 use Rattle.std.specs.Io.KnownBytes.{Appends}
 use Rattle.sqlx_script.specs.declared.pool_line.PoolLine.{PoolLine}
+use Rattle.sqlx_script.specs.declared.step.Event.{Event}
+use Rattle.sqlx_script.specs.Texts.{reply_text, line_of}
 use Rattle.sqlx_script.specs.Words.{lines_of}
 use Rattle.sqlx_script.specs.Grammar.{Script, IsScript, Reading, reading_from}
 use Rattle.sqlx_pool_core.specs.Core.{Core}
 use Rattle.sqlx_pool_core.specs.StandsFor.{StandsFor}
 use Rattle.mem_store.specs.Store.{Store, Link}
 use Rattle.sqlx_brackets.specs.Brackets.{value}
+use Rattle.sqlx_rules.specs.Answer.{answer}
+use Rattle.sqlx_rules.specs.Pairs.{Pairs}
 use Rattle.sqlx_rules.specs.ScriptMarks.{marks_of}
 use Rattle.sqlx_rules.specs.ScriptLevels.{history_of}
 use Rattle.sqlx_rules.specs.Output.{pairs_after, pairs_of, replies_text, output_of}
 use Rattle.sqlx_rules.specs.Headline.{HoldsHeadline}
+use Rattle.sqlx_play.specs.declared.error.PlayError.{PlayError}
 use Rattle.sqlx_play.specs.declared.stage.Stage.{Stage}
+use Rattle.sqlx_play.specs.Causes.{WrotePart, TextCause}
 use Rattle.sqlx_play.specs.StageStands.{IsSetUp, StageStands}
 use Rattle.sqlx_play.specs.ScriptRuns.{runs_of}
+
+-- ---- playing one event
+
+-- The reply was written, and the stage stands for the event and its reply too.
+abbrev pub Replies : Option (List ℕ) → Option (List ℕ) → Stage → Stage → Event → Type 0
+Replies before now old new event = (pairs : Pairs) → StageStands old pairs
+    → Appends before now (line_of (reply_text (answer old.pool pairs event))) × StageStands new (pairs ++ (event, answer old.pool pairs event) ∷ [])
+
+-- A front of the reply was written.
+abbrev pub RepliesInPart : Option (List ℕ) → Option (List ℕ) → Stage → Event → Type 0
+RepliesInPart before now old event = (pairs : Pairs) → StageStands old pairs → WrotePart before now (line_of (reply_text (answer old.pool pairs event)))
 
 -- ---- playing the lines after the first
 
@@ -38,6 +55,10 @@ pub record PlaysLines (text : List ℕ) (pool : PoolLine) (before now : Option (
 pub record StopsAt (text : List ℕ) (pool : PoolLine) (before now : Option (List ℕ)) (n : ℕ) : Type 0 where
   pub bad : (reading_of pool text).bad ≡ Some n
   pub written : Appends before now (lines_text pool text)
+
+-- Why the lines after the first were not played to their end.
+abbrev pub LinesCause : List ℕ → PoolLine → Option (List ℕ) → Option (List ℕ) → ℕ → ℕ → PlayError → Type 0
+LinesCause text pool before now = TextCause (StopsAt text pool before now) (WrotePart before now (lines_text pool text))
 
 -- ---- playing
 

@@ -2,7 +2,6 @@
 ghost use Rattle.std.specs.Prelude.{◌≡◌, true, ◌≢◌, ◌+◌, ◌*◌, ◌^◌, ◌<◌, ◌≤◌, ◌↔◌, ℕ, List, [], ◌∷◌, ◌++◌, length, IfOk, IfErr, IfSome, OnOk, IsErrOf, IsOkUnless};
 ghost use Rattle.std.specs.Io.KnownBytes.{Appends};
 ghost use Rattle.sqlx_script.specs.declared.step.Event.{Event};
-ghost use Rattle.sqlx_script.specs.declared.reply.Reply.{Reply};
 ghost use Rattle.sqlx_script.specs.Texts.{reply_text, line_of};
 ghost use Rattle.sqlx_script.specs.Built.{has_few_opens};
 ghost use Rattle.sqlx_script.specs.Grammar.{Script, script_of, limit};
@@ -11,7 +10,7 @@ ghost use Rattle.sqlx_play.specs.StageStands.{StageStands, last_of, numbers_of};
 ghost use Rattle.sqlx_play.specs.ScriptRuns.{runs_of, runs_after};
 ghost use Rattle.sqlx_rules.specs.Output.{output_due};
 ghost use Rattle.sqlx_play.specs.Causes.{TookAll, WrotePart, TextCause, StopsText, PlayCause, IsSound, shown};
-ghost use Rattle.sqlx_play.specs.Plays.{PlaysLines, StopsAt, lines_text, Plays, Answers};
+ghost use Rattle.sqlx_play.specs.Plays.{Replies, RepliesInPart, PlaysLines, LinesCause, Plays, Answers};
 ghost use Rattle.sqlx_rules.specs.Pairs.{Pairs};
 
 use crate::error::PlayError;
@@ -54,18 +53,14 @@ fn play_event<K: Sink>(
     requires few { has_few_opens event.now.step ≡ true }
     requires numbers { numbers_of stage.old ≤ 2 ^ 62 }
     requires in_order { last_of stage.old ≤ event.now.moment.0 }
-    ensures ok { OnOk result ((pairs : Pairs) → StageStands stage.old pairs →
-        Appends (K.written sink.old) (K.written sink.new) (line_of (reply_text (answer stage.old.pool pairs event.now)))
-        × StageStands stage.new (pairs ++ (event.now, answer stage.old.pool pairs event.now) ∷ [])) }
+    ensures ok { OnOk result (Replies (K.written sink.old) (K.written sink.new) stage.old stage.new event.now) }
     ensures runs { OnOk result ((pairs : Pairs) → StageStands stage.old pairs →
         stage.new.out.store.runs ≡ runs_after event.now.step (answer stage.old.pool pairs event.now) stage.old.out.store.runs) }
     ensures pool { stage.new.pool ≡ stage.old.pool }
     ensures last { last_of stage.new ≤ event.now.moment.0 }
     ensures used { numbers_of stage.new ≤ numbers_of stage.old + 2 ^ 20 }
     ensures rises { K.faults sink.old ≤ K.faults sink.new }
-    ensures cause { IfErr result (TextCause (λ _. ⊥) ((pairs : Pairs) → StageStands stage.old pairs →
-        WrotePart (K.written sink.old) (K.written sink.new) (line_of (reply_text (answer stage.old.pool pairs event.now))))
-        (K.faults sink.old) (K.faults sink.new)) }
+    ensures cause { IfErr result (TextCause (λ _. ⊥) (RepliesInPart (K.written sink.old) (K.written sink.new) stage.old event.now) (K.faults sink.old) (K.faults sink.new)) }
 {
     let reply = answer(stage, alloc, event)?;
     write_line(alloc, sink, &reply)
@@ -86,8 +81,7 @@ fn play_lines<K: Sink>(
     ensures ok { OnOk result (PlaysLines text.now stage.old.pool (K.written sink.old) (K.written sink.new) stage.new) }
     ensures pool { stage.new.pool ≡ stage.old.pool }
     ensures rises { K.faults sink.old ≤ K.faults sink.new }
-    ensures cause { IfErr result (TextCause (StopsAt text.now stage.old.pool (K.written sink.old) (K.written sink.new))
-        (WrotePart (K.written sink.old) (K.written sink.new) (lines_text stage.old.pool text.now)) (K.faults sink.old) (K.faults sink.new)) }
+    ensures cause { IfErr result (LinesCause text.now stage.old.pool (K.written sink.old) (K.written sink.new) (K.faults sink.old) (K.faults sink.new)) }
 {
     let counts_tests = stage.pool.counts_tests;
     let mut rest = text;
