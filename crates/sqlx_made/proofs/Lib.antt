@@ -1,0 +1,7 @@
+pub mod Decimals
+pub mod WordsLemmas
+pub mod LineReads
+pub mod BlocksLemmas
+pub mod Valid
+pub mod ScriptLemmas
+mod Worked
