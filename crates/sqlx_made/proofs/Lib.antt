@@ -4,4 +4,5 @@ pub mod LineReads
 pub mod BlocksLemmas
 pub mod Valid
 pub mod ScriptLemmas
+pub mod ReplyLines
 mod Worked
