@@ -1,5 +1,5 @@
 //! Plays a script.
-ghost use Rattle.std.specs.Prelude.{◌≡◌, true, ◌≢◌, ◌+◌, ◌*◌, ◌^◌, ◌<◌, ◌≤◌, ◌↔◌, ℕ, List, [], ◌∷◌, ◌++◌, length, IfOk, IfErr, IfSome, OnOk, IsErrOf, IsOkUnless};
+ghost use Rattle.std.specs.Prelude.{◌≡◌, true, ◌+◌, ◌*◌, ◌^◌, ◌<◌, ◌≤◌, ℕ, List, [], ◌∷◌, ◌++◌, length, IfOk, IfErr, IfSome, OnOk, IsOkUnless};
 ghost use Rattle.std.specs.Io.KnownBytes.{Appends};
 ghost use Rattle.sqlx_script.specs.declared.step.Event.{Event};
 ghost use Rattle.sqlx_script.specs.Texts.{reply_text, line_of};
@@ -10,7 +10,7 @@ ghost use Rattle.sqlx_play.specs.StageStands.{StageStands, last_of, numbers_of};
 ghost use Rattle.sqlx_play.specs.ScriptRuns.{runs_of, runs_after};
 ghost use Rattle.sqlx_rules.specs.Output.{output_due};
 ghost use Rattle.sqlx_play.specs.Causes.{TookAll, WrotePart, TextCause, StopsText, PlayCause, IsSound, shown};
-ghost use Rattle.sqlx_play.specs.Plays.{Replies, RepliesInPart, PlaysLines, LinesCause, Plays, Answers};
+ghost use Rattle.sqlx_play.specs.Plays.{Replies, RepliesInPart, PlaysLines, LinesCause, Plays};
 ghost use Rattle.sqlx_rules.specs.Pairs.{Pairs};
 
 use crate::error::PlayError;
@@ -177,32 +177,4 @@ pub fn play<S: Source, K: Sink>(
     ensures writes_rise { K.faults sink.old ≤ K.faults sink.new }
 {
     play_source(alloc, source, sink)
-}
-
-/// What the program does with the words of its command line.
-pub fn run<S: Source, K: Sink>(
-    alloc: Global,
-    words: &[String],
-    source: &mut S,
-    sink: &mut K,
-) -> Result<(), PlayError>
-    // There were no words, all bytes were read, they are a script, and its output was written.
-    ensures ok { OnOk result ((words.now ≡ []) × (bytes : List ℕ) × TookAll (S.left source.old) (S.left source.new) bytes
-        × Answers bytes (K.written sink.old) (K.written sink.new)) }
-    // Any word is a wrong use: nothing is read or written.
-    ensures usage { IsErrOf result PlayError.Usage ↔ (words.now ≢ []) }
-    ensures unused { words.now ≢ [] → (S.left source.new ≡ S.left source.old) × (K.written sink.new ≡ K.written sink.old) }
-    // Without a word each other answer has its cause, and a script that is read and written without a fault is played, unless memory runs out.
-    ensures cause { words.now ≡ [] → IfErr result (PlayCause (shown S.left S.faults source.old source.new K.written K.faults sink.old sink.new)) }
-    ensures complete { words.now ≡ [] → (bytes : List ℕ) (script : Script) → IsSound (shown S.left S.faults source.old source.new K.written K.faults sink.old sink.new) bytes script
-        → IsOkUnless result PlayError.OutOfMemory }
-    ensures reads_rise { S.faults source.old ≤ S.faults source.new }
-    ensures writes_rise { K.faults sink.old ≤ K.faults sink.new }
-{
-    if !words.is_empty() {
-        return Err(PlayError::Usage);
-    }
-    let played = play(alloc, source, sink)?;
-    drop(played);
-    Ok(())
 }
