@@ -9,5 +9,7 @@ mod queries;
 mod shared;
 #[cfg(test)]
 mod statements;
+#[cfg(test)]
+mod undo;
 
 pub use callers::keep;

@@ -139,6 +139,21 @@ fn all_rows_in_the_order_of_the_keys(rt: HostRuntime) -> Result<(), Fail> {
     Ok(())
 }
 
+// The first column of the first row.
+fn first<B: AnyConnectionBackend>(
+    alloc: Global,
+    conn: &mut AnyConnection<B>,
+    text: &'static str,
+) -> Result<Option<i64>, Error> {
+    match conn.fetch_optional(alloc, text)? {
+        Some(row) => {
+            let number = Row::<Any<B>>::try_get::<i64, usize>(&row, alloc, 0)?;
+            Ok(Some(number))
+        }
+        None => Ok(None),
+    }
+}
+
 // Opens a database by its URL.
 fn opened_by(alloc: Global, url: &str) -> Result<Conn, Error> {
     let options = AnyConnectOptions::parse(alloc, url)?;
@@ -164,7 +179,7 @@ fn a_database_is_opened_by_its_url(rt: HostRuntime) -> Result<(), Fail> {
         assert_eq!(rt; puts(rt.alloc(), &mut conn, key, 5)?, 1);
     }
     assert_eq!(rt; conn.fetch_all(rt.alloc(), SELECT_ALL)?.len(), 2);
-    assert!(rt; conn.fetch_optional(rt.alloc(), SELECT_ALL)?.is_some());
+    assert_eq!(rt; first(rt.alloc(), &mut conn, SELECT_ALL)?, Some(1));
     assert_eq!(rt; one_row(opened_by(rt.alloc(), "pg:x")), "another scheme");
     Ok(())
 }
@@ -192,7 +207,12 @@ fn a_row_that_is_missing(rt: HostRuntime) -> Result<(), Fail> {
 #[test]
 fn what_is_refused(rt: HostRuntime) -> Result<(), Fail> {
     let mut conn = opened(rt.alloc(), Answer::Refuse)?;
-    for (text, message) in [("BEGIN", "refused"), ("COMMIT", "unread"), (PUT, "unread")] {
+    for (text, message) in [
+        ("BEGIN", "refused"),
+        ("COMMIT", "unread"),
+        ("SELECT 2", "unread"),
+        (PUT, "unread"),
+    ] {
         let answer = runs(rt.alloc(), &mut conn, text);
         assert!(rt; is_refused_with(answer, message), "{text}");
     }
