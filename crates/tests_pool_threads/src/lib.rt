@@ -7,6 +7,8 @@ mod outside;
 #[cfg(test)]
 mod rows;
 #[cfg(test)]
+mod shared;
+#[cfg(test)]
 mod traits;
 #[cfg(test)]
 mod two_threads;

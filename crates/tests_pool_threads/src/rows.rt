@@ -389,7 +389,7 @@ ended 7
 ";
 
 // The whole row, in a new pool.
-fn row<C: Depth + Drop, O: Drop, H: Ledger, L: Loans, R: Wait + Abort, X: Outside<C, O>>(
+pub fn row<C: Depth + Drop, O: Drop, H: Ledger, L: Loans, R: Wait + Abort, X: Outside<C, O>>(
     rt: &R,
     alloc: Global,
     connect: O,
