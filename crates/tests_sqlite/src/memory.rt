@@ -49,6 +49,9 @@ fn begin_twice(alloc: Global, conn: &mut AnyConnection<Backend>) -> Result<(), E
     puts(alloc, conn, 1, 5)?;
     AnyTransactionManager::<Backend>::begin(alloc, conn, None)?;
     puts(alloc, conn, 1, 6)?;
+    if AnyTransactionManager::<Backend>::get_transaction_depth(conn) == 0 {
+        return Err(Error::BeginFailed);
+    }
     AnyTransactionManager::<Backend>::start_rollback(conn);
     Ok(())
 }
@@ -59,6 +62,7 @@ fn a_level_that_is_given_up(rt: HostRuntime) -> Result<(), Fail> {
     begin_twice(rt.alloc(), &mut conn)?;
     conn.ping()?;
     assert_eq!(rt; gets(rt.alloc(), &mut conn, 1)?, Some(5));
+    assert_eq!(rt; AnyTransactionManager::<Backend>::get_transaction_depth(&conn), 1);
     AnyTransactionManager::<Backend>::rollback(rt.alloc(), &mut conn)?;
     assert_eq!(rt; gets(rt.alloc(), &mut conn, 1)?, None);
     Ok(())
