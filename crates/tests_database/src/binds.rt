@@ -42,8 +42,8 @@ fn put_null(list: &mut ToyArgumentList, kind: Option<AnyTypeInfoKind>) -> Result
     }
 }
 
-// A copy of bytes.
-fn copied(alloc: Global, bytes: &[u8]) -> Result<Vec<u8>, OutOfMemory>
+/// A copy of bytes.
+pub(crate) fn copied(alloc: Global, bytes: &[u8]) -> Result<Vec<u8>, OutOfMemory>
     ensures { IfOk result (λ copy. copy.items ≡ bytes.now) }
 {
     Ok(Vec::from_slice(alloc, bytes)?)
@@ -108,12 +108,8 @@ impl<'q> Encode<'q, Toy> for i16 {
 
     ghost size = { λ _. 8 };
 
-    fn encode(self, _alloc: Global, list: &mut ToyArgumentList) -> Result<IsNull, Fault> {
-        put(
-            list,
-            AnyTypeInfoKind::SmallInt,
-            Held::Whole(i64::from(self)),
-        )
+    fn encode(self, alloc: Global, list: &mut ToyArgumentList) -> Result<IsNull, Fault> {
+        self.encode_by_ref(alloc, list)
     }
 
     fn encode_by_ref(&self, _alloc: Global, list: &mut ToyArgumentList) -> Result<IsNull, Fault> {
@@ -164,8 +160,8 @@ impl<'q> Encode<'q, Toy> for i32 {
 
     ghost size = { λ _. 8 };
 
-    fn encode(self, _alloc: Global, list: &mut ToyArgumentList) -> Result<IsNull, Fault> {
-        put(list, AnyTypeInfoKind::Integer, Held::Whole(i64::from(self)))
+    fn encode(self, alloc: Global, list: &mut ToyArgumentList) -> Result<IsNull, Fault> {
+        self.encode_by_ref(alloc, list)
     }
 
     fn encode_by_ref(&self, _alloc: Global, list: &mut ToyArgumentList) -> Result<IsNull, Fault> {
@@ -216,8 +212,8 @@ impl<'q> Encode<'q, Toy> for i64 {
 
     ghost size = { λ _. 8 };
 
-    fn encode(self, _alloc: Global, list: &mut ToyArgumentList) -> Result<IsNull, Fault> {
-        put(list, AnyTypeInfoKind::BigInt, Held::Whole(self))
+    fn encode(self, alloc: Global, list: &mut ToyArgumentList) -> Result<IsNull, Fault> {
+        self.encode_by_ref(alloc, list)
     }
 
     fn encode_by_ref(&self, _alloc: Global, list: &mut ToyArgumentList) -> Result<IsNull, Fault> {
@@ -265,11 +261,7 @@ impl<'q> Encode<'q, Toy> for &str {
     ghost size = { λ _. 8 };
 
     fn encode(self, alloc: Global, list: &mut ToyArgumentList) -> Result<IsNull, Fault> {
-        put(
-            list,
-            AnyTypeInfoKind::Text,
-            Held::Text(UStr::new(alloc, self)?),
-        )
+        self.encode_by_ref(alloc, list)
     }
 
     fn encode_by_ref(&self, alloc: Global, list: &mut ToyArgumentList) -> Result<IsNull, Fault> {

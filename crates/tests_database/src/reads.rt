@@ -1,8 +1,9 @@
 //! What is read of values: each Rust type reads what it is encoded as.
 ghost use Rattle.std.specs.Prelude.{⊤};
 
+use crate::binds::copied;
 use crate::{Held, Toy, ToyValue};
-use sqlx_text::{Fault, OutOfMemory};
+use sqlx_text::Fault;
 use sqlx_traits::{Decode, DecodeOwned};
 use std::alloc::Global;
 
@@ -28,11 +29,6 @@ fn unread(value: &ToyValue) -> Fault {
         Held::Nothing => Fault::UnexpectedNull,
         _ => Fault::OutOfRange,
     }
-}
-
-// A copy of bytes.
-fn copied(alloc: Global, bytes: &[u8]) -> Result<Vec<u8>, OutOfMemory> {
-    Ok(Vec::from_slice(alloc, bytes)?)
 }
 
 impl DecodeOwned<Toy> for bool {
