@@ -53,15 +53,15 @@ pub fn of_day<'t, DB: Database, T: Encode<'t, DB> + SqlType<DB> + Drop>(
 
 /// Adds notes, each a tuple of a day and a text.
 #[tactic(auto, using(sqlx_query::proofs::RowLemmas::appends_then))]
-pub fn with_notes<'t, DB, D, T>(
+pub fn with_notes<'t, DB, D>(
     alloc: Global,
     insert: &mut QueryBuilder<DB>,
-    notes: Vec<(D, T)>,
+    notes: Vec<(D, &'t str)>,
 ) -> Result<(), Fault>
 where
     DB: Database,
     D: Encode<'t, DB> + SqlType<DB> + Drop,
-    T: Encode<'t, DB> + SqlType<DB> + Drop,
+    &'t str: Encode<'t, DB> + SqlType<DB>,
     requires { insert.old.built ≡ Bool.false }
     ensures open { OnOk result (insert.new.built ≡ Bool.false) }
 {
@@ -92,7 +92,7 @@ fn two_notes(alloc: Global) -> Result<Vec<(i64, &'static str)>, OutOfMemory> {
 fn inserted(alloc: Global) -> Result<String, Error> {
     let mut insert: QueryBuilder<Toy> = QueryBuilder::new(alloc, "INSERT ".to_string(alloc)?);
     let notes = two_notes(alloc)?;
-    with_notes::<Toy, i64, &str>(alloc, &mut insert, notes)?;
+    with_notes::<Toy, i64>(alloc, &mut insert, notes)?;
     Ok(insert.into_string())
 }
 
