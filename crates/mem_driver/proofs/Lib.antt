@@ -1,3 +1,4 @@
 pub mod AnswersLemmas
 pub mod LevelDepths
 pub mod BeginLemmas
+pub mod CountLemmas

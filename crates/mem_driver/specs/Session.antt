@@ -8,6 +8,7 @@ use Rattle.mem_store.specs.Statements.{read_statement}
 use Rattle.mem_store.specs.Store.{Link as Side, Session as Work, link_code as side_code, session_code as work_code}
 use Rattle.mem_store.specs.Acts.{after_act, after_start_rollback, counted}
 use Rattle.mem_store.specs.Acts as store
+use Rattle.mem_store.specs.Undo.{Undo}
 use Rattle.mem_store.specs.declared.act.Act.{Act}
 
 -- the texts of statements, the most recently used first
@@ -48,6 +49,10 @@ new_cache = lru_cache [] 100
 -- how many levels are open
 abbrev pub depth : Session → ℕ
 depth session = session.work.link.depth
+
+-- how far its connection can go back
+abbrev pub undo : Session → Undo
+undo session = session.work.link.undo
 
 -- the session after an act that isn't refused
 abbrev pub acted : Act → Session → Session

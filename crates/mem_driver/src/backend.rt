@@ -6,7 +6,8 @@ ghost use Rattle.sqlx_traits.specs.Faults.{FaultCause, HasRisen};
 ghost use Rattle.sqlx_traits.specs.StepList.{StepCauses};
 
 use crate::asked::asked;
-use crate::levels::{begin_at, commit_at, rollback_at};
+use crate::counted;
+use crate::levels::begin_at;
 use crate::prepared::prepared;
 use crate::session::MemSession;
 use mem_store::{Refusal, statement_of};
@@ -16,6 +17,8 @@ use sqlx_any::{
 };
 use sqlx_text::{Error, OutOfMemory, SqlStr};
 use std::alloc::Global;
+use std::marker::Brand;
+use std::sync::ledger::Blank;
 
 impl Faults for MemSession {
     ghost faults = { λ session. session.faults };
@@ -73,22 +76,12 @@ impl AnyConnectionBackend for MemSession {
         }
     }
 
-    #[tactic(auto, using(crate::proofs::LevelDepths::commit_lowers))]
     fn commit(&mut self, _alloc: Global) -> Result<(), Error> {
-        let level = commit_at(self.depth());
-        match self.end(level) {
-            Ok(()) => Ok(()),
-            Err(error) => Err(error),
-        }
+        counted::commit::<Brand>(self, Blank::new(1))
     }
 
-    #[tactic(auto, using(crate::proofs::LevelDepths::rollback_lowers))]
     fn rollback(&mut self, _alloc: Global) -> Result<(), Error> {
-        let level = rollback_at(self.depth());
-        match self.end(level) {
-            Ok(()) => Ok(()),
-            Err(error) => Err(error),
-        }
+        counted::roll_back::<Brand>(self, Blank::new(1))
     }
 
     fn start_rollback(&mut self) {

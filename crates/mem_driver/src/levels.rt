@@ -5,16 +5,19 @@ ghost use Rattle.sqlx_traits.specs.Faults.{BeginCause, FaultCause, HasRisen};
 ghost use Rattle.sqlx_savepoints.specs.Texts as texts;
 ghost use Rattle.mem_store.specs.Acts.{level_refusal, refusal_of};
 ghost use Rattle.mem_store.specs.Store.{state_of};
+ghost use Rattle.mem_store.specs.Undo.{Counts};
 ghost use Rattle.mem_store.specs.declared.act.Act.{Act as Doing};
 ghost use Rattle.mem_driver.specs.Asked.{asked as what_is_asked};
 ghost use Rattle.mem_driver.specs.Backend.{Begins, BeginsAt, BeginsBy, Ends, HasBegun};
-ghost use Rattle.mem_driver.specs.Session.{acted, depth};
+ghost use Rattle.mem_driver.specs.Session.{acted, depth, undo};
 
 use crate::asked::asked;
 use crate::session::MemSession;
 use mem_store::{Act, statement_of};
+use sqlx_line::Steps;
 use sqlx_savepoints::LevelText;
 use sqlx_text::{Error, OutOfMemory, SqlStr};
+use std::sync::ledger::Ledger;
 
 pub(crate) fn begin_at(depth: usize) -> LevelText
     ensures { result ≡ texts.begin_at depth }
@@ -69,17 +72,24 @@ impl MemSession {
         }
     }
 
-    /// Ends the innermost level by its text, and without one where that doesn't run.
-    pub(crate) fn end(&mut self, level: LevelText) -> Result<(), Error>
+    /// Ends the innermost level by its text, and without one where that doesn't run. A text that
+    /// rolls back has a step for each change that it undoes.
+    pub(crate) fn end<L: Ledger>(
+        &mut self,
+        level: LevelText,
+        steps: &mut Steps<L>,
+    ) -> Result<(), Error>
         requires { 1 ≤ depth self.old }
         ensures ends { Ends (Doing.Level level) self.old result self.new }
         ensures ran { OnOk result ((level_refusal level (state_of self.old.work) ≡ None) × (self.new ≡ acted (Doing.Level level) self.old)) }
         ensures refused { OnErr result (depth self.new ≡ depth self.old - 1) }
         ensures rises { self.old.faults ≤ self.new.faults }
         ensures cause { IfErr result (λ e. FaultCause self.old.faults self.new.faults e) }
+        ensures count { OnOk result (Counts level steps.old (undo self.old) steps.new (undo self.new)) }
+        ensures uncounted { OnErr result (steps.new ≡ steps.old) }
     {
         match self.work.admitted(Some(Act::Level(level))) {
-            Ok(act) => match self.run(act) {
+            Ok(_) => match self.work.run_level(level, steps) {
                 Ok(()) => Ok(()),
                 Err(OutOfMemory) => {
                     self.roll_back();

@@ -5,6 +5,7 @@
 mod answers;
 mod asked;
 mod backend;
+mod counted;
 mod levels;
 mod link;
 mod open;

@@ -1,3 +1,5 @@
 pub mod Trees
 pub mod Undoing
+mod WorkedUndo
 pub mod ReadsBack
+pub mod UndoBoundLemmas

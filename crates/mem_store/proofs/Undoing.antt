@@ -12,6 +12,7 @@ use Rattle.mem_store.specs.declared.saved.Saved.{Saved}
 use Rattle.mem_store.specs.declared.saved.Change.{Change}
 use Rattle.mem_store.specs.declared.saved.Overwrite.{Overwrite}
 use Rattle.mem_store.specs.SavepointStack.{SavepointStack, saved_at, released_to, restored_to}
+use Rattle.mem_store.specs.Undo.{Undo, noted, undo_released, undo_restored}
 use Rattle.mem_store.specs.UndoLog.{put_back, unwritten, as_of, entries_at, AreMarked, from_name, first_mark}
 use Rattle.mem_store.proofs.Trees.{found, Updated, get-found, from_entries-insert, tied}
 
@@ -96,9 +97,12 @@ any-newest name own changes (top ∷ older) =
     ]
 
 -- marks stay in order
-later_marked : (now later : ℕ) (saved : List Saved) → now ≤ later → AreMarked now saved → AreMarked later saved
+pub later_marked : (now later : ℕ) (saved : List Saved) → now ≤ later → AreMarked now saved → AreMarked later saved
 later_marked now later [] e marked = tt
 later_marked now later (top ∷ older) e marked = (omega (arith, e, marked.0), marked.1)
+
+pub noted-marked : (change : Change) (changes changes' : List Change) (saved : List Saved) → changes' ≡ change ∷ changes → AreMarked (length changes) saved → AreMarked (length changes') saved
+noted-marked change changes changes' saved is marked = subst (λ (cs : List Change). AreMarked (length cs) saved) (sym is) (later_marked (length changes) (length (change ∷ changes)) saved (omega arith) marked)
 
 pub from_name-marked : (name now : ℕ) (saved : List Saved) → AreMarked now saved → AreMarked now (from_name name saved)
 from_name-marked name now [] marked = tt
@@ -114,15 +118,19 @@ rest_marked now (top ∷ older) marked = later_marked top.mark now older marked.
 
 -- ---- releasing and going back
 
+-- a stack by what stands in its fields
+abbrev pub stack_in : Writes → List Change → List Saved → SavepointStack
+stack_in own changes saved = record { own = own; entries = entries_at own changes saved; undo = record { len = length changes; saved = saved } }
+
 released_at : (name : ℕ) (stack : SavepointStack) (changes : List Change) (found : List Saved) → newest name stack.entries ≡ first_entry stack.own changes found → IsSome (newest name stack.entries)
-    → record stack { entries = entries_at stack.own changes (drop 1 found) } ≡ released_to name stack
+    → record stack { entries = entries_at stack.own changes (drop 1 found); undo = undo_released name stack.undo } ≡ released_to name stack
 released_at name stack changes [] is some = absurd (let none : false ≡ true = sym (ap is_some is) ∙ some in cc)
 released_at name stack changes (top ∷ older) is some =
-    sym (ap (λ (o : Option (Writes × List Entry)). unwrap_or (option_map (λ (found : Writes × List Entry). record stack { entries = found.1 }) o) stack) is)
+    sym (ap (λ (o : Option (Writes × List Entry)). unwrap_or (option_map (λ (found : Writes × List Entry). record stack { entries = found.1; undo = undo_released name stack.undo }) o) stack) is)
 
-pub released-is : (name : ℕ) (own : Writes) (changes : List Change) (saved : List Saved) → IsSome (newest name (entries_at own changes saved))
-    → record { own = own; entries = entries_at own changes (drop 1 (from_name name saved)) } ≡ released_to name (record { own = own; entries = entries_at own changes saved })
-released-is name own changes saved some = released_at name (record { own = own; entries = entries_at own changes saved }) changes (from_name name saved) (newest-from_name name own changes saved) some
+released-is : (name : ℕ) (own : Writes) (changes : List Change) (saved : List Saved) → IsSome (newest name (entries_at own changes saved))
+    → stack_in own changes (drop 1 (from_name name saved)) ≡ released_to name (stack_in own changes saved)
+released-is name own changes saved some = released_at name (stack_in own changes saved) changes (from_name name saved) (newest-from_name name own changes saved) some
 
 -- the first savepoint has this name
 abbrev IsNamed : ℕ → List Saved → Type 0
@@ -137,26 +145,43 @@ from_name-named name (top ∷ older) =
       | false ↦ λ e. from_name-named name older
     ] refl
 
+-- the first savepoint is marked no later than now
+pub mark_below : (mark now : ℕ) (found : List Saved) → first_mark found ≡ Some mark → AreMarked now found → mark ≤ now
+mark_below mark now [] marks marked = absurd cc
+mark_below mark now (top ∷ older) marks marked = let same : top.mark ≡ mark = cc in let below = marked.0 in omega (arith, same, below)
+
+-- the log goes back to the mark
+restored_undo : (name mark left now : ℕ) (saved : List Saved) → first_mark (from_name name saved) ≡ Some mark → AreMarked now saved → left ≡ min mark now
+    → ◌≡◌ {A = Undo} (record { len = left; saved = from_name name saved }) (undo_restored name (record { len = now; saved = saved }))
+restored_undo name mark left now saved marks marked left_is =
+    let below = mark_below mark now (from_name name saved) marks (from_name-marked name now saved marked) in
+    let here : left ≡ mark = omega (arith, left_is, below) in
+    ap (λ (n : ℕ). record { len = n; saved = from_name name saved }) (here ∙ ap (λ (o : Option ℕ). unwrap_or o now) (sym marks))
+
 restored_at : (name mark now : ℕ) (stack : SavepointStack) (own : Writes) (changes changes' : List Change) (found : List Saved) → newest name stack.entries ≡ first_entry stack.own changes found → first_mark found ≡ Some mark → IsNamed name found → AreMarked now found
     → own ≡ as_of mark changes stack.own → ((earlier : ℕ) → earlier ≤ mark → as_of earlier changes' own ≡ as_of earlier changes stack.own)
-    → record { own = own; entries = entries_at own changes' found } ≡ restored_to name stack
+    → record { own = own; entries = entries_at own changes' found; undo = undo_restored name stack.undo } ≡ restored_to name stack
 restored_at name mark now stack own changes changes' [] is marks named marked own_is alike = absurd cc
 restored_at name mark now stack own changes changes' (top ∷ older) is marks named marked own_is alike =
     let same : top.mark ≡ mark = cc in
     let below : top.mark ≤ mark = omega (arith, same) in
-    let back : SavepointStack = record { own = as_of top.mark changes stack.own; entries = record { name = name; own = as_of top.mark changes stack.own } ∷ entries_at stack.own changes older } in
-    let parts : record { own = own; entries = entries_at own changes' (top ∷ older) } ≡ back = λ i. record {
+    let undo : Undo = undo_restored name stack.undo in
+    let back : SavepointStack = record { own = as_of top.mark changes stack.own; entries = record { name = name; own = as_of top.mark changes stack.own } ∷ entries_at stack.own changes older; undo = undo } in
+    let parts : record { own = own; entries = entries_at own changes' (top ∷ older); undo = undo } ≡ back = λ i. record {
       own = (own_is ∙ ap (λ (m : ℕ). as_of m changes stack.own) (sym same)) i;
       entries = record { name = named i; own = alike top.mark below i } ∷ entries-alike top.mark older changes changes' stack.own own marked.1 (λ earlier e. alike earlier (omega (arith, e, below))) i;
+      undo = undo;
     } in
     parts
-    ∙ sym (ap (λ (o : Option (Writes × List Entry)). unwrap_or (option_map (λ (found : Writes × List Entry). record { own = found.0; entries = record { name = name; own = found.0 } ∷ found.1 }) o) stack) is)
+    ∙ sym (ap (λ (o : Option (Writes × List Entry)). unwrap_or (option_map (λ (found : Writes × List Entry). record { own = found.0; entries = record { name = name; own = found.0 } ∷ found.1; undo = undo_restored name stack.undo }) o) stack) is)
 
-pub restored-is : (name mark now : ℕ) (own own' : Writes) (changes changes' : List Change) (saved : List Saved) → first_mark (from_name name saved) ≡ Some mark → AreMarked now saved → own' ≡ as_of mark changes own
-    → ((earlier : ℕ) → earlier ≤ mark → as_of earlier changes' own' ≡ as_of earlier changes own)
-    → record { own = own'; entries = entries_at own' changes' (from_name name saved) } ≡ restored_to name (record { own = own; entries = entries_at own changes saved })
-restored-is name mark now own own' changes changes' saved marks marked own_is alike =
-    restored_at name mark now (record { own = own; entries = entries_at own changes saved }) own' changes changes' (from_name name saved) (newest-from_name name own changes saved) marks (from_name-named name saved) (from_name-marked name now saved marked) own_is alike
+restored-is : (name mark : ℕ) (own own' : Writes) (changes changes' : List Change) (saved : List Saved) → first_mark (from_name name saved) ≡ Some mark → AreMarked (length changes) saved → length changes' ≡ min mark (length changes)
+    → own' ≡ as_of mark changes own → ((earlier : ℕ) → earlier ≤ mark → as_of earlier changes' own' ≡ as_of earlier changes own)
+    → stack_in own' changes' (from_name name saved) ≡ restored_to name (stack_in own changes saved)
+restored-is name mark own own' changes changes' saved marks marked left own_is alike =
+    ap (λ (u : Undo). record { own = own'; entries = entries_at own' changes' (from_name name saved); undo = u }) (restored_undo name mark (length changes') (length changes) saved marks marked left)
+    ∙ restored_at name mark (length changes) (stack_in own changes saved) own' changes changes' (from_name name saved) (newest-from_name name own changes saved) marks (from_name-named name saved)
+    (from_name-marked name (length changes) saved marked) own_is alike
 
 -- the marks are in order behind going back
 pub restored-marked : (name mark now left : ℕ) (saved found : List Saved) → found ≡ from_name name saved → Some mark ≡ first_mark found → left ≡ min mark now → AreMarked now saved → AreMarked left found
@@ -166,7 +191,7 @@ restored-marked name mark now left saved found is marks left_is marked = at foun
   at (top ∷ older) marks marked = let same : mark ≡ top.mark = cc in (omega (arith, same, left_is, marked.0), marked.1)
 
 -- no savepoint has the name
-pub unnamed-none : (name : ℕ) (stack : SavepointStack) (own : Writes) (changes : List Change) (saved found : List Saved) → record { own = own; entries = entries_at own changes saved } ≡ stack → found ≡ from_name name saved
+pub unnamed-none : (name : ℕ) (stack : SavepointStack) (own : Writes) (changes : List Change) (saved found : List Saved) → stack_in own changes saved ≡ stack → found ≡ from_name name saved
     → None ≡ first_mark found → IsSome (newest name stack.entries) → ⊥
 unnamed-none name stack own changes saved found view is marks some =
     at found marks (ap (λ (fs : List Saved). is_some (first_entry own changes fs)) is ∙ sym (ap is_some (newest-from_name name own changes saved)) ∙ ap (λ (k : SavepointStack). is_some (newest name k.entries)) view ∙ some) where
@@ -176,45 +201,43 @@ unnamed-none name stack own changes saved found view is marks some =
 
 -- ---- the same of what stands in the fields
 
-abbrev the_stack : Writes → List Entry → SavepointStack
-the_stack own entries = record { own = own; entries = entries }
-
-abbrev stack_in : Writes → List Change → List Saved → SavepointStack
-stack_in own changes saved = the_stack own (entries_at own changes saved)
-
-pub saved-by : (name mark : ℕ) (stack : SavepointStack) (own : Writes) (changes : List Change) (saved saved' : List Saved) → record { own = own; entries = entries_at own changes saved } ≡ stack
-    → mark ≡ length changes → saved' ≡ record { name = name; mark = mark } ∷ saved → record { own = own; entries = entries_at own changes saved' } ≡ saved_at name stack
+pub saved-by : (name mark : ℕ) (stack : SavepointStack) (own : Writes) (changes : List Change) (saved saved' : List Saved) → stack_in own changes saved ≡ stack
+    → mark ≡ length changes → saved' ≡ record { name = name; mark = mark } ∷ saved → stack_in own changes saved' ≡ saved_at name stack
 saved-by name mark stack own changes saved saved' view at is =
-    ap (λ (s : List Saved). record { own = own; entries = entries_at own changes s }) is
-    ∙ ap (λ (o : Writes). record { own = own; entries = record { name = name; own = o } ∷ entries_at own changes saved }) (as_of-here mark changes own (omega (arith, at)))
-    ∙ ap (saved_at name) view
+    let here = as_of-here mark changes own (omega (arith, at)) in
+    let parts : stack_in own changes (record { name = name; mark = mark } ∷ saved) ≡ saved_at name (stack_in own changes saved) = λ i. record {
+      own = own;
+      entries = record { name = name; own = here i } ∷ entries_at own changes saved;
+      undo = record { len = length changes; saved = record { name = name; mark = at i } ∷ saved };
+    } in
+    ap (λ (s : List Saved). stack_in own changes s) is ∙ parts ∙ ap (saved_at name) view
 
-pub released-by : (name : ℕ) (stack : SavepointStack) (own : Writes) (changes : List Change) (saved found rest : List Saved) → record { own = own; entries = entries_at own changes saved } ≡ stack
-    → found ≡ from_name name saved → rest ≡ drop 1 found → IsSome (newest name stack.entries) → record { own = own; entries = entries_at own changes rest } ≡ released_to name stack
+pub released-by : (name : ℕ) (stack : SavepointStack) (own : Writes) (changes : List Change) (saved found rest : List Saved) → stack_in own changes saved ≡ stack
+    → found ≡ from_name name saved → rest ≡ drop 1 found → IsSome (newest name stack.entries) → stack_in own changes rest ≡ released_to name stack
 released-by name stack own changes saved found rest view found_is rest_is =
-    subst (λ (k : SavepointStack). IsSome (newest name k.entries) → record { own = own; entries = entries_at own changes rest } ≡ released_to name k) view
-    (λ some. ap (λ (s : List Saved). record { own = own; entries = entries_at own changes s }) (rest_is ∙ ap (drop 1) found_is) ∙ released-is name own changes saved some)
+    subst (λ (k : SavepointStack). IsSome (newest name k.entries) → stack_in own changes rest ≡ released_to name k) view
+    (λ some. ap (λ (s : List Saved). stack_in own changes s) (rest_is ∙ ap (drop 1) found_is) ∙ released-is name own changes saved some)
 
 pub released-marked : (name now : ℕ) (saved found rest : List Saved) → found ≡ from_name name saved → rest ≡ drop 1 found → AreMarked now saved → AreMarked now rest
 released-marked name now saved found rest found_is rest_is marked = subst (AreMarked now) (sym (rest_is ∙ ap (drop 1) found_is)) (rest_marked now (from_name name saved) (from_name-marked name now saved marked))
 
-pub restored-by : (name mark now : ℕ) (stack : SavepointStack) (own own' : Writes) (changes changes' : List Change) (saved found : List Saved) → record { own = own; entries = entries_at own changes saved } ≡ stack
-    → found ≡ from_name name saved → Some mark ≡ first_mark found → AreMarked now saved → own' ≡ as_of mark changes own
-    → ((earlier : ℕ) → earlier ≤ mark → as_of earlier changes' own' ≡ as_of earlier changes own) → record { own = own'; entries = entries_at own' changes' found } ≡ restored_to name stack
-restored-by name mark now stack own own' changes changes' saved found view found_is marks marked own_is alike =
-    ap (λ (s : List Saved). record { own = own'; entries = entries_at own' changes' s }) found_is
-    ∙ restored-is name mark now own own' changes changes' saved (ap first_mark (sym found_is) ∙ sym marks) marked own_is alike
+pub restored-by : (name mark : ℕ) (stack : SavepointStack) (own own' : Writes) (changes changes' : List Change) (saved found : List Saved) → stack_in own changes saved ≡ stack
+    → found ≡ from_name name saved → Some mark ≡ first_mark found → AreMarked (length changes) saved → length changes' ≡ min mark (length changes) → own' ≡ as_of mark changes own
+    → ((earlier : ℕ) → earlier ≤ mark → as_of earlier changes' own' ≡ as_of earlier changes own) → stack_in own' changes' found ≡ restored_to name stack
+restored-by name mark stack own own' changes changes' saved found view found_is marks marked left own_is alike =
+    ap (λ (s : List Saved). stack_in own' changes' s) found_is
+    ∙ restored-is name mark own own' changes changes' saved (ap first_mark (sym found_is) ∙ sym marks) marked left own_is alike
     ∙ ap (restored_to name) view
 
-pub inserted-by : (key : ℤ) (value : Option ℤ) (before : Option (Option ℤ)) (stack : SavepointStack) (own own' : Writes) (changes changes' : List Change) (saved : List Saved) → record { own = own; entries = entries_at own changes saved } ≡ stack
+pub inserted-by : (key : ℤ) (value : Option ℤ) (before : Option (Option ℤ)) (stack : SavepointStack) (own own' : Writes) (changes changes' : List Change) (saved : List Saved) → stack_in own changes saved ≡ stack
     → AreMarked (length changes) saved → before ≡ get own key → changes' ≡ record { key = key; before = before } ∷ changes → own' ≡ insert own key value
-    → stack_in own' changes' saved ≡ the_stack (insert stack.own key value) stack.entries
+    → stack_in own' changes' saved ≡ record stack { own = insert stack.own key value; undo = noted stack.undo }
 inserted-by key value before stack own own' changes changes' saved view marked before_is changes_is own_is =
-    let noted : List Change = record { key = key; before = get own key } ∷ changes in
+    let new : List Change = record { key = key; before = get own key } ∷ changes in
     ap (λ (o : Writes). stack_in o changes' saved) own_is
     ∙ ap (λ (cs : List Change). stack_in (insert own key value) cs saved) (changes_is ∙ ap (λ (b : Option (Option ℤ)). record { key = key; before = b } ∷ changes) before_is)
-    ∙ ap (λ (es : List Entry). the_stack (insert own key value) es) (entries-noted (length changes) saved changes own key value marked (omega arith))
-    ∙ ap (λ (k : SavepointStack). the_stack (insert k.own key value) k.entries) view
+    ∙ ap (λ (es : List Entry). record { own = insert own key value; entries = es; undo = record { len = length new; saved = saved } }) (entries-noted (length changes) saved changes own key value marked (omega arith))
+    ∙ ap (λ (k : SavepointStack). record k { own = insert k.own key value; undo = noted k.undo }) view
 
 pub pushed : {X E : Type 0} (r : Result X E) (b : Bool) → b ≡ is_err r → b ≡ false → is_ok r ≡ true
 pushed (Ok x) b is none = refl

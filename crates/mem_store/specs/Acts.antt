@@ -16,6 +16,7 @@ use Rattle.mem_store.specs.declared.act.Act.TheVariants.{Put, Delete, Get, Selec
 use Rattle.mem_store.specs.declared.plain.Plain.{Plain}
 use Rattle.mem_store.specs.declared.runs.Runs.{Runs}
 use Rattle.mem_store.specs.Store.{Store, Session, others_in_level, store_moved, state_of, moved}
+use Rattle.mem_store.specs.Undo.{Undo, noted_at, undo_after, undo_rolled_back}
 
 -- a statement with its arguments; none where the text is no statement's or the arguments don't fit
 abbrev pub act_of : Option Statement → List ℤ → Option Act
@@ -82,11 +83,11 @@ store_written state store = record store { rows = state.rows; runs = record stor
 
 -- the session after a write of the key
 abbrev pub written_to : ℤ → Option ℤ → Session → Session
-written_to key value session = let state = wrote key value (state_of session) in record session { store = store_written state session.store; link = moved state session.link }
+written_to key value session = let state = wrote key value (state_of session) in record session { store = store_written state session.store; link = moved state (noted_at session.link.depth session.link.undo) session.link }
 
--- the session after its connection came to this state by levels
-abbrev pub moved_to : Named → Runs → Session → Session
-moved_to state runs session = record session { store = store_moved state session.link.depth runs session.store; link = moved state session.link }
+-- the session after its connection came to this state by levels, and to what it can undo there
+abbrev pub moved_to : Named → Undo → Runs → Session → Session
+moved_to state undo runs session = record session { store = store_moved state session.link.depth runs session.store; link = moved state undo session.link }
 
 -- the store after a read
 abbrev pub store_read : Store → Store
@@ -107,7 +108,7 @@ after_act (Delete key) session = written_to key None session
 after_act (Get key) session = record session { store = store_read session.store }
 after_act SelectAll session = record session { store = store_read session.store }
 after_act SelectOne session = record session { store = store_read session.store }
-after_act (Level level) session = moved_to (ran level (state_of session)) (level_counted level session.store.runs) session
+after_act (Level level) session = moved_to (ran level (state_of session)) (undo_after level session.link.undo) (level_counted level session.store.runs) session
 
 -- the value that the session's connection sees at the key
 abbrev pub seen_by : ℤ → Session → Option ℤ
@@ -132,4 +133,4 @@ rolled_back state = if is_some (after (rollback_at state.depth) state) then ran 
 
 -- the session after its innermost level was rolled back without a text
 abbrev pub after_start_rollback : Session → Session
-after_start_rollback session = moved_to (rolled_back (state_of session)) (ended_counted session.store.runs) session
+after_start_rollback session = moved_to (rolled_back (state_of session)) (undo_rolled_back (state_of session) session.link.undo) (ended_counted session.store.runs) session

@@ -1,6 +1,9 @@
 pub mod Statements
-pub mod SavepointStack
 pub mod UndoLog
+pub mod Undo
+pub mod SavepointStack
 pub mod Store
 pub mod Acts
 pub mod Errors
+pub mod Outcomes
+pub mod UndoBound

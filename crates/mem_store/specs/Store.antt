@@ -5,6 +5,7 @@ use Rattle.std.specs.FinMap.{empty}
 use Rattle.sqlx_savepoints.specs.Rows.{Rows, Writes}
 use Rattle.sqlx_savepoints.specs.NamedSavepoints.{Named, Entry}
 use Rattle.mem_store.specs.SavepointStack.{rows_code, writes_code, entry_code}
+use Rattle.mem_store.specs.Undo.{Undo, undo_code, no_undo}
 use Rattle.mem_store.specs.declared.answer.Answer.{Answer}
 use Rattle.mem_store.specs.declared.answer.Answer.TheVariants.{Accept, Io, Refuse}
 use Rattle.mem_store.specs.declared.runs.Runs.{Runs}
@@ -16,12 +17,13 @@ pub record Store : Type 0 where
   pub given : ℕ
   pub runs : Runs
 
--- a connection: its number, its depth, its own writes and its savepoints with the newest first
+-- a connection: its number, its depth, its own writes, its savepoints with the newest first, and what it can undo
 pub record Link : Type 0 where
   pub number : ℕ
   pub depth : ℕ
   pub own : Writes
   pub entries : List Entry
+  pub undo : Undo
 
 -- a store and one of its links at work, and what meets the next statement
 pub record Session : Type 0 where
@@ -57,7 +59,7 @@ store_code = code_by (Rows × (ℕ × (ℕ × Runs))) (coded× rows_code (coded�
 
 -- a link, written out
 abbrev pub link_code : Coded Link
-link_code = code_by (ℕ × (ℕ × (Writes × List Entry))) (coded× coded_ℕ (coded× coded_ℕ (coded× writes_code (coded_list entry_code)))) (λ l. (l.number, (l.depth, (l.own, l.entries)))) (λ p. record { number = p.0; depth = p.1.0; own = p.1.1.0; entries = p.1.1.1 }) (λ _. refl)
+link_code = code_by (ℕ × (ℕ × (Writes × (List Entry × Undo)))) (coded× coded_ℕ (coded× coded_ℕ (coded× writes_code (coded× (coded_list entry_code) undo_code)))) (λ l. (l.number, (l.depth, (l.own, (l.entries, l.undo))))) (λ p. record { number = p.0; depth = p.1.0; own = p.1.1.0; entries = p.1.1.1.0; undo = p.1.1.1.1 }) (λ _. refl)
 
 -- an answer, written out
 abbrev pub answer_code : Coded Answer
@@ -73,7 +75,7 @@ new_store = record { rows = empty; open_links = 0; given = 0; runs = record { be
 
 -- a link without a level
 abbrev pub new_link : ℕ → Link
-new_link number = record { number = number; depth = 0; own = empty; entries = [] }
+new_link number = record { number = number; depth = 0; own = empty; entries = []; undo = no_undo }
 
 -- the store after one more link was given
 abbrev pub connected : ℕ → Store → Store
@@ -107,10 +109,10 @@ named_by rows link = record { rows = rows; own = link.own; entries = link.entrie
 abbrev pub state_of : Session → Named
 state_of session = named_by session.store.rows session.link
 
--- a link that has come to this state; its number stays
-abbrev pub moved : Named → Link → Link
-moved state link = record link { depth = state.depth; own = state.own; entries = state.entries }
+-- a link that has come to this state, and to what it can undo there; its number stays
+abbrev pub moved : Named → Undo → Link → Link
+moved state undo link = record link { depth = state.depth; own = state.own; entries = state.entries; undo = undo }
 
 -- a link whose levels have all ended
 abbrev pub at_rest : Link → Link
-at_rest link = record link { depth = 0; own = empty; entries = [] }
+at_rest link = record link { depth = 0; own = empty; entries = []; undo = no_undo }

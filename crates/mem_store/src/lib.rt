@@ -4,6 +4,7 @@
 
 mod act;
 mod answer;
+pub mod laws;
 mod link;
 mod plain;
 mod refusal;

@@ -2,14 +2,17 @@
 ghost use Rattle.std.specs.Prelude.{◌≡◌, ◌≤◌, ◌<◌, ◌+◌, ◌∷◌, IfOk, OnOk, OnErr, IsSome, is_some};
 ghost use Rattle.sqlx_savepoints.specs.Rows.{Rows as CommittedRows, sees, laid};
 ghost use Rattle.sqlx_savepoints.specs.NamedSavepoints.{after, ran, wrote, lowered};
+ghost use Rattle.mem_store.specs.Undo.{Counts, CountsFall, noted_at, undo_after, undo_rolled_back, undo_saved};
 
 use crate::rows::Rows;
 use crate::savepoint_stack::SavepointStack;
 use crate::writes::write;
+use sqlx_line::Steps;
 use sqlx_savepoints::LevelText;
 use sqlx_text::OutOfMemory;
 use std::alloc::Global;
 use std::marker::Model;
+use std::sync::ledger::Ledger;
 
 /// A connection of a [`MemStore`](crate::MemStore), while no session has it.
 #[derive(Drop)]
@@ -26,7 +29,7 @@ impl Model for StoreLink {
 
     ghost coded = { link_code };
 
-    ghost view = { λ a. record { number = a.number; depth = a.depth; own = a.stack.own; entries = a.stack.entries } };
+    ghost view = { λ a. record { number = a.number; depth = a.depth; own = a.stack.own; entries = a.stack.entries; undo = a.stack.undo } };
 }
 
 impl StoreLink {
@@ -64,6 +67,13 @@ impl StoreLink {
         self.depth
     }
 
+    /// How many changes of the own writes can be undone.
+    pub fn undo_len(&self) -> usize
+        ensures { result ≡ self.now.undo.len }
+    {
+        self.stack.undo_len()
+    }
+
     /// The value at the key, by the own writes or else by the rows.
     pub(crate) fn sees(&self, rows: &Rows, key: i64) -> Option<i64>
         ensures { result ≡ sees self.now.own rows.now key }
@@ -89,7 +99,7 @@ impl StoreLink {
         value: Option<i64>,
     ) -> Result<(), OutOfMemory>
         ensures rows { OnOk result (rows.new ≡ (wrote key value (named_by rows.old self.old)).rows) }
-        ensures link { OnOk result (self.new ≡ moved (wrote key value (named_by rows.old self.old)) self.old) }
+        ensures link { OnOk result (self.new ≡ moved (wrote key value (named_by rows.old self.old)) (noted_at self.old.depth self.old.undo) self.old) }
         ensures err { OnErr result ((rows.new ≡ rows.old) × (self.new ≡ self.old)) }
     {
         if self.depth == 0 {
@@ -113,12 +123,18 @@ impl StoreLink {
         }
     }
 
-    /// Runs a text that may stand here.
-    pub(crate) fn run(&mut self, rows: &mut Rows, level: LevelText) -> Result<(), OutOfMemory>
+    /// Runs a text that may stand here. Each change that it undoes is a step.
+    pub(crate) fn run<L: Ledger>(
+        &mut self,
+        rows: &mut Rows,
+        level: LevelText,
+        steps: &mut Steps<L>,
+    ) -> Result<(), OutOfMemory>
         requires { IsSome (after level (named_by rows.old self.old)) }
         ensures rows { OnOk result (rows.new ≡ (ran level (named_by rows.old self.old)).rows) }
-        ensures link { OnOk result (self.new ≡ moved (ran level (named_by rows.old self.old)) self.old) }
-        ensures err { OnErr result ((rows.new ≡ rows.old) × (self.new ≡ self.old)) }
+        ensures link { OnOk result (self.new ≡ moved (ran level (named_by rows.old self.old)) (undo_after level self.old.undo) self.old) }
+        ensures count { OnOk result (Counts level steps.old self.old.undo steps.new self.new.undo) }
+        ensures err { OnErr result ((rows.new ≡ rows.old) × (self.new ≡ self.old) × (steps.new ≡ steps.old)) }
     {
         match level {
             LevelText::Begin | LevelText::BeginImmediate => {
@@ -128,7 +144,7 @@ impl StoreLink {
             }
             LevelText::Commit => self.publish(rows),
             LevelText::Rollback => {
-                self.end();
+                self.drop_writes(steps);
                 Ok(())
             }
             LevelText::Savepoint(name) => self.save(name),
@@ -138,25 +154,27 @@ impl StoreLink {
                 Ok(())
             }
             LevelText::RollbackTo(name) => {
-                self.stack.restore(name);
+                self.stack.restore(name, steps);
                 self.lower();
                 Ok(())
             }
         }
     }
 
-    /// Rolls the innermost level back, as the ANSI text at the depth does. Takes no memory.
-    pub(crate) fn start_rollback(&mut self)
+    /// Rolls the innermost level back, as the ANSI text at the depth does. Takes no memory. Each
+    /// change that it undoes is a step.
+    pub(crate) fn start_rollback<L: Ledger>(&mut self, steps: &mut Steps<L>)
         requires { 1 ≤ self.old.depth }
-        ensures { (rows : CommittedRows) → self.new ≡ moved (rolled_back (named_by rows self.old)) self.old }
+        ensures becomes { (rows : CommittedRows) → self.new ≡ moved (rolled_back (named_by rows self.old)) (undo_rolled_back (named_by rows self.old) self.old.undo) self.old }
+        ensures count { CountsFall steps.old self.old.undo steps.new self.new.undo }
     {
         if self.depth == 1 {
-            self.end();
+            self.drop_writes(steps);
             return;
         }
         let name = self.depth as u64 - 1;
         if self.stack.has(name) {
-            self.stack.restore(name);
+            self.stack.restore(name, steps);
         }
         self.lower();
     }
@@ -171,6 +189,15 @@ impl StoreLink {
         Ok(())
     }
 
+    /// Undoes the own writes, and ends every level.
+    fn drop_writes<L: Ledger>(&mut self, steps: &mut Steps<L>)
+        ensures becomes { self.new ≡ at_rest self.old }
+        ensures count { CountsFall steps.old self.old.undo steps.new self.new.undo }
+    {
+        self.stack.undo_all(steps);
+        self.depth = 0;
+    }
+
     fn end(&mut self)
         ensures { self.new ≡ at_rest self.old }
     {
@@ -180,7 +207,7 @@ impl StoreLink {
 
     fn save(&mut self, name: u64) -> Result<(), OutOfMemory>
         requires { self.old.depth < 100 }
-        ensures ok { OnOk result (self.new ≡ record self.old { depth = self.old.depth + 1; entries = record { name = name; own = self.old.own } ∷ self.old.entries }) }
+        ensures ok { OnOk result (self.new ≡ record self.old { depth = self.old.depth + 1; entries = record { name = name; own = self.old.own } ∷ self.old.entries; undo = undo_saved name self.old.undo }) }
         ensures err { OnErr result (self.new ≡ self.old) }
     {
         self.stack.save(name)?;

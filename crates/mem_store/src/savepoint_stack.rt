@@ -1,20 +1,23 @@
 //! A connection's own writes, and the savepoints to which they can go back.
 //!
-//! A savepoint copies nothing: each write behind it notes what stood there, and going back undoes
-//! the writes. So the memory is that of the writes and savepoints, however many of both there are.
-ghost use Rattle.std.specs.Prelude.{◌≡◌, ℕ, ◌≤◌, ◌==◌, length, min, IfOk, OnOk, OnErr, IsSome, is_some};
+//! A savepoint copies nothing: each write notes what stood there, and going back undoes the writes.
+//! So the memory is that of the writes and savepoints, however many of both there are.
+ghost use Rattle.std.specs.Prelude.{◌≡◌, ℕ, ◌+◌, ◌≤◌, ◌==◌, length, min, IfOk, OnOk, OnErr, IsSome, is_some};
 ghost use Rattle.std.specs.List.{list_any};
 ghost use Rattle.std.specs.FinMap as finite;
 ghost use Rattle.sqlx_savepoints.specs.Rows.{laid};
 ghost use Rattle.sqlx_savepoints.specs.NamedSavepoints.{newest};
+ghost use Rattle.mem_store.specs.Undo.{CountsFall, noted};
 
 use crate::rows::Rows;
 use crate::saved::{Change, Saved};
 use crate::writes::Writes;
+use sqlx_line::Steps;
 use sqlx_text::OutOfMemory;
 use std::alloc::Global;
 use std::collections::VecDeque;
 use std::marker::Model;
+use std::sync::ledger::Ledger;
 
 /// Own writes and savepoints.
 #[derive(Drop)]
@@ -35,7 +38,7 @@ impl Model for SavepointStack {
 
     ghost use Rattle.mem_store.specs.UndoLog.{entries_at, AreMarked};
 
-    ghost view = { λ a. record { own = a.own; entries = entries_at a.own a.changes.items a.saved.items } };
+    ghost view = { λ a. record { own = a.own; entries = entries_at a.own a.changes.items a.saved.items; undo = record { len = length a.changes.items; saved = a.saved.items } } };
 
     ghost invariant = { λ a. AreMarked (length a.changes.items) a.saved.items };
 }
@@ -108,22 +111,38 @@ impl SavepointStack {
         let _ = self.saved.pop_front();
     }
 
-    pub(crate) fn restore(&mut self, name: u64)
+    /// Goes back to the newest savepoint of the name. Each change that is undone is a step.
+    pub(crate) fn restore<L: Ledger>(&mut self, name: u64, steps: &mut Steps<L>)
         requires { IsSome (newest name self.old.entries) }
-        ensures { self.new ≡ restored_to name self.old }
+        ensures becomes { self.new ≡ restored_to name self.old }
+        ensures count { CountsFall steps.old self.old.undo steps.new self.new.undo }
     {
         if let Some(mark) = uncover(&mut self.saved, name) {
-            go_back(&mut self.own, &mut self.changes, mark);
+            go_back(&mut self.own, &mut self.changes, mark, steps);
         }
     }
 
+    /// Undoes all changes. Each is a step.
+    pub(crate) fn undo_all<L: Ledger>(&mut self, steps: &mut Steps<L>)
+        ensures becomes { self.new ≡ no_savepoints }
+        ensures count { CountsFall steps.old self.old.undo steps.new self.new.undo }
+    {
+        self.saved.clear();
+        go_back(&mut self.own, &mut self.changes, 0, steps);
+        self.clear();
+    }
+
+    /// How many changes are noted.
+    pub(crate) fn undo_len(&self) -> usize
+        ensures { result ≡ self.now.undo.len }
+    {
+        self.changes.len()
+    }
+
     pub(crate) fn insert(&mut self, key: i64, value: Option<i64>) -> Result<(), OutOfMemory>
-        ensures ok { OnOk result (self.new ≡ record self.old { own = finite.insert self.old.own key value }) }
+        ensures ok { OnOk result (self.new ≡ record self.old { own = finite.insert self.old.own key value; undo = noted self.old.undo }) }
         ensures err { OnErr result (self.new ≡ self.old) }
     {
-        if self.saved.is_empty() {
-            return self.own.insert(key, value);
-        }
         let before = self.own.get(key);
         if self.changes.push_front(Change { key, before }).is_err() {
             return Err(OutOfMemory);
@@ -160,15 +179,22 @@ fn uncover(saved: &mut VecDeque<Saved>, name: u64) -> Option<usize>
     None
 }
 
-/// Undoes the changes behind the mark, the newest first.
-fn go_back(own: &mut Writes, changes: &mut VecDeque<Change>, mark: usize)
+/// Undoes the changes behind the mark, the newest first. Each is a step.
+fn go_back<L: Ledger>(
+    own: &mut Writes,
+    changes: &mut VecDeque<Change>,
+    mark: usize,
+    steps: &mut Steps<L>,
+)
     ensures own { own.new ≡ as_of mark changes.old.items own.old }
     ensures before { (earlier : ℕ) → earlier ≤ mark → as_of earlier changes.new.items own.new ≡ as_of earlier changes.old.items own.old }
     ensures left { length changes.new.items ≡ min mark (length changes.old.items) }
+    ensures count { steps.new + length changes.new.items ≡ steps.old + length changes.old.items }
 {
     while changes.len() > mark {
         if let Some(change) = changes.pop_front() {
             own.put_back(change.key, change.before);
+            steps.tick();
         }
     }
 }

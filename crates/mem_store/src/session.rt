@@ -1,10 +1,11 @@
 //! One link of a store at work.
-ghost use Rattle.std.specs.Prelude.{◌≡◌, ◌≤◌, Option, Some, None, IfOk, OnOk, OnErr, IsOkUnless, MatchResult};
+ghost use Rattle.std.specs.Prelude.{◌≡◌, ◌≤◌, ◌<◌, Option, Some, None, IfOk, OnOk, OnErr, IsOkUnless, MatchResult};
 ghost use Rattle.std.specs.FinMap.{entries};
 ghost use Rattle.mem_store.specs.Statements.{Reads};
 ghost use Rattle.mem_store.specs.Acts.{act_of, refusal_of, refusal_here, fault_of, level_refusal, after_act, plain_of, refused, rows_seen, seen_by, after_start_rollback};
+ghost use Rattle.mem_store.specs.Outcomes.{IsDone, IsRefused};
+ghost use Rattle.mem_store.specs.Undo.{Counts, CountsFall};
 ghost use Rattle.mem_store.specs.Store.{state_of};
-ghost use Rattle.mem_store.specs.Errors.{error_of};
 ghost use Rattle.mem_store.specs.declared.statement.Statement.{Statement as Held};
 ghost use Rattle.mem_store.specs.declared.act.Act.{Act as Doing};
 ghost use Rattle.mem_store.specs.declared.refusal.Refusal.{Refusal as Reason};
@@ -16,10 +17,12 @@ use crate::plain::Plain;
 use crate::refusal::Refusal;
 use crate::statement::statement_of;
 use crate::store::MemStore;
+use sqlx_line::Steps;
 use sqlx_savepoints::LevelText;
 use sqlx_text::{Error, OutOfMemory};
 use std::alloc::Global;
-use std::marker::Model;
+use std::marker::{Brand, Model};
+use std::sync::ledger::{Blank, Ledger};
 
 /// A connection at work: it runs statements on its store.
 #[derive(Drop)]
@@ -79,17 +82,34 @@ impl StoreSession {
         requires { 1 ≤ self.old.link.depth }
         ensures { self.new ≡ after_start_rollback self.old }
     {
-        self.store.start_rollback(&mut self.link);
+        uncounted_rollback::<Brand>(self, Blank::new(1));
+    }
+
+    /// The same; each change of the own writes that it undoes is a step.
+    pub fn start_rollback_counted<L: Ledger>(&mut self, steps: &mut Steps<L>)
+        requires { 1 ≤ self.old.link.depth }
+        ensures becomes { self.new ≡ after_start_rollback self.old }
+        ensures count { CountsFall steps.old self.old.link.undo steps.new self.new.link.undo }
+    {
+        self.store.start_rollback(&mut self.link, steps);
+    }
+
+    /// How many changes of the own writes can be undone: none outside a level, and in one as many as
+    /// were written since it began, less those that were undone.
+    pub fn undo_len(&self) -> usize
+        ensures { result ≡ self.now.link.undo.len }
+    {
+        self.link.undo_len()
     }
 
     /// Runs a statement. A refused one changes no row and no level.
     pub fn statement(&mut self, text: &str, arguments: &[i64]) -> Result<Plain, Error>
         // A refusal comes where text, arguments and state call for it, and for nothing else; it
         // spends what was handed in.
-        ensures refused { (read : Option Held) (reason : Reason) → Reads text.now read → refusal_of (act_of read arguments.now) self.old ≡ Some reason → (result ≡ Err (error_of reason)) × (self.new ≡ refused self.old) }
+        ensures refused { (read : Option Held) (reason : Reason) → Reads text.now read → refusal_of (act_of read arguments.now) self.old ≡ Some reason → IsRefused reason self.old result self.new }
 
         // Else it runs, unless memory is wanting.
-        ensures ran { (read : Option Held) (act : Doing) → Reads text.now read → act_of read arguments.now ≡ Some act → refusal_of (Some act) self.old ≡ None → IfOk result (λ plain. (plain ≡ plain_of act self.old) × (self.new ≡ after_act act self.old)) }
+        ensures ran { (read : Option Held) (act : Doing) → Reads text.now read → act_of read arguments.now ≡ Some act → refusal_of (Some act) self.old ≡ None → IsDone act self.old result self.new }
         ensures only { (read : Option Held) → Reads text.now read → refusal_of (act_of read arguments.now) self.old ≡ None → IsOkUnless result Error.OutOfMemory × OnErr result (self.new ≡ self.old) }
     {
         self.answer(with_arguments(statement_of(text), arguments))
@@ -97,8 +117,8 @@ impl StoreSession {
 
     /// Does what is asked for, unless it is refused or memory is wanting.
     fn answer(&mut self, act: Option<Act>) -> Result<Plain, Error>
-        ensures refused { (reason : Reason) → refusal_of act self.old ≡ Some reason → (result ≡ Err (error_of reason)) × (self.new ≡ refused self.old) }
-        ensures ran { (doing : Doing) → act ≡ Some doing → refusal_of act self.old ≡ None → IfOk result (λ plain. (plain ≡ plain_of doing self.old) × (self.new ≡ after_act doing self.old)) }
+        ensures refused { (reason : Reason) → refusal_of act self.old ≡ Some reason → IsRefused reason self.old result self.new }
+        ensures ran { (doing : Doing) → act ≡ Some doing → refusal_of act self.old ≡ None → IsDone doing self.old result self.new }
         ensures only { refusal_of act self.old ≡ None → IsOkUnless result Error.OutOfMemory × OnErr result (self.new ≡ self.old) }
     {
         match self.admitted(act) {
@@ -221,7 +241,50 @@ impl StoreSession {
                 self.store.count_read();
                 Ok(())
             }
-            Act::Level(level) => self.store.run(&mut self.link, level),
+            Act::Level(level) => uncounted_level::<Brand>(self, level, Blank::new(1)),
         }
     }
+
+    /// Runs a level text that isn't refused. A text that rolls back has a step for each change that
+    /// it undoes, and no other text has one.
+    pub fn run_level<L: Ledger>(
+        &mut self,
+        level: LevelText,
+        steps: &mut Steps<L>,
+    ) -> Result<(), OutOfMemory>
+        requires { level_refusal level (state_of self.old) ≡ None }
+        ensures ok { OnOk result (self.new ≡ after_act (Doing.Level level) self.old) }
+        ensures count { OnOk result (Counts level steps.old self.old.link.undo steps.new self.new.link.undo) }
+        ensures err { OnErr result ((self.new ≡ self.old) × (steps.new ≡ steps.old)) }
+    {
+        self.store.run(&mut self.link, level, steps)
+    }
+}
+
+// The same without a count.
+fn uncounted_level<L: Ledger>(
+    session: &mut StoreSession,
+    level: LevelText,
+    blank: Blank,
+) -> Result<(), OutOfMemory>
+    requires free { level_refusal level (state_of session.old) ≡ None }
+    requires named { blank.name ≡ L.name }
+    requires whole { blank.parts ≡ L.parts }
+    requires some { 0 < blank.parts }
+    ensures ok { OnOk result (session.new ≡ after_act (Doing.Level level) session.old) }
+    ensures err { OnErr result (session.new ≡ session.old) }
+{
+    let mut steps = Steps::<L>::new(blank);
+    session.run_level(level, &mut steps)
+}
+
+fn uncounted_rollback<L: Ledger>(session: &mut StoreSession, blank: Blank)
+    requires level { 1 ≤ session.old.link.depth }
+    requires named { blank.name ≡ L.name }
+    requires whole { blank.parts ≡ L.parts }
+    requires some { 0 < blank.parts }
+    ensures { session.new ≡ after_start_rollback session.old }
+{
+    let mut steps = Steps::<L>::new(blank);
+    session.start_rollback_counted(&mut steps);
 }

@@ -3,16 +3,19 @@ ghost use Rattle.std.specs.Prelude.{◌≡◌, ◌≤◌, ◌<◌, ◌+◌, ◌^
 ghost use Rattle.std.specs.FinMap as finite;
 ghost use Rattle.sqlx_savepoints.specs.Rows.{laid, sees};
 ghost use Rattle.sqlx_savepoints.specs.NamedSavepoints.{after, ran, wrote};
+ghost use Rattle.mem_store.specs.Undo.{Counts, CountsFall, noted_at, undo_after, undo_rolled_back};
 
 use crate::answer::Answer;
 use crate::link::StoreLink;
 use crate::rows::Rows;
 use crate::runs::Runs;
 use crate::session::StoreSession;
+use sqlx_line::Steps;
 use sqlx_savepoints::LevelText;
 use sqlx_text::OutOfMemory;
 use std::alloc::Global;
 use std::marker::Model;
+use std::sync::ledger::Ledger;
 
 /// A database in memory. A connection to it is a [`StoreLink`], which runs statements in a session.
 #[derive(Drop)]
@@ -124,7 +127,7 @@ impl MemStore {
         value: Option<i64>,
     ) -> Result<(), OutOfMemory>
         ensures store { OnOk result (self.new ≡ store_written (wrote key value (named_by self.old.rows link.old)) self.old) }
-        ensures link { OnOk result (link.new ≡ moved (wrote key value (named_by self.old.rows link.old)) link.old) }
+        ensures link { OnOk result (link.new ≡ moved (wrote key value (named_by self.old.rows link.old)) (noted_at link.old.depth link.old.undo) link.old) }
         ensures err { OnErr result ((self.new ≡ self.old) × (link.new ≡ link.old)) }
     {
         link.write(&mut self.rows, key, value)?;
@@ -138,32 +141,39 @@ impl MemStore {
         self.runs.count_read();
     }
 
-    /// Runs a level text that may stand at the link's state. Where every number of links has an open
-    /// level, that counts as want of memory.
-    pub(crate) fn run(&mut self, link: &mut StoreLink, level: LevelText) -> Result<(), OutOfMemory>
+    /// Runs a level text that may stand at the link's state. Each change that it undoes is a step.
+    /// Where every number of links has an open level, that counts as want of memory.
+    pub(crate) fn run<L: Ledger>(
+        &mut self,
+        link: &mut StoreLink,
+        level: LevelText,
+        steps: &mut Steps<L>,
+    ) -> Result<(), OutOfMemory>
         requires { IsSome (after level (named_by self.old.rows link.old)) }
         ensures store { OnOk result (self.new ≡ store_moved (ran level (named_by self.old.rows link.old)) link.old.depth (level_counted level self.old.runs) self.old) }
-        ensures link { OnOk result (link.new ≡ moved (ran level (named_by self.old.rows link.old)) link.old) }
-        ensures err { OnErr result ((self.new ≡ self.old) × (link.new ≡ link.old)) }
+        ensures link { OnOk result (link.new ≡ moved (ran level (named_by self.old.rows link.old)) (undo_after level link.old.undo) link.old) }
+        ensures count { OnOk result (Counts level steps.old link.old.undo steps.new link.new.undo) }
+        ensures err { OnErr result ((self.new ≡ self.old) × (link.new ≡ link.old) × (steps.new ≡ steps.old)) }
     {
         if self.open_links == u64::MAX {
             return Err(OutOfMemory);
         }
         let before = link.depth();
-        link.run(&mut self.rows, level)?;
+        link.run(&mut self.rows, level, steps)?;
         self.runs.count_level(level);
         self.open_links = remarked(before, link.depth(), self.open_links);
         Ok(())
     }
 
-    /// Rolls the link's innermost level back without a text.
-    pub(crate) fn start_rollback(&mut self, link: &mut StoreLink)
+    /// Rolls the link's innermost level back without a text. Each change that it undoes is a step.
+    pub(crate) fn start_rollback<L: Ledger>(&mut self, link: &mut StoreLink, steps: &mut Steps<L>)
         requires { 1 ≤ link.old.depth }
         ensures store { self.new ≡ store_moved (rolled_back (named_by self.old.rows link.old)) link.old.depth (ended_counted self.old.runs) self.old }
-        ensures link { link.new ≡ moved (rolled_back (named_by self.old.rows link.old)) link.old }
+        ensures link { link.new ≡ moved (rolled_back (named_by self.old.rows link.old)) (undo_rolled_back (named_by self.old.rows link.old) link.old.undo) link.old }
+        ensures count { CountsFall steps.old link.old.undo steps.new link.new.undo }
     {
         let before = link.depth();
-        link.start_rollback();
+        link.start_rollback(steps);
         self.runs.count_ended();
         self.open_links = remarked(before, link.depth(), self.open_links);
     }

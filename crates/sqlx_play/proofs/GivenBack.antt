@@ -26,7 +26,7 @@ use Rattle.sqlx_script.specs.Built.{accepts}
 use Rattle.mem_store.specs.Store.{Link, Store}
 use Rattle.sqlx_play.specs.declared.outside.ScriptOutside.{ScriptOutside}
 use Rattle.sqlx_play.specs.ScriptCalls.{Does}
-use Rattle.sqlx_play.specs.ScriptOutside.{depth_of, give_letters, is_left_open}
+use Rattle.sqlx_play.specs.ScriptOutside.{answers_ping, depth_of, give_letters, is_left_open}
 use Rattle.sqlx_play.proofs.LinksGone.{closed_in}
 
 -- ---- the tests
@@ -90,7 +90,7 @@ released-so false meta raw now c old new r = (
 )
 
 -- the ping
-pinged-so : (so_far : Check) (raw now : Link) (c : Check) (old new : ScriptOutside) → PingsIf {O = Unit {0}} Does depth_of so_far raw now c old new → Left raw now old new × (is_pass c ≡ (is_pass so_far && old.ping))
+pinged-so : (so_far : Check) (raw now : Link) (c : Check) (old new : ScriptOutside) → PingsIf {O = Unit {0}} Does depth_of so_far raw now c old new → Left raw now old new × (is_pass c ≡ (is_pass so_far && answers_ping old))
 pinged-so check.Pass raw now c old new p = (record { link = p.1.2.link; store = p.1.2.store }, ap is_pass p.2 ∙ pass-if (is_ok p.0) ∙ p.1.0)
 pinged-so check.Close raw now c old new p = (record { link = p.0; store = ap (λ (o : ScriptOutside). o.store) p.2 }, ap is_pass p.1)
 pinged-so check.CloseHard raw now c old new p = (record { link = p.0; store = ap (λ (o : ScriptOutside). o.store) p.2 }, ap is_pass p.1)

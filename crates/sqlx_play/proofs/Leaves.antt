@@ -4,17 +4,18 @@ use Rattle.std.proofs.lemmas.Bool.{cond-true, cond-false}
 use Rattle.sqlx_savepoints.specs.NamedSavepoints.{Named, write_at, wrote}
 use Rattle.mem_store.specs.declared.answer.Answer.{Answer}
 use Rattle.mem_store.specs.declared.runs.Runs.{Runs}
-use Rattle.mem_store.specs.Store.{Session, remarked}
+use Rattle.mem_store.specs.Store.{Link, Session, remarked}
+use Rattle.mem_store.specs.Undo.{Undo}
 use Rattle.mem_store.specs.Acts.{moved_to, written_to, store_read}
 use Rattle.sqlx_brackets.specs.Changes.{Change, History, writes}
 use Rattle.sqlx_brackets.specs.Links.{Linked, linked_after, linked_changed, named_at, link_of, moved}
 use Rattle.sqlx_play.specs.LinksStand.{side_of}
 
--- the session of connection c behind a history
-abbrev pub session_at : History → ℕ → ℕ → ℕ → ℕ → Runs → Answer → Session
-session_at past c number open_links given runs answer = record {
+-- the session of connection c behind a history, on this link
+abbrev pub session_at : History → ℕ → Link → ℕ → ℕ → Runs → Answer → Session
+session_at past c link open_links given runs answer = record {
   store = record { rows = (linked_after past).rows; open_links = open_links; given = given; runs = runs };
-  link = record { number = number; depth = ((linked_after past).link c).depth; own = ((linked_after past).link c).own; entries = ((linked_after past).link c).entries };
+  link = record link { depth = ((linked_after past).link c).depth; own = ((linked_after past).link c).own; entries = ((linked_after past).link c).entries };
   answer = answer;
 }
 
@@ -27,19 +28,19 @@ pub record Leaves (past new : History) (c : ℕ) (s t : Session) : Type 0 where
   pub given : t.store.given ≡ s.store.given
   pub open_links : ((t.store.open_links ≡ s.store.open_links) × (t.link.depth ≡ s.link.depth)) ⊎ (t.store.open_links ≡ remarked s.link.depth t.link.depth s.store.open_links)
 
-module _ (past : History) (c number open_links given : ℕ) (runs : Runs) (answer : Answer) where
+module _ (past : History) (c : ℕ) (link : Link) (open_links given : ℕ) (runs : Runs) (answer : Answer) where
   abbrev s : Session
-  s = session_at past c number open_links given runs answer
+  s = session_at past c link open_links given runs answer
 
-  pub leaves-none : (after : Answer) → Leaves past past c s (session_at past c number open_links given runs after)
+  pub leaves-none : (after : Answer) → Leaves past past c s (session_at past c link open_links given runs after)
   leaves-none after = record { rows = refl; side = refl; others = λ d e. refl; number = refl; given = refl; open_links = inl (refl, refl) }
 
   pub leaves-read : Leaves past past c s (record s { store = store_read s.store })
   leaves-read = record { rows = refl; side = refl; others = λ d e. refl; number = refl; given = refl; open_links = inl (refl, refl) }
 
-  pub leaves-moved : (change : Change) (state : Named) (after : Answer) (count : Runs) → linked_changed (linked_after past) change ≡ moved c state (linked_after past)
-      → Leaves past (change ∷ past) c s (moved_to state count (session_at past c number open_links given runs after))
-  leaves-moved change state after count e = record {
+  pub leaves-moved : (change : Change) (state : Named) (undo : Undo) (after : Answer) (count : Runs) → linked_changed (linked_after past) change ≡ moved c state (linked_after past)
+      → Leaves past (change ∷ past) c s (moved_to state undo count (session_at past c link open_links given runs after))
+  leaves-moved change state undo after count e = record {
     rows = sym (ap (λ (l : Linked). l.rows) e);
     side = sym (ap (λ (l : Linked). l.link c) e ∙ cond-true (c == c) (link_of state) ((linked_after past).link c) (eq-eqb c c refl));
     others = λ d apart. ap (λ (l : Linked). l.link d) e ∙ cond-false (d == c) (link_of state) ((linked_after past).link d) apart;

@@ -3,6 +3,7 @@ pub mod RunsAdded
 pub mod Lines
 pub mod Causes
 pub mod Scripts
+pub mod MadeLemmas
 pub mod Complete
 pub mod Stages
 pub mod SetUpLimits
@@ -17,6 +18,7 @@ pub mod CancelAndTry
 pub mod Dispatch
 pub mod Asked
 pub mod Polls
+pub mod PollTests
 pub mod PollPlays
 pub mod ScriptChain
 pub mod PolledPlays

@@ -1,5 +1,5 @@
 -- Links and store where a connection is opened, lent from the idle ones, or closed.
-use Rattle.std.proofs.Common.{◌≡◌, ℕ, ◌+◌, ◌==◌, ◌||◌, Bool, true, false, not, cond, List, [], ◌∷◌, ◌++◌, drop, count_by, refl, sym, ap, ◌∙◌, All, arith}
+use Rattle.std.proofs.Common.{◌≡◌, ℕ, ◌+◌, ◌≤◌, ◌==◌, ◌||◌, Bool, true, false, not, cond, List, [], ◌∷◌, ◌++◌, drop, count_by, refl, sym, ap, ◌∙◌, All, arith}
 use Rattle.std.proofs.lemmas.List.Elements.{All-push, All-head, All-tail, All-same}
 use Rattle.std.specs.List.{list_any}
 use Rattle.sqlx_text.specs.declared.Moment.{Moment}
@@ -8,9 +8,8 @@ use Rattle.sqlx_pool_core.specs.declared.steps.Idle.{Idle}
 use Rattle.sqlx_pool_core.specs.declared.ticket.Held.{Held}
 use Rattle.sqlx_pool_core.specs.Core.{Core}
 use Rattle.sqlx_pool_core.specs.Edits.{lent_to, took, opened}
-use Rattle.sqlx_pool_core.specs.Sound.{IsSound, rests}
+use Rattle.sqlx_pool_core.specs.Sound.{holds, rests}
 use Rattle.sqlx_log.proofs.ListFacts.{number_comm, same_number, list_any-push, count_by-push, count_by-cons, count_by-map, map-push, All-passing}
-use Rattle.sqlx_pool_core.proofs.Known.{IsIdle, idle-first}
 use Rattle.mem_store.specs.Store.{Store, Link, connected, closed_at}
 use Rattle.mem_store.specs.Store as driver
 use Rattle.sqlx_brackets.specs.Changes.{History, leaves}
@@ -89,9 +88,9 @@ module _ (core : Core Link) (store : Store) (lent : List (Lent Link)) (history :
         new : Lent Link
         new = record { id = i.lent.id; created = created; raw = i.lent.raw }
 
-    -- it is closed
-    pub links-closed : IsSound core → LinksStand (took core) (closed_at i.lent.raw.depth store) lent (leaves i.lent.id ∷ history)
-    links-closed sound = record {
+    -- it is closed, where each connection is owned or idle at most once
+    pub links-closed : ((c : ℕ) → count_by (holds c) core.held + count_by (rests c) core.idle ≤ 1) → LinksStand (took core) (closed_at i.lent.raw.depth store) lent (leaves i.lent.id ∷ history)
+    links-closed alone = record {
       accepted = (tt, s.accepted);
       rows = s.rows;
       owned = s.owned;
@@ -105,18 +104,19 @@ module _ (core : Core Link) (store : Store) (lent : List (Lent Link)) (history :
       open_links = let all = s.open_links in let flat = first_link.rests in omega (arith, all, flat);
     }
       where
-        known : IsIdle core sound i.lent.id
-        known = idle-first core sound i rest e
+        whole : count_by (rests i.lent.id) core.idle ≡ 1 + count_by (rests i.lent.id) rest
+        whole =
+            ap (count_by (rests i.lent.id)) e ∙ count_by-cons (rests i.lent.id) i rest
+            ∙ ap (λ (b : Bool). cond {A = ℕ} b 1 0 + count_by (rests i.lent.id) rest) (same_number i.lent.id)
+
+        unowned : count_by (holds i.lent.id) core.held ≡ 0
+        unowned = let all = whole in let one = alone i.lent.id in omega (arith, all, one)
 
         no_lent : count_by (λ (l : Lent Link). i.lent.id == l.id) lent ≡ 0
-        no_lent = sym (count_by-map (λ (l : Lent Link). l.id) (λ (c : ℕ). i.lent.id == c) lent) ∙ ap (count_by (λ (c : ℕ). i.lent.id == c)) s.owned ∙ count_by-map (λ (h : Held). h.conn) (λ (c : ℕ). i.lent.id == c) core.held ∙ known.unowned
+        no_lent = sym (count_by-map (λ (l : Lent Link). l.id) (λ (c : ℕ). i.lent.id == c) lent) ∙ ap (count_by (λ (c : ℕ). i.lent.id == c)) s.owned ∙ count_by-map (λ (h : Held). h.conn) (λ (c : ℕ). i.lent.id == c) core.held ∙ unowned
 
         no_rest : count_by (rests i.lent.id) rest ≡ 0
-        no_rest =
-            let first : cond {A = ℕ} (i.lent.id == i.lent.id) 1 0 ≡ 1 = ap (λ (b : Bool). cond {A = ℕ} b 1 0) (same_number i.lent.id) in
-            let whole = ap (count_by (rests i.lent.id)) e ∙ count_by-cons (rests i.lent.id) i rest in
-            let one = known.idle in
-            omega (arith, first, whole, one)
+        no_rest = let all = whole in let one = alone i.lent.id in omega (arith, all, one)
 
         stays : (d : ℕ) → not (i.lent.id == d) ≡ true → (linked_after history).link d ≡ cond (d == i.lent.id) new_link ((linked_after history).link d)
         stays d other = by (d == i.lent.id) (ap not (number_comm d i.lent.id) ∙ other)

@@ -2,11 +2,9 @@
 use Rattle.std.proofs.Common.{◌≡◌, ℕ, ◌-◌, ◌^◌, ◌≤◌, ◌==◌, Bool, true, false, cond, List, [], ◌∷◌, ◌++◌, max, Some, None, refl, sym, ap, subst, ◌∙◌, arith}
 use Rattle.std.proofs.Math.Nat.{max-eq_right}
 use Rattle.std.proofs.lemmas.Bool.{eqb-true}
-use Rattle.std.proofs.lemmas.List.Elements.{All-head, All-same}
 use Rattle.sqlx_text.specs.declared.Moment.{Moment}
 use Rattle.sqlx_log.specs.declared.mark.Mark.{Mark}
 use Rattle.sqlx_pool_core.specs.declared.ticket.Phase.TheVariants as phase
-use Rattle.sqlx_pool_core.specs.declared.steps.Idle.{Idle}
 use Rattle.sqlx_pool_core.specs.declared.steps.Start.{Start}
 use Rattle.sqlx_log.specs.Marks.{idle_of}
 use Rattle.sqlx_pool_core.specs.Core.{Core}
@@ -16,11 +14,9 @@ use Rattle.sqlx_pool_core.proofs.Known.{ticket-number}
 use Rattle.mem_store.specs.Store.{Link}
 use Rattle.sqlx_script.specs.declared.answers.PollAnswers.{PollAnswers}
 use Rattle.sqlx_script.specs.declared.reply.Reply.TheVariants as reply
-use Rattle.sqlx_brackets.specs.Links.{linked_after}
 use Rattle.sqlx_play.specs.declared.stage.Stage.{Stage}
-use Rattle.sqlx_rules.specs.ScriptMarks.{marks_of, first_of, leaving, taking, polled}
+use Rattle.sqlx_rules.specs.ScriptMarks.{marks_of, waits, trying, polled}
 use Rattle.sqlx_rules.specs.ScriptLevels.{gone_by, history_of}
-use Rattle.sqlx_play.specs.LinksStand.{IsRestingLink}
 use Rattle.sqlx_rules.specs.Tries.{tries_of, backed_off}
 use Rattle.sqlx_play.specs.StageStands.{IsTriedAt, StageStands, numbers_of}
 use Rattle.sqlx_rules.proofs.Pairs.{tries_of-push}
@@ -64,10 +60,5 @@ early-stands stage core pairs moment k t until answers s a becomes =
     stays-standing stage pairs (pair_of moment k t answers (reply.Backoff until)) s (early_tries stage pairs moment k t until answers s a)
     (ap (λ (l : List Mark). gone_by l (history_of stage.pool pairs)) none_made) core becomes none_made
   where
-    none_made : polled (marks_of stage.pool pairs) moment.0 k t (reply.Backoff until) ≡ []
-    none_made = λ i. leaving t (waits-backoff stage.core (marks_of stage.pool pairs) k t s.stands a.x until a.found a.backs_off i)
-        ++ taking (cond (waits-backoff stage.core (marks_of stage.pool pairs) k t s.stands a.x until a.found a.backs_off i) (first_of (idle_of (marks_of stage.pool pairs))) None) None
-
--- the first idle connection has no open level
-pub first-rests : (stage : Stage) (pairs : Pairs) → StageStands stage pairs → (i : Idle Link) (rest : List (Idle Link)) → stage.core.idle ≡ i ∷ rest → i.lent.raw.depth ≡ 0
-first-rests stage pairs s i rest idle = (All-head (λ (j : Idle Link). IsRestingLink (linked_after (history_of stage.pool pairs)) j.lent.id j.lent.raw) i rest (All-same (λ (j : Idle Link). IsRestingLink (linked_after (history_of stage.pool pairs)) j.lent.id j.lent.raw) (i ∷ rest) stage.core.idle (sym idle) s.links.idle_links)).rests
+    none_made : polled stage.pool.tries moment.0 k t (waits k t (marks_of stage.pool pairs)) (idle_of (marks_of stage.pool pairs)) (reply.Backoff until) ≡ []
+    none_made = ap (λ (b : Bool). trying stage.pool.tries t b (idle_of (marks_of stage.pool pairs)) None) (waits-backoff stage.core (marks_of stage.pool pairs) k t s.stands a.x until a.found a.backs_off)

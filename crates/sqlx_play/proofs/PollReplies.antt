@@ -1,5 +1,5 @@
 -- The reply to a poll, by what the core's first step answers.
-use Rattle.std.proofs.Common.{◌≡◌, ℕ, ◌-◌, ◌^◌, ◌≤◌, Bool, true, false, cond, List, [], ◌∷◌, map, Option, Some, None, option_map, nat_le, nat_lt, All, refl, sym, ap, ◌∙◌, arith}
+use Rattle.std.proofs.Common.{◌≡◌, ℕ, zero, suc, ◌-◌, ◌^◌, ◌≤◌, Bool, true, false, cond, List, [], ◌∷◌, map, take, Option, Some, None, option_map, nat_le, nat_lt, All, refl, sym, ap, ◌∙◌, arith}
 use Rattle.std.proofs.lemmas.Bool.{le-ltb}
 use Rattle.sqlx_log.specs.declared.mark.Mark.{Mark}
 use Rattle.sqlx_log.specs.declared.turn.Turn.{Turn}
@@ -25,37 +25,44 @@ use Rattle.sqlx_pool_core.proofs.Stands.{stands-in}
 use Rattle.sqlx_pool_core.proofs.TurnAtMarks.{free-places, before-asking}
 use Rattle.mem_store.specs.Store.{Link}
 use Rattle.sqlx_script.specs.declared.answers.PollAnswers.{PollAnswers}
+use Rattle.sqlx_script.specs.declared.pool_line.PoolLine.{PoolLine}
 use Rattle.sqlx_script.specs.declared.reply.Reply.{Reply}
 use Rattle.sqlx_script.specs.declared.reply.Reply.TheVariants as reply
-use Rattle.sqlx_rules.specs.ScriptMarks.{marks_of, first_of}
+use Rattle.sqlx_rules.specs.ScriptMarks.{marks_of}
 use Rattle.sqlx_rules.specs.Tries.{tries_of, until_of, until_after}
-use Rattle.sqlx_rules.specs.Answer.{passes_test, connect_reply, turn_reply, poll_reply}
+use Rattle.sqlx_rules.specs.Answer.{connect_reply, refused_tests, conn_at, passing_of, idle_reply, turn_reply, poll_reply}
 use Rattle.sqlx_play.specs.declared.stage.Stage.{Stage}
 use Rattle.sqlx_play.specs.StageStands.{IsTried, IsTriedAt, StageStands}
 use Rattle.sqlx_rules.specs.Pairs.{Pairs}
 
 -- the reply where the core's first step answers this
-abbrev pub start_reply : Bool → Reply → Start Link → Reply
-start_reply passes connecting start.NotHeld = reply.NotHeld
-start_reply passes connecting start.Closed = reply.PoolClosed
-start_reply passes connecting start.TimedOut = reply.PoolTimedOut
-start_reply passes connecting start.Exhausted = connecting
-start_reply passes connecting start.Waiting = reply.Waiting
-start_reply passes connecting (start.Backoff until) = reply.Backoff until
-start_reply passes connecting (start.Test i) = cond passes (reply.Ready i.lent.id) connecting
-start_reply passes connecting start.Connect = connecting
+abbrev pub start_reply : Option ℕ → Reply → Start Link → Reply
+start_reply passing connecting start.NotHeld = reply.NotHeld
+start_reply passing connecting start.Closed = reply.PoolClosed
+start_reply passing connecting start.TimedOut = reply.PoolTimedOut
+start_reply passing connecting start.Exhausted = connecting
+start_reply passing connecting start.Waiting = reply.Waiting
+start_reply passing connecting (start.Backoff until) = reply.Backoff until
+start_reply passing connecting (start.Test i) = idle_reply passing connecting
+start_reply passing connecting start.Connect = connecting
+
+-- where none is idle, none passes its test
+none-at : (q n : ℕ) → conn_at q (take n []) ≡ None
+none-at q zero = refl
+none-at q (suc n) = refl
 
 -- it is the reply by the turn
-start-turn : (passes : Bool) (connecting : Reply) (w : Turn) (idle : List (Idle Link)) → start_reply passes connecting (start_answer w idle) ≡ turn_reply passes (first_of (map resting idle)) connecting w
-start-turn passes connecting turn.NotHeld idle = refl
-start-turn passes connecting turn.Closed idle = refl
-start-turn passes connecting turn.TimedOut idle = refl
-start-turn passes connecting turn.Exhausted idle = refl
-start-turn passes connecting turn.Waiting idle = refl
-start-turn passes connecting (turn.Backoff until) idle = refl
-start-turn passes connecting turn.Test [] = refl
-start-turn passes connecting turn.Test (i ∷ rest) = refl
-start-turn passes connecting turn.Connect idle = refl
+start-turn : (pool : PoolLine) (answers : PollAnswers) (connecting : Reply) (w : Turn) (idle : List (Idle Link))
+    → start_reply (passing_of pool answers (map resting idle)) connecting (start_answer w idle) ≡ turn_reply (passing_of pool answers (map resting idle)) connecting w
+start-turn pool answers connecting turn.NotHeld idle = refl
+start-turn pool answers connecting turn.Closed idle = refl
+start-turn pool answers connecting turn.TimedOut idle = refl
+start-turn pool answers connecting turn.Exhausted idle = refl
+start-turn pool answers connecting turn.Waiting idle = refl
+start-turn pool answers connecting (turn.Backoff until) idle = refl
+start-turn pool answers connecting turn.Test [] = ap (λ (o : Option ℕ). idle_reply o connecting) (sym (none-at (refused_tests pool answers) pool.tries))
+start-turn pool answers connecting turn.Test (i ∷ rest) = refl
+start-turn pool answers connecting turn.Connect idle = refl
 
 -- where numbers are left, none need have been drawn
 numbers-left : {X : Type 0} (m : ℕ) (q shut : Bool) (n : ℕ) (idle : List X) (deadline : ℕ) (left : Bool) (until : ℕ) → n ≤ 2 ^ 63 → turn_at_rest m q shut n idle deadline left until ≡ turn_at_rest m q shut 0 idle deadline left until
@@ -87,11 +94,15 @@ module _ (stage : Stage) (pairs : Pairs) (s : StageStands stage pairs) (k t m : 
   connecting None = reply.NotHeld
   connecting (Some x) = connect_reply stage.pool answers stage.core.next_conn (until_after m x.deadline (tries_of t pairs)) answers.connect
 
+  -- the idle connection that passes its test
+  abbrev pub passing : Option ℕ
+  passing = passing_of stage.pool answers (map resting stage.core.idle)
+
   abbrev marks : List Mark
   marks = marks_of stage.pool pairs
 
   abbrev by_turn : Ticket → Turn → Reply
-  by_turn x w = turn_reply (passes_test stage.pool answers) (first_of (map resting stage.core.idle)) (connecting (Some x)) w
+  by_turn x w = turn_reply passing (connecting (Some x)) w
 
   abbrev table : Ticket → Bool → ℕ → Turn
   table x left until = turn_at_rest m (is_first_in_line x.number stage.core) stage.core.shut 0 stage.core.idle x.deadline left until
@@ -109,7 +120,7 @@ module _ (stage : Stage) (pairs : Pairs) (s : StageStands stage pairs) (k t m : 
       by_marks : poll_reply stage.pool answers marks m (tries_of t pairs) (Some (asking x))
           ≡ by_turn x (turn_at_rest m (is_first_in_line x.number stage.core) stage.core.shut 0 (map resting stage.core.idle) x.deadline (is_out x.phase) (until_of (tries_of t pairs)))
       by_marks = λ i.
-          turn_reply (passes_test stage.pool answers) (first_of (sym s.stands.idle i)) (conn i)
+          turn_reply (passing_of stage.pool answers (sym s.stands.idle i)) (conn i)
           (turn_at_rest m (nat_lt (preceding i) (free-is stage pairs s i)) (sym s.stands.shut i) 0 (sym s.stands.idle i) x.deadline (is_out x.phase) (until_of (tries_of t pairs)))
 
   -- the core's own turn
@@ -129,17 +140,17 @@ module _ (stage : Stage) (pairs : Pairs) (s : StageStands stage pairs) (k t m : 
 
   at_ticket : (o : Option Ticket) → ticket_of k t stage.core.tickets ≡ o
       → poll_reply stage.pool answers marks m (tries_of t pairs) (option_map asking o)
-      ≡ start_reply (passes_test stage.pool answers) (connecting o) (start_answer (turn_of (is_first_in_line t stage.core) stage.core.shut m stage.core o) stage.core.idle)
+      ≡ start_reply passing (connecting o) (start_answer (turn_of (is_first_in_line t stage.core) stage.core.shut m stage.core o) stage.core.idle)
   at_ticket None found = refl
   at_ticket (Some x) found =
       to_core x
       ∙ ap (by_turn x) (sym (from_core x x.phase (ticket-number k t stage.core.tickets x found) (tried-of k t pairs stage.core.tickets x s.tried found)))
-      ∙ sym (start-turn (passes_test stage.pool answers) (connecting (Some x)) (turn_of (is_first_in_line t stage.core) stage.core.shut m stage.core (Some x)) stage.core.idle)
+      ∙ sym (start-turn stage.pool answers (connecting (Some x)) (turn_of (is_first_in_line t stage.core) stage.core.shut m stage.core (Some x)) stage.core.idle)
 
   -- the reply is that of the core's first step
   pub poll-reply : (r : Start Link) → r ≡ start_answer (own_turn stage.core k t m) stage.core.idle
-      → start_reply (passes_test stage.pool answers) (connecting (ticket_of k t stage.core.tickets)) r
+      → start_reply passing (connecting (ticket_of k t stage.core.tickets)) r
       ≡ poll_reply stage.pool answers (marks_of stage.pool pairs) m (tries_of t pairs) (asked_in k t (tickets_of (marks_of stage.pool pairs)))
   poll-reply r own =
-      ap (start_reply (passes_test stage.pool answers) (connecting (ticket_of k t stage.core.tickets))) own
+      ap (start_reply passing (connecting (ticket_of k t stage.core.tickets))) own
       ∙ sym (ap (poll_reply stage.pool answers (marks_of stage.pool pairs) m (tries_of t pairs)) (asked-is stage.core (marks_of stage.pool pairs) k t s.stands) ∙ at_ticket (ticket_of k t stage.core.tickets) refl)

@@ -18,7 +18,7 @@ use Rattle.mem_store.specs.Store.{Link, Store}
 use Rattle.sqlx_play.specs.declared.outside.ScriptOutside.{ScriptOutside}
 use Rattle.sqlx_play.specs.ScriptCalls.{Does}
 use Rattle.sqlx_play.specs.ScriptOutside.{depth_of, poll_letters}
-use Rattle.sqlx_play.proofs.ScriptChain.{tested_store, Tried, opened, refused_hook, passing, failed, tested-told, tried-told}
+use Rattle.sqlx_play.proofs.ScriptChain.{tested_store, letters_after, Tried, opened, refused_hook, passing, failed, tested-told, tried-told}
 
 pub record Moved (m : ℕ) (core new : Core Link) (old now : ScriptOutside) : Type 0 where
   pub runs : now.store.runs ≡ old.store.runs
@@ -100,7 +100,7 @@ tested-runs : (v : Verdict Link) (raw : Link) (store : Store) → (tested_store 
 tested-runs (verdict.Accepted lent) raw store = refl
 tested-runs (verdict.Refused c) raw store = refl
 
-module _ (k t m : ℕ) (answers : PollAnswers) where
+module _ (k t m : ℕ) where
   same_core : (core new : Core Link) (old now : ScriptOutside) → new ≡ core → now ≡ old → Moved m core new old now
   same_core core new old now is e = record {
     runs = same_runs old now e;
@@ -109,18 +109,18 @@ module _ (k t m : ℕ) (answers : PollAnswers) where
     conn = subst (λ (n : Core Link). n.next_conn ≤ core.next_conn + 1) (sym is) (one-more core.next_conn);
   }
 
-  goes-moves : (verdicts : List (Verdict Link)) (next : Next Link) (core new : Core Link) (old now : ScriptOutside) (got : Polled Link) (later : List Mark) → poll_letters old ≡ answers → old.opens ≡ 0
+  goes-moves : (answers : PollAnswers) (verdicts : List (Verdict Link)) (next : Next Link) (core new : Core Link) (old now : ScriptOutside) (got : Polled Link) (later : List Mark) → poll_letters old ≡ answers → old.opens ≡ 0
       → Goes {O = Unit {0}} Does depth_of tt k t m verdicts next core new old now got later → Moved m core new old now
-  goes-moves [] (Answer a) core new old now got later letters none g = same_core core new old now g.2 g.3
-  goes-moves [] Connect core new old now got later letters none g = by_connect k t m core new core old old now refl refl refl answers got later letters none g
-  goes-moves [] (Test i) core new old now got later letters none g = absurd g
-  goes-moves (v ∷ vs) (Test i) core new old now got later letters none g =
+  goes-moves answers [] (Answer a) core new old now got later letters none g = same_core core new old now g.2 g.3
+  goes-moves answers [] Connect core new old now got later letters none g = by_connect k t m core new core old old now refl refl refl answers got later letters none g
+  goes-moves answers [] (Test i) core new old now got later letters none g = absurd g
+  goes-moves answers (v ∷ vs) (Test i) core new old now got later letters none g =
       let t_is = tested-told answers core.options m i v old g.0 letters g.1.1.0 in
       then-moved m core (after_test k t (judges k t core i v) core) new old g.0 now (ap (λ (s : Store). s.runs) t_is.store ∙ tested-runs v i.lent.raw old.store)
       (test-last k t (judges k t core i v) core) (test-ticket k t (judges k t core i v) core) (test-conn k t (judges k t core i v) core)
-      (goes-moves vs (then_by (judges k t core i v)) (after_test k t (judges k t core i v) core) new g.0 now got g.1.0 t_is.letters (t_is.opens ∙ none) g.1.1.2)
-  goes-moves (v ∷ vs) (Answer a) core new old now got later letters none g = absurd g
-  goes-moves (v ∷ vs) Connect core new old now got later letters none g = absurd g
+      (goes-moves (letters_after v answers) vs (then_by (judges k t core i v)) (after_test k t (judges k t core i v) core) new g.0 now got g.1.0 t_is.letters (t_is.opens ∙ none) g.1.1.2)
+  goes-moves answers (v ∷ vs) (Answer a) core new old now got later letters none g = absurd g
+  goes-moves answers (v ∷ vs) Connect core new old now got later letters none g = absurd g
 
   -- the core's last moment is that of the poll, where its first step is no answer that changes nothing
   begun-moves : (begun : Start Link) (core new : Core Link) (old now : ScriptOutside) → Moved m (started t m begun core) new old now → Moved m core new old now
@@ -137,4 +137,4 @@ pub polled-moves : (k t m n : ℕ) (answers : PollAnswers) (core new : Core Link
     → Polls {O = Unit {0}} Does depth_of tt k t m core new out now got → Moved n core new out now
 polled-moves k t m n answers core new out now letters none at got p =
     let w = subst (λ (j : ℕ). Polls {O = Unit {0}} Does depth_of tt k t j core new out now got) at p in
-    begun-moves k t n answers w.begun core new out now (goes-moves k t n answers w.verdicts (first w.begun) (started t n w.begun core) new out now got w.later letters none w.goes)
+    begun-moves k t n w.begun core new out now (goes-moves k t n answers w.verdicts (first w.begun) (started t n w.begun core) new out now got w.later letters none w.goes)

@@ -1,5 +1,11 @@
 -- A poll of the pool plays the event.
-use Rattle.std.proofs.Common.{◌≡◌, ℕ, ◌+◌, ◌^◌, ◌≤◌, Bool, true, false, cond, List, [], ◌∷◌, ◌++◌, Option, Some, None, Result, Ok, Err, IfOk, OnOk, All, refl, sym, ap, subst, ◌∙◌}
+use Rattle.std.proofs.Common.{◌≡◌, ℕ, zero, suc, ◌+◌, ◌-◌, ◌^◌, ◌≤◌, ◌==◌, Bool, true, false, cond, List, [], ◌∷◌, ◌++◌, map, take, Option, Some, None, option_map, nat_lt, Result, Ok, Err, IfOk, OnOk, All, refl, sym, ap, subst, ◌∙◌, append_assoc, arith}
+use Rattle.std.proofs.lemmas.Bool.{eqb-true, lt-ltb, le-ltb}
+use Rattle.std.proofs.lemmas.List.Elements.{All-head}
+use Rattle.sqlx_script.specs.Letters.{answering}
+use Rattle.sqlx_brackets.specs.Links.{linked_after}
+use Rattle.sqlx_log.specs.Marks.{IdleEntry}
+use Rattle.sqlx_pool_core.proofs.Known.{ticket-changed}
 use Rattle.sqlx_text.specs.declared.Moment.{Moment}
 use Rattle.sqlx_text.specs.declared.error.Error.{Error}
 use Rattle.sqlx_log.specs.declared.mark.Mark.{Mark}
@@ -10,8 +16,6 @@ use Rattle.sqlx_pool_core.specs.declared.ticket.Phase.TheVariants as phase
 use Rattle.sqlx_pool_core.specs.declared.steps.AfterTest.{AfterTest}
 use Rattle.sqlx_pool_core.specs.declared.steps.AfterTest.TheVariants as tested
 use Rattle.sqlx_pool_core.specs.Chain.{Tests}
-use Rattle.sqlx_pool_core.specs.PollParts.{untested}
-use Rattle.sqlx_pool_core.proofs.WholePoll.{takes, taken-phase}
 use Rattle.sqlx_pool_core.specs.declared.steps.Lent.{Lent}
 use Rattle.sqlx_pool_core.specs.declared.steps.Idle.{Idle}
 use Rattle.sqlx_pool_core.specs.declared.steps.Start.{Start}
@@ -20,8 +24,8 @@ use Rattle.sqlx_pool_core.specs.declared.steps.Verdict.{Verdict}
 use Rattle.sqlx_pool_core.specs.declared.steps.Verdict.TheVariants as verdict
 use Rattle.sqlx_pool_core.specs.declared.steps.Polled.{Polled}
 use Rattle.sqlx_pool_core.specs.declared.steps.Polled.TheVariants as polled
-use Rattle.sqlx_pool_core.specs.Core.{Core, ticket_of}
-use Rattle.sqlx_pool_core.specs.Edits.{ended, lent_to}
+use Rattle.sqlx_pool_core.specs.Core.{Core, resting, ticket_of}
+use Rattle.sqlx_pool_core.specs.Edits.{ended, lent_to, with_ticket, to_connect}
 use Rattle.sqlx_pool_core.specs.Makes.{Makes}
 use Rattle.sqlx_log.specs.Marks.{tickets_of}
 use Rattle.sqlx_log.specs.Counts.{asked_in}
@@ -32,7 +36,7 @@ use Rattle.sqlx_pool_core.specs.PollSteps.{phase_for, start_answer, start_marks,
 use Rattle.sqlx_pool_core.specs.PollSteps as steps
 use Rattle.sqlx_pool_core.specs.declared.probe.Opening.{Opening}
 use Rattle.sqlx_pool_core.specs.declared.probe.Opening.TheVariants as opening
-use Rattle.sqlx_pool_core.specs.Walk.{Connect, first, then_by, last, judges, tells, Connects, Goes, Polls}
+use Rattle.sqlx_pool_core.specs.Walk.{Test, Connect, first, then_by, last, judges, tells, Connects, Goes, Polls}
 use Rattle.sqlx_script.specs.declared.answers.ConnectAnswer.{ConnectAnswer}
 use Rattle.sqlx_script.specs.declared.answers.ConnectAnswer.TheVariants as letter
 use Rattle.sqlx_script.specs.declared.answers.PollAnswers.{PollAnswers}
@@ -40,20 +44,20 @@ use Rattle.sqlx_script.specs.declared.pool_line.PoolLine.{PoolLine}
 use Rattle.sqlx_script.specs.declared.step.Step.TheVariants.{Poll}
 use Rattle.sqlx_script.specs.declared.reply.Reply.{Reply}
 use Rattle.sqlx_script.specs.declared.reply.Reply.TheVariants as reply
-use Rattle.mem_store.specs.Store.{Link, closed_at}
+use Rattle.mem_store.specs.Store.{Link, Store, closed_at}
 use Rattle.sqlx_play.specs.declared.error.PlayError.{PlayError}
 use Rattle.sqlx_brackets.specs.Changes.{History}
 use Rattle.sqlx_play.specs.declared.outside.ScriptOutside.{ScriptOutside}
 use Rattle.sqlx_play.specs.declared.stage.Stage.{Stage}
-use Rattle.sqlx_rules.specs.Answer.{answer, passes_test, connect_reply, poll_reply}
+use Rattle.sqlx_rules.specs.Answer.{answer, passes_test, refused_tests, conn_at, passing_of, idle_reply, connect_reply, poll_reply}
 use Rattle.sqlx_play.specs.PlaysEvent.{PlaysEvent}
 use Rattle.sqlx_play.specs.PolledReply.{refusal_reply, reply_of, owned_after}
 use Rattle.sqlx_play.specs.ConnectByReply.{connect_marks, after_connect}
 use Rattle.sqlx_play.specs.ScriptCalls.{Does, is_passing}
 use Rattle.sqlx_rules.specs.ScriptLevels.{gone_by, history_of}
-use Rattle.sqlx_rules.specs.ScriptMarks.{marks_of, leaving, waits}
+use Rattle.sqlx_rules.specs.ScriptMarks.{marks_of, refusing, waits}
 use Rattle.sqlx_play.specs.ScriptOutside.{depth_of, poll_letters, refused_by, refusal_of}
-use Rattle.sqlx_play.specs.LinksStand.{LinksStand}
+use Rattle.sqlx_play.specs.LinksStand.{LinksStand, IsRestingLink}
 use Rattle.sqlx_play.specs.StageStands.{IsSetUp, IsTried, StageStands}
 use Rattle.sqlx_rules.specs.Tries.{tries_of}
 use Rattle.sqlx_rules.specs.Pairs.{Pairs}
@@ -62,11 +66,12 @@ use Rattle.sqlx_play.proofs.LinksMoves.{links-opened, links-rejected}
 use Rattle.sqlx_rules.proofs.Pairs.{tries_of-push}
 use Rattle.sqlx_play.proofs.CancelAndTry.{stays-standing, ends-standing}
 use Rattle.sqlx_play.proofs.PollTurns.{at-test, at-connect, at-backoff}
-use Rattle.sqlx_play.proofs.PollMarks.{leaving-connect}
+use Rattle.sqlx_play.proofs.PollMarks.{leaving, leaving-connect}
 use Rattle.sqlx_play.proofs.PollReplies.{connecting, poll-reply}
-use Rattle.sqlx_play.proofs.Polls.{pair_of, Connecting, connect-stands, tested-stands, at-connect-connects, refused-connects}
-use Rattle.sqlx_play.proofs.PollPlays.{early-stands, first-rests}
-use Rattle.sqlx_play.proofs.ScriptChain.{is_ready, Tried, opened, refused_hook, passing, failed, tested-told, tried-told}
+use Rattle.sqlx_play.proofs.Polls.{pair_of, Connecting, connect-stands, at-connect-connects}
+use Rattle.sqlx_play.proofs.PollTests.{Testing, first-test, next-test, refused-connects, tested-stands}
+use Rattle.sqlx_play.proofs.PollPlays.{early-stands}
+use Rattle.sqlx_play.proofs.ScriptChain.{is_ready, Tried, opened, refused_hook, passing, failed, tested-told, tried-told, tried-answering}
 
 -- a stage that is equal part by part stands for the same
 stands-as : (one two : Stage) (pairs : Pairs) → two.core ≡ one.core → two.out.store ≡ one.out.store → two.lent.items ≡ one.lent.items → two.pool ≡ one.pool → StageStands one pairs → StageStands two pairs
@@ -81,15 +86,29 @@ stands-as one two pairs core store items pool s =
           (links-as one.core two.core one.out.store two.out.store one.lent.items two.lent.items (history_of one.pool pairs) core store items s.links);
     }
 
--- where a poll tests one connection at most, a refused one is followed by a connect
-tested-once : (core : Core Link) (k t : ℕ) (i : Idle Link) (c : ℕ) → phase_for k t core.tickets ≡ Some (phase.Testing i.lent.id i.lent.created 0) → core.options.idle_tries ≡ 1 → judges k t core i (verdict.Refused c) ≡ tested.Connect
-tested-once core k t i c is one = λ j. after_refusal (may_test_next (one j) (is j)) core.idle
-
 same-reply : (a b : Reply) → Some a ≡ Some b → a ≡ b
 same-reply a b e = cc
 
 no-reply : (b : Reply) → None ≡ Some b → ⊥
 no-reply b e = cc
+
+-- the first of those that may be tested
+first-of : (n : ℕ) → 1 ≤ n → (first : IdleEntry) (rest : List IdleEntry) → conn_at 0 (take n (first ∷ rest)) ≡ Some first.conn
+first-of zero some first rest = absurd (omega (arith, some))
+first-of (suc n) some first rest = refl
+
+-- behind a refused test the letters refuse one less
+fewer : (passes : Bool) (j : ℕ) → (cond {A = ℕ} passes 0 j == 0) ≡ false → cond {A = ℕ} passes 0 j ≡ suc (cond {A = ℕ} passes 0 (j - 1))
+fewer true j e = absurd cc
+fewer false zero e = absurd cc
+fewer false (suc j) e = omega arith
+
+closed-marks : (front : List Mark) (c : ℕ) (later : List Mark) → (front ++ mark.Taken c ∷ []) ++ (mark.Closed c ∷ later) ≡ (front ++ mark.Taken c ∷ mark.Closed c ∷ []) ++ later
+closed-marks front c later = append_assoc front (mark.Taken c ∷ []) (mark.Closed c ∷ later) ∙ sym (append_assoc front (mark.Taken c ∷ mark.Closed c ∷ []) later)
+
+next-marks : (front : List Mark) (c d : ℕ) (later : List Mark)
+    → (front ++ mark.Taken c ∷ []) ++ (mark.Closed c ∷ mark.Taken d ∷ later) ≡ ((front ++ mark.Taken c ∷ mark.Closed c ∷ []) ++ mark.Taken d ∷ []) ++ later
+next-marks front c d later = closed-marks front c (mark.Taken d ∷ later) ∙ sym (append_assoc (front ++ mark.Taken c ∷ mark.Closed c ∷ []) (mark.Taken d ∷ []) later)
 
 module _ (stage new : Stage) (moment : Moment) (k t : ℕ) (answers : PollAnswers) (out : ScriptOutside) (few : stage.core.next_conn ≤ 2 ^ 63) (sound : IsSound stage.core)
     (letters : poll_letters out ≡ answers) (none : out.opens ≡ 0) (left : out.left_open ≡ None) (store : out.store ≡ stage.out.store) (pool : new.pool ≡ stage.pool)
@@ -172,20 +191,114 @@ module _ (stage new : Stage) (moment : Moment) (k t : ℕ) (answers : PollAnswer
     by_opening o later (failed e is never same) makes end = failed_by e answers.connect (refused_by e) later refl never refl is same makes end
 
     -- the event, where a connect follows
-    connects-so : (later : List Mark) → poll_letters midout ≡ answers → midout.opens ≡ 0 → Connects {O = Unit {0}} Does depth_of tt k t moment.0 mid new.core midout new.out got later → Made (made ++ later) → Is r
-    connects-so later letters_now none_now n makes =
+    connects-so : (j : ℕ) (later : List Mark) → poll_letters midout ≡ answering answers j → midout.opens ≡ 0 → Connects {O = Unit {0}} Does depth_of tt k t moment.0 mid new.core midout new.out got later → Made (made ++ later) → Is r
+    connects-so j later letters_now none_now n makes =
         let same : n.x ≡ c.y = one_ticket n.x c.y (sym n.found ∙ c.found_now) in
-        by_opening n.opening later (tried-told answers mid.options.after_connect n.opening midout new.out letters_now none_now n.tries) makes
+        by_opening n.opening later (tried-answering mid.options.after_connect answers j midout new.out n.opening (tried-told (answering answers j) mid.options.after_connect n.opening midout new.out letters_now none_now n.tries)) makes
         (subst (λ (x : Ticket). (got ≡ last (tells moment.0 x mid n.opening) n.opening) × (new.core ≡ steps.after_connect k t moment.0 (tells moment.0 x mid n.opening) mid) × (later ≡ steps.connect_marks k t moment.0 (tells moment.0 x mid n.opening))) same (n.answer, n.becomes, n.marks))
       where
         one_ticket : (a b : Ticket) → Some a ≡ Some b → a ≡ b
         one_ticket a b e = cc
 
-  -- ---- the whole poll
+  -- ---- tests, one behind another
 
-  passes-by : (b : Bool) (i : Idle Link) → b ≡ passes_test stage.pool answers
-      → cond b (reply.Ready i.lent.id) (connecting stage pairs s k t moment.0 answers few (ticket_of k t stage.core.tickets)) ≡ cond (passes_test stage.pool answers) (reply.Ready i.lent.id) (connecting stage pairs s k t moment.0 answers few (ticket_of k t stage.core.tickets))
-  passes-by b i e = ap (λ (d : Bool). cond d (reply.Ready i.lent.id) (connecting stage pairs s k t moment.0 answers few (ticket_of k t stage.core.tickets))) e
+  abbrev passes_now : Option ℕ
+  passes_now = passing_of stage.pool answers (map resting stage.core.idle)
+
+  abbrev otherwise : Reply
+  otherwise = connecting stage pairs s k t moment.0 answers few (ticket_of k t stage.core.tickets)
+
+  abbrev told_reply : Reply
+  told_reply = poll_reply stage.pool answers (marks_of stage.pool pairs) moment.0 (tries_of t pairs) (asked_in k t (tickets_of (marks_of stage.pool pairs)))
+
+  -- the last test that may be was refused
+  refused-so : idle_reply passes_now otherwise ≡ told_reply → (vs : List (Verdict Link)) (n j j' : ℕ) (i : Idle Link) (rest : List (Idle Link)) (core : Core Link) (old between : ScriptOutside) (front later : List Mark)
+      → Testing stage pairs k t moment.0 answers core old.store i rest front n j
+      → refusing (take n (map resting (i ∷ rest))) ≡ mark.Taken i.lent.id ∷ mark.Closed i.lent.id ∷ [] → passes_now ≡ None
+      → between.store ≡ closed_at i.lent.raw.depth old.store → poll_letters between ≡ answering answers j' → between.opens ≡ 0
+      → Goes {O = Unit {0}} Does depth_of tt k t moment.0 vs Connect (record core { tickets = with_ticket t to_connect core.tickets }) new.core between new.out got later
+      → Made ((front ++ mark.Taken i.lent.id ∷ mark.Closed i.lent.id ∷ []) ++ later) → Is r
+  refused-so calls (v ∷ vs) n j j' i rest core old between front later tests all none_passes closed letters_now none_now g makes = absurd g
+  refused-so calls [] n j j' i rest core old between front later tests all none_passes closed letters_now none_now g makes =
+      let mid : Core Link = record core { tickets = with_ticket t to_connect core.tickets } in
+      connects-so mid between (front ++ mark.Taken i.lent.id ∷ mark.Closed i.lent.id ∷ [])
+      (refused-connects stage pairs k t moment.0 answers s core old.store i front rest n j tests sound all (record stage { core = mid; out = between }) refl closed refl refl)
+      (ap (λ (o : Option ℕ). idle_reply o otherwise) (sym none_passes) ∙ calls) j' later letters_now none_now g makes
+
+  module _ (n j : ℕ) (i : Idle Link) (rest : List (Idle Link)) (core : Core Link) (old : ScriptOutside) (front : List Mark) (tests : Testing stage pairs k t moment.0 answers core old.store i rest front n j) where
+    set : IsSetUp stage.pool core.options
+    set = subst (IsSetUp stage.pool) (sym (ap (λ (c : Core Link). c.options) tests.core_is)) s.set_up
+
+    resting_link : i.lent.raw.depth ≡ 0
+    resting_link = (All-head (λ (h : Idle Link). IsRestingLink (linked_after (gone_by front (history_of stage.pool pairs))) h.lent.id h.lent.raw) i rest tests.links.idle_links).rests
+
+    phase_now : phase_for k t core.tickets ≡ Some (phase.Testing i.lent.id i.lent.created tests.before)
+    phase_now =
+        ap (λ (c : Core Link). phase_for k t c.tickets) tests.core_is
+        ∙ ap (option_map (λ (x : Ticket). x.phase)) (ticket-changed k t tests.change stage.core.tickets tests.x tests.keeps tests.found)
+        ∙ ap Some tests.phase_is
+
+    -- what the pool does behind a refused test
+    judged : (c : ℕ) (b : Bool) → nat_lt (tests.before + 1) stage.pool.tries ≡ b → judges k t core i (verdict.Refused c) ≡ after_refusal b rest
+    judged c b e =
+        (λ h. after_refusal (may_test_next (set.tries h) (phase_now h)) (ap (λ (d : Core Link). d.idle) tests.core_is h))
+        ∙ ap (λ (d : Bool). after_refusal d rest) e
+
+    -- the connection passes
+    accepted-so : idle_reply passes_now otherwise ≡ told_reply → (lent : Lent Link) (between : ScriptOutside) (later later' : List Mark) → poll_letters old ≡ answering answers j → old.left_open ≡ None
+        → Tests {O = Unit {0}} Does depth_of core.options moment.0 i (verdict.Accepted lent) old between → later ≡ mark.Lent k i.lent.id ∷ mark.Ended t ∷ later'
+        → (got ≡ polled.Ready (lent_since i.lent.created lent)) × (later' ≡ []) × (new.core ≡ ended t (lent_to k lent.id i.lent.created core)) × (new.out ≡ between)
+        → Made ((front ++ mark.Taken i.lent.id ∷ []) ++ later) → Is r
+    accepted-so calls lent between later later' letters_now left_now chain is end makes =
+        let told_is = tested-told (answering answers j) core.options moment.0 i (verdict.Accepted lent) old between letters_now chain in
+        let given : got ≡ polled.Ready i.lent = end.0 ∙ ap (λ (l : Lent Link). polled.Ready (lent_since i.lent.created l)) told_is.lent in
+        let zero_refused : refused_tests stage.pool (answering answers j) ≡ 0 = eqb-true (refused_tests stage.pool (answering answers j)) 0 (sym (told_is.passes left_now stage.pool set resting_link)) in
+        let passes : passes_now ≡ Some i.lent.id = tests.place ∙ ap (λ (q : ℕ). conn_at q (take n (map resting (i ∷ rest)))) zero_refused ∙ first-of n tests.some (resting i) (map resting rest) in
+        told (polled.Ready i.lent) (reply.Ready i.lent.id) given refl (
+          ap (λ (o : Option ℕ). idle_reply o otherwise) (sym passes) ∙ calls,
+          tested-stands stage new pairs moment k t answers s core old.store i rest front n j tests
+              (end.2 ∙ ap (λ (l : Lent Link). ended t (lent_to k l.id i.lent.created core)) told_is.lent)
+              (ap (λ (o : ScriptOutside). o.store) end.3 ∙ told_is.store) (owned ∙ ap (λ (p : Polled Link). owned_after p stage.lent.items) given) pool
+              (subst (λ (l : List Mark). Made ((front ++ mark.Taken i.lent.id ∷ []) ++ l)) (is ∙ ap (λ (l : List Mark). mark.Lent k i.lent.id ∷ mark.Ended t ∷ l) end.1) makes),
+        )
+
+  tests-so : idle_reply passes_now otherwise ≡ told_reply → (vs : List (Verdict Link)) (n j : ℕ) (i : Idle Link) (rest : List (Idle Link)) (core : Core Link) (old : ScriptOutside) (front later : List Mark)
+      → Testing stage pairs k t moment.0 answers core old.store i rest front n j → poll_letters old ≡ answering answers j → old.opens ≡ 0 → old.left_open ≡ None
+      → Goes {O = Unit {0}} Does depth_of tt k t moment.0 vs (Test i) core new.core old new.out got later → Made ((front ++ mark.Taken i.lent.id ∷ []) ++ later) → Is r
+  tests-so calls [] n j i rest core old front later tests letters_now none_now left_now g makes = absurd g
+  tests-so calls (verdict.Accepted lent ∷ []) n j i rest core old front later tests letters_now none_now left_now g makes =
+      accepted-so n j i rest core old front tests calls lent g.0 later g.1.0 letters_now left_now g.1.1.0 g.1.1.1 g.1.1.2 makes
+  tests-so calls (verdict.Accepted lent ∷ v ∷ vs) n j i rest core old front later tests letters_now none_now left_now g makes = absurd g.1.1.2
+  tests-so calls (verdict.Refused c ∷ vs) zero j i rest core old front later tests letters_now none_now left_now g makes = absurd (let some = tests.some in omega (arith, some))
+  tests-so calls (verdict.Refused c ∷ vs) (suc zero) j i rest core old front later tests letters_now none_now left_now g makes =
+      let told_is = tested-told (answering answers j) core.options moment.0 i (verdict.Refused c) old g.0 letters_now g.1.1.0 in
+      let less = fewer (passes_test stage.pool answers) j (sym (told_is.passes left_now stage.pool (set (suc zero) j i rest core old front tests) (resting_link (suc zero) j i rest core old front tests))) in
+      let over : judges k t core i (verdict.Refused c) ≡ tested.Connect = judged (suc zero) j i rest core old front tests c false (let all = tests.tries in le-ltb (tests.before + 1) stage.pool.tries (omega (arith, all))) in
+      refused-so calls vs (suc zero) j (j - 1) i rest core old g.0 front g.1.0 tests refl
+      (tests.place ∙ ap (λ (q : ℕ). conn_at q (take (suc zero) (map resting (i ∷ rest)))) less)
+      told_is.store told_is.letters (told_is.opens ∙ none_now)
+      (subst (λ (a : AfterTest Link). Goes {O = Unit {0}} Does depth_of tt k t moment.0 vs (then_by a) (after_test k t a core) new.core g.0 new.out got g.1.0) over g.1.1.2)
+      (subst Made (ap (λ (l : List Mark). (front ++ mark.Taken i.lent.id ∷ []) ++ l) (g.1.1.1 ∙ ap (λ (a : AfterTest Link). test_marks k t i.lent.id a ++ g.1.0) over) ∙ closed-marks front i.lent.id g.1.0) makes)
+  tests-so calls (verdict.Refused c ∷ vs) (suc (suc n)) j i [] core old front later tests letters_now none_now left_now g makes =
+      let told_is = tested-told (answering answers j) core.options moment.0 i (verdict.Refused c) old g.0 letters_now g.1.1.0 in
+      let less = fewer (passes_test stage.pool answers) j (sym (told_is.passes left_now stage.pool (set (suc (suc n)) j i [] core old front tests) (resting_link (suc (suc n)) j i [] core old front tests))) in
+      let over : judges k t core i (verdict.Refused c) ≡ tested.Connect = judged (suc (suc n)) j i [] core old front tests c true (let all = tests.tries in lt-ltb (tests.before + 1) stage.pool.tries (omega (arith, all))) in
+      refused-so calls vs (suc (suc n)) j (j - 1) i [] core old g.0 front g.1.0 tests refl
+      (tests.place ∙ ap (λ (q : ℕ). conn_at q (take (suc (suc n)) (map resting (i ∷ [])))) less)
+      told_is.store told_is.letters (told_is.opens ∙ none_now)
+      (subst (λ (a : AfterTest Link). Goes {O = Unit {0}} Does depth_of tt k t moment.0 vs (then_by a) (after_test k t a core) new.core g.0 new.out got g.1.0) over g.1.1.2)
+      (subst Made (ap (λ (l : List Mark). (front ++ mark.Taken i.lent.id ∷ []) ++ l) (g.1.1.1 ∙ ap (λ (a : AfterTest Link). test_marks k t i.lent.id a ++ g.1.0) over) ∙ closed-marks front i.lent.id g.1.0) makes)
+  tests-so calls (verdict.Refused c ∷ vs) (suc (suc n)) j i (h ∷ rest) core old front later tests letters_now none_now left_now g makes =
+      let told_is = tested-told (answering answers j) core.options moment.0 i (verdict.Refused c) old g.0 letters_now g.1.1.0 in
+      let less = fewer (passes_test stage.pool answers) j (sym (told_is.passes left_now stage.pool (set (suc (suc n)) j i (h ∷ rest) core old front tests) (resting_link (suc (suc n)) j i (h ∷ rest) core old front tests))) in
+      let goes_on : judges k t core i (verdict.Refused c) ≡ tested.Test h = judged (suc (suc n)) j i (h ∷ rest) core old front tests c true (let all = tests.tries in lt-ltb (tests.before + 1) stage.pool.tries (omega (arith, all))) in
+      tests-so calls vs (suc n) (j - 1) h rest (after_test k t (tested.Test h) core) g.0 (front ++ mark.Taken i.lent.id ∷ mark.Closed i.lent.id ∷ []) g.1.0
+      (next-test stage pairs k t moment.0 answers s core old.store i front h rest n j (j - 1) tests less g.0.store told_is.store)
+      told_is.letters (told_is.opens ∙ none_now) (told_is.left refl left_now)
+      (subst (λ (a : AfterTest Link). Goes {O = Unit {0}} Does depth_of tt k t moment.0 vs (then_by a) (after_test k t a core) new.core g.0 new.out got g.1.0) goes_on g.1.1.2)
+      (subst Made (ap (λ (l : List Mark). (front ++ mark.Taken i.lent.id ∷ []) ++ l) (g.1.1.1 ∙ ap (λ (a : AfterTest Link). test_marks k t i.lent.id a ++ g.1.0) goes_on) ∙ next-marks front i.lent.id h.lent.id g.1.0) makes)
+
+  -- ---- the whole poll
 
   by : (begun : Start Link) → begun ≡ start_answer (own_turn stage.core k t moment.0) stage.core.idle → (verdicts : List (Verdict Link)) (later : List Mark)
       → Goes {O = Unit {0}} Does depth_of tt k t moment.0 verdicts (first begun) (started t moment.0 begun stage.core) new.core out new.out got later
@@ -222,44 +335,14 @@ module _ (stage new : Stage) (moment : Moment) (k t : ℕ) (answers : PollAnswer
       let a = at-connect stage.core k t moment.0 own in
       connects-so (started t moment.0 start.Connect stage.core) out (leaving t (waits k t (marks_of stage.pool pairs)))
       (at-connect-connects stage (record stage { core = started t moment.0 start.Connect stage.core; out = out }) pairs k t moment.0 s sound a refl store refl refl)
-      (poll-reply stage pairs s k t moment.0 answers few start.Connect own) later letters none g
+      (poll-reply stage pairs s k t moment.0 answers few start.Connect own) answers.tests later letters none g
       (subst (λ (l : List Mark). Made (l ++ later)) (leaving-connect stage.core (marks_of stage.pool pairs) k t s.stands moment.0 a) makes)
-  by (start.Test i) own [] later g makes = absurd g
-  by (start.Test i) own (verdict.Accepted lent ∷ []) later g makes =
+  by (start.Test i) own vs later g makes =
       let a = at-test stage.core k t moment.0 i own in
-      let rest = g.1.1.2 in
-      let told_is = tested-told answers stage.core.options moment.0 i (verdict.Accepted lent) out g.0 letters g.1.1.0 in
-      let given : got ≡ polled.Ready i.lent = rest.0 ∙ ap (λ (l : Lent Link). polled.Ready (lent_since i.lent.created l)) told_is.lent in
-      told (polled.Ready i.lent) (reply.Ready i.lent.id) given refl (
-        passes-by true i (told_is.passes left stage.pool s.set_up (first-rests stage pairs s i a.rest a.idle)) ∙ poll-reply stage pairs s k t moment.0 answers few (start.Test i) own,
-        tested-stands stage new pairs moment k t moment.0 answers i (started t moment.0 (start.Test i) stage.core) s sound a refl
-            (rest.2 ∙ ap (λ (l : Lent Link). ended t (lent_to k l.id i.lent.created (started t moment.0 (start.Test i) stage.core))) told_is.lent)
-            (ap (λ (o : ScriptOutside). o.store) rest.3 ∙ told_is.store ∙ store) (owned ∙ ap (λ (p : Polled Link). owned_after p stage.lent.items) given) pool
-            (subst (λ (l : List Mark). Made (mark.Left t ∷ mark.Taken i.lent.id ∷ l)) (g.1.1.1 ∙ ap (λ (l : List Mark). mark.Lent k i.lent.id ∷ mark.Ended t ∷ l) rest.1) makes),
-      )
-  by (start.Test i) own (verdict.Accepted lent ∷ v ∷ vs) later g makes = absurd g.1.1.2
-  by (start.Test i) own (verdict.Refused c ∷ vs) later g makes =
-      let mid = started t moment.0 (start.Test i) stage.core in
-      let one : judges k t mid i (verdict.Refused c) ≡ tested.Connect = tested-once mid k t i c
-      (taken-phase stage.core mid k t moment.0 i (takes stage.core k t moment.0 i own) refl) s.set_up.tries in
-      after_refused i c own vs g.0 g.1.0 later
-      g.1.1.0 (g.1.1.1 ∙ ap (λ (a : AfterTest Link). test_marks k t i.lent.id a ++ g.1.0) one)
-      (subst (λ (a : AfterTest Link). Goes {O = Unit {0}} Does depth_of tt k t moment.0 vs (then_by a) (after_test k t a mid) new.core g.0 new.out got g.1.0) one g.1.1.2) makes
-    where
-      after_refused : (i : Idle Link) (c : ℕ) → start.Test i ≡ start_answer (own_turn stage.core k t moment.0) stage.core.idle → (vs : List (Verdict Link)) (between : ScriptOutside) (after later : List Mark)
-          → Tests {O = Unit {0}} Does depth_of stage.core.options moment.0 i (verdict.Refused c) out between → later ≡ mark.Closed i.lent.id ∷ after
-          → Goes {O = Unit {0}} Does depth_of tt k t moment.0 vs Connect (untested t (started t moment.0 (start.Test i) stage.core)) new.core between new.out got after → Made (mark.Left t ∷ mark.Taken i.lent.id ∷ later) → Is r
-      after_refused i c own (v ∷ vs) between after later tests is g makes = absurd g
-      after_refused i c own [] between after later tests is g makes =
-          let a = at-test stage.core k t moment.0 i own in
-          let mid = started t moment.0 (start.Test i) stage.core in
-          let told_is = tested-told answers stage.core.options moment.0 i (verdict.Refused c) out between letters tests in
-          connects-so (untested t mid) between (mark.Left t ∷ mark.Taken i.lent.id ∷ mark.Closed i.lent.id ∷ [])
-          (refused-connects stage (record stage { core = untested t mid; out = between }) mid pairs k t moment.0 i s sound a refl refl
-          (told_is.store ∙ ap (closed_at i.lent.raw.depth) store) refl refl)
-          (passes-by false i (told_is.passes left stage.pool s.set_up (first-rests stage pairs s i a.rest a.idle)) ∙ poll-reply stage pairs s k t moment.0 answers few (start.Test i) own)
-          after told_is.letters (told_is.opens ∙ none) g
-          (subst (λ (l : List Mark). Made (mark.Left t ∷ mark.Taken i.lent.id ∷ l)) is makes)
+      let many : 1 ≤ stage.pool.tries = subst (λ (n : ℕ). 1 ≤ n) s.set_up.tries sound.tries in
+      tests-so (poll-reply stage pairs s k t moment.0 answers few (start.Test i) own) vs stage.pool.tries answers.tests i a.rest (started t moment.0 (start.Test i) stage.core) out (mark.Left t ∷ []) later
+      (subst (λ (x : Store). Testing stage pairs k t moment.0 answers (started t moment.0 (start.Test i) stage.core) x i a.rest (mark.Left t ∷ []) stage.pool.tries answers.tests) (sym store)
+      (first-test stage pairs k t moment.0 answers s sound many i a)) letters none left g makes
   by start.NotHeld own (v ∷ vs) later g makes = absurd g
   by start.Waiting own (v ∷ vs) later g makes = absurd g
   by start.Closed own (v ∷ vs) later g makes = absurd g

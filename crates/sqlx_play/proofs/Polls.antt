@@ -1,29 +1,28 @@
 -- What a poll makes of a stage.
-use Rattle.std.proofs.Common.{◌≡◌, ℕ, ◌+◌, ◌≤◌, ◌<◌, ◌==◌, Bool, true, false, cond, List, [], ◌∷◌, ◌++◌, Option, Some, All, refl, sym, ap, subst, ◌∙◌, arith}
+use Rattle.std.proofs.Common.{◌≡◌, ℕ, ◌+◌, ◌≤◌, ◌==◌, Bool, true, false, cond, List, [], ◌∷◌, ◌++◌, map, Some, All, refl, sym, ap, subst, ◌∙◌, arith}
 use Rattle.std.proofs.lemmas.Bool.{ne_eqb}
 use Rattle.sqlx_text.specs.declared.Moment.{Moment}
 use Rattle.sqlx_log.specs.declared.mark.Mark.{Mark}
-use Rattle.sqlx_log.specs.declared.mark.Mark.TheVariants as mark
 use Rattle.sqlx_pool_core.specs.declared.ticket.Ticket.{Ticket}
 use Rattle.sqlx_pool_core.specs.declared.steps.Idle.{Idle}
 use Rattle.sqlx_pool_core.specs.declared.steps.Start.TheVariants as start
-use Rattle.sqlx_pool_core.specs.Core.{Core, ticket_of}
-use Rattle.sqlx_pool_core.specs.Edits.{ended, lent_to, took, with_ticket, without_ticket, to_test, to_try, to_connect, to_back_off}
+use Rattle.sqlx_log.specs.Marks.{IdleEntry, idle_of}
+use Rattle.sqlx_pool_core.specs.Core.{Core, resting, ticket_of}
+use Rattle.sqlx_pool_core.specs.Edits.{with_ticket, without_ticket, to_try, to_back_off}
 use Rattle.sqlx_pool_core.specs.Sound.{IsSound}
 use Rattle.sqlx_pool_core.specs.PollSteps.{started, wait_of}
 use Rattle.sqlx_pool_core.specs.Makes.{Makes}
-use Rattle.sqlx_pool_core.proofs.Known.{KeepsNumber, ticket-number, ticket-is_only, ticket-below, gone-changed, idle-first}
-use Rattle.sqlx_log.proofs.ListFacts.{same_number, number_comm}
-use Rattle.mem_store.specs.Store.{Link, closed_at}
+use Rattle.sqlx_pool_core.proofs.Known.{KeepsNumber, ticket-number, ticket-is_only, ticket-below, gone-changed}
+use Rattle.sqlx_log.proofs.ListFacts.{same_number, number_comm, none_any, list_any-map}
+use Rattle.mem_store.specs.Store.{Link}
 use Rattle.sqlx_script.specs.declared.answers.PollAnswers.{PollAnswers}
 use Rattle.sqlx_script.specs.declared.step.Event.{Event}
 use Rattle.sqlx_script.specs.declared.step.Step.TheVariants.{Poll}
 use Rattle.sqlx_script.specs.declared.reply.Reply.{Reply}
 use Rattle.sqlx_script.specs.declared.reply.Reply.TheVariants as reply
-use Rattle.sqlx_brackets.specs.Changes.{leaves}
 use Rattle.sqlx_play.specs.declared.stage.Stage.{Stage}
 use Rattle.sqlx_rules.specs.Answer.{connect_reply}
-use Rattle.sqlx_rules.specs.ScriptMarks.{marks_of, waits, leaving, polled}
+use Rattle.sqlx_rules.specs.ScriptMarks.{marks_of, waits, is_among, polled}
 use Rattle.sqlx_rules.specs.ScriptLevels.{gone_by, history_of}
 use Rattle.sqlx_play.specs.LinksStand.{LinksStand}
 use Rattle.sqlx_rules.specs.Tries.{tries_of, backed_off}
@@ -31,54 +30,21 @@ use Rattle.sqlx_play.specs.StageStands.{IsTried, StageStands}
 use Rattle.sqlx_play.specs.ConnectByReply.{connect_marks, after_connect}
 use Rattle.sqlx_rules.proofs.Pairs.{tries_of-push}
 use Rattle.sqlx_play.proofs.LinksSame.{links-same, links-as}
-use Rattle.sqlx_play.proofs.LinksMoves.{links-lent, links-closed}
 use Rattle.sqlx_play.proofs.StageAfter.{stage-after}
-use Rattle.sqlx_play.proofs.PollTurns.{AtTest, AtConnect, keeps-try, found-try, found-refused}
+use Rattle.sqlx_play.proofs.PollTurns.{AtConnect, keeps-try, found-try}
 use Rattle.sqlx_play.proofs.PollReplies.{tried-of}
-use Rattle.sqlx_play.proofs.PollTries.{Trying, trying-refused, trying-connect, tried-without, tried-changed, with-with}
-use Rattle.sqlx_play.proofs.PollMarks.{gone-append, taken-test, taken-connect, waits-test, polled_by, lent-marks, Outcome, connected, backs_off, broken, refused, reply_by, connect-marks, refused-marks, connect-gone, polled-by, outcome_of, outcome-is, outcome-until}
+use Rattle.sqlx_play.proofs.PollTries.{Trying, trying-connect, tried-without, tried-changed, with-with}
+use Rattle.sqlx_play.proofs.PollMarks.{gone-append, leaving, idle-connect, Outcome, connected, backs_off, broken, refused, reply_by, connect-marks, connect-gone, outcome_of, outcome-is, outcome-until}
 use Rattle.sqlx_rules.specs.Pairs.{Pairs}
 
 abbrev pub pair_of : Moment → ℕ → ℕ → PollAnswers → Reply → Event × Reply
 pair_of moment k t answers r = (record { moment = moment; step = Poll k t answers }, r)
 
--- ---- the connection that passed its test
-
-pub tested-stands : (stage new : Stage) (pairs : Pairs) (moment : Moment) (k t last : ℕ) (answers : PollAnswers) (i : Idle Link) (mid : Core Link) → StageStands stage pairs → IsSound stage.core → AtTest stage.core k t i
-    → mid ≡ started t last (start.Test i) stage.core → new.core ≡ ended t (lent_to k i.lent.id i.lent.created mid)
-    → new.out.store ≡ stage.out.store → new.lent.items ≡ stage.lent.items ++ i.lent ∷ [] → new.pool ≡ stage.pool
-    → Makes stage.core.options.max_connections (marks_of stage.pool pairs) (mark.Left t ∷ mark.Taken i.lent.id ∷ mark.Lent k i.lent.id ∷ mark.Ended t ∷ []) new.core
-    → StageStands new (pairs ++ pair_of moment k t answers (reply.Ready i.lent.id) ∷ [])
-tested-stands stage new pairs moment k t last answers i mid s sound a begun becomes store owned pool makes =
-    stage-after stage new pairs pair s (record {
-      pool = pool;
-      makes = subst (λ (l : List Mark). Makes stage.core.options.max_connections marks l new.core) made makes;
-      options = ap (λ (c : Core Link). c.options) whole;
-      places = ap (λ (c : Core Link). c.places) whole ∙ s.places;
-      tried = subst (All (IsTried (pairs ++ pair ∷ []))) (sym (ap (λ (c : Core Link). c.tickets) whole ∙ gone-changed t (to_test last i) stage.core.tickets (λ x. refl)))
-          (tried-without pairs (pairs ++ pair ∷ []) t stage.core.tickets (λ u. tries_of-push u pairs pair) s.tried);
-      untried = λ u h. tries_of-push u pairs pair ∙ s.untried u (subst (λ (n : ℕ). n ≤ u) (ap (λ (c : Core Link). c.next_ticket) whole) h);
-      links = subst (LinksStand new.core new.out.store new.lent.items) (ap (λ (l : List Mark). gone_by l (history_of stage.pool pairs)) made)
-          (links-as new.core new.core stage.out.store new.out.store (stage.lent.items ++ i.lent ∷ []) new.lent.items (history_of stage.pool pairs) refl store owned
-          (links-same (lent_to k i.lent.id i.lent.created (took stage.core)) new.core stage.out.store (stage.lent.items ++ i.lent ∷ []) (history_of stage.pool pairs)
-          (links-lent stage.core stage.out.store stage.lent.items (history_of stage.pool pairs) s.links i a.rest a.idle k i.lent.created)
-          (ap (λ (c : Core Link). c.held) whole) (ap (λ (c : Core Link). c.idle) whole) (ap (λ (c : Core Link). c.next_conn) whole)));
-    })
-  where
-    marks : List Mark
-    marks = marks_of stage.pool pairs
-
-    pair : Event × Reply
-    pair = pair_of moment k t answers (reply.Ready i.lent.id)
-
-    whole : new.core ≡ ended t (lent_to k i.lent.id i.lent.created (started t last (start.Test i) stage.core))
-    whole = becomes ∙ ap (λ (c : Core Link). ended t (lent_to k i.lent.id i.lent.created c)) begun
-
-    made : mark.Left t ∷ mark.Taken i.lent.id ∷ mark.Lent k i.lent.id ∷ mark.Ended t ∷ [] ≡ polled marks moment.0 k t (reply.Ready i.lent.id)
-    made = lent-marks moment.0 k t i.lent.id (same_number i.lent.id)
-        ∙ (λ j. polled_by moment.0 k t (sym (waits-test stage.core marks k t s.stands i a) j) (sym (taken-test stage.core marks k t s.stands i a) j) (reply.Ready i.lent.id))
-
 -- ---- a connect
+
+-- the marks of a poll with this reply
+abbrev pub polled_by : Stage → Pairs → ℕ → ℕ → ℕ → Reply → List Mark
+polled_by stage pairs k t m r = polled stage.pool.tries m k t (waits k t (marks_of stage.pool pairs)) (idle_of (marks_of stage.pool pairs)) r
 
 -- A stage between two steps of a poll, whose ticket connects: x is the ticket before the poll, and y is it now.
 pub record Connecting (stage mid : Stage) (pairs : Pairs) (k t m : ℕ) (made : List Mark) : Type 0 where
@@ -97,7 +63,7 @@ pub record Connecting (stage mid : Stage) (pairs : Pairs) (k t m : ℕ) (made : 
   pub next_conn : mid.core.next_conn ≡ stage.core.next_conn
   pub pool : mid.pool ≡ stage.pool
   pub links : LinksStand mid.core mid.out.store mid.lent.items (gone_by made (history_of stage.pool pairs))
-  pub marks : (o : Outcome) → made ++ connect_marks k t m (reply_by stage.core.next_conn o) ≡ polled (marks_of stage.pool pairs) m k t (reply_by stage.core.next_conn o)
+  pub marks : (o : Outcome) → made ++ connect_marks k t m (reply_by stage.core.next_conn o) ≡ polled_by stage pairs k t m (reply_by stage.core.next_conn o)
 
 -- what a connect leaves as it was
 record Keeps (core new : Core Link) : Type 0 where
@@ -160,7 +126,7 @@ module _ (stage mid new : Stage) (pairs : Pairs) (moment : Moment) (k t : ℕ) (
       → StageStands new (pairs ++ pair_of moment k t answers (reply_by stage.core.next_conn o) ∷ [])
   stands_by o until makes becomes links pool =
       let kept = keeps-connect k t stage.core.next_conn moment mid.core o in
-      let past : gone_by made (history_of stage.pool pairs) ≡ gone_by (polled (marks_of stage.pool pairs) moment.0 k t (reply_by stage.core.next_conn o)) (history_of stage.pool pairs)
+      let past : gone_by made (history_of stage.pool pairs) ≡ gone_by (polled_by stage pairs k t moment.0 (reply_by stage.core.next_conn o)) (history_of stage.pool pairs)
       = sym (connect-gone moment.0 k t stage.core.next_conn o (gone_by made (history_of stage.pool pairs)))
       ∙ sym (gone-append made (connect_marks k t moment.0 (reply_by stage.core.next_conn o)) (history_of stage.pool pairs))
       ∙ ap (λ (l : List Mark). gone_by l (history_of stage.pool pairs)) (c.marks o) in
@@ -189,7 +155,13 @@ module _ (stage mid new : Stage) (pairs : Pairs) (moment : Moment) (k t : ℕ) (
       (subst (λ (r : Reply). Makes stage.core.options.max_connections (marks_of stage.pool pairs) (made ++ connect_marks k t moment.0 r) new.core) reply_is makes)
       (subst (λ (r : Reply). new.core ≡ after_connect k t moment r mid.core) reply_is becomes) links pool)
 
--- ---- the two ways to a connect
+-- ---- a connect at once
+
+-- the number of the next connection is that of no idle one
+pub unused : (core : Core Link) → IsSound core → is_among core.next_conn (map resting core.idle) ≡ false
+unused core sound =
+    let none = sound.opened core.next_conn (omega arith) in
+    list_any-map resting (λ (r : IdleEntry). core.next_conn == r.conn) core.idle ∙ none_any (λ (i : Idle Link). core.next_conn == i.lent.id) core.idle (omega (arith, none))
 
 -- no connection is idle, or the next try is due
 pub at-connect-connects : (stage mid : Stage) (pairs : Pairs) (k t m : ℕ) → StageStands stage pairs → IsSound stage.core → (a : AtConnect stage.core k t m)
@@ -216,56 +188,10 @@ at-connect-connects stage mid pairs k t m s sound a becomes store owned pool =
       links = subst (LinksStand mid.core mid.out.store mid.lent.items) (by (waits k t marks))
           (links-as mid.core mid.core stage.out.store mid.out.store stage.lent.items mid.lent.items (history_of stage.pool pairs) refl store owned
           (links-same stage.core mid.core stage.out.store stage.lent.items (history_of stage.pool pairs) s.links (ap (λ (c : Core Link). c.held) becomes) (ap (λ (c : Core Link). c.idle) becomes) (ap (λ (c : Core Link). c.next_conn) becomes)));
-      marks = λ o. connect-marks m k t stage.core.next_conn (waits k t marks) o
-          ∙ ap (λ (taken : Option ℕ). polled_by m k t (waits k t marks) taken (reply_by stage.core.next_conn o)) (sym (taken-connect stage.core marks k t s.stands m a))
-          ∙ sym (polled-by marks m k t stage.core.next_conn o);
+      marks = λ o. connect-marks stage.pool.tries m k t stage.core.next_conn (waits k t marks) (idle_of marks) o (idle-connect stage.core marks k t s.stands m a)
+          (ap (is_among stage.core.next_conn) (sym s.stands.idle) ∙ unused stage.core sound);
     }
   where
     by : (b : Bool) → history_of stage.pool pairs ≡ gone_by (leaving t b) (history_of stage.pool pairs)
     by true = refl
     by false = refl
-
--- the idle connection was refused
-pub refused-connects : (stage mid : Stage) (core : Core Link) (pairs : Pairs) (k t m : ℕ) (i : Idle Link) → StageStands stage pairs → IsSound stage.core → (a : AtTest stage.core k t i)
-    → core ≡ started t m (start.Test i) stage.core → mid.core ≡ record core { tickets = with_ticket t to_connect core.tickets }
-    → mid.out.store ≡ closed_at i.lent.raw.depth stage.out.store → mid.lent.items ≡ stage.lent.items → mid.pool ≡ stage.pool
-    → Connecting stage mid pairs k t m (mark.Left t ∷ mark.Taken i.lent.id ∷ mark.Closed i.lent.id ∷ [])
-refused-connects stage mid core pairs k t m i s sound a begun becomes store owned pool =
-    record {
-      x = a.x;
-      y = to_connect (to_test m i a.x);
-      change = λ (x : Ticket). to_connect (to_test m i x);
-      found = a.found;
-      found_now = ap (λ (c : Core Link). ticket_of k t c.tickets) whole ∙ found-refused k t m i stage.core.tickets a.x a.found;
-      keeps = λ x. refl;
-      is = refl;
-      tickets = ap (λ (c : Core Link). c.tickets) whole ∙ with-with t (to_test m i) to_connect stage.core.tickets (λ x. refl);
-      trying = trying-refused m t i pairs a.x (ticket-number k t stage.core.tickets a.x a.found) a.waits (tried-of k t pairs stage.core.tickets a.x s.tried a.found);
-      options = ap (λ (c : Core Link). c.options) whole;
-      places = ap (λ (c : Core Link). c.places) whole;
-      next_ticket = ap (λ (c : Core Link). c.next_ticket) whole;
-      next_conn = ap (λ (c : Core Link). c.next_conn) whole;
-      pool = pool;
-      links = links-as mid.core mid.core _ mid.out.store stage.lent.items mid.lent.items (leaves i.lent.id ∷ history_of stage.pool pairs) refl store owned
-          (links-same (took stage.core) mid.core _ stage.lent.items (leaves i.lent.id ∷ history_of stage.pool pairs)
-          (links-closed stage.core stage.out.store stage.lent.items (history_of stage.pool pairs) s.links i a.rest a.idle sound)
-          (ap (λ (c : Core Link). c.held) whole) (ap (λ (c : Core Link). c.idle) whole) (ap (λ (c : Core Link). c.next_conn) whole));
-      marks = λ o. refused-marks m k t i.lent.id stage.core.next_conn o other too
-          ∙ (λ j. polled_by m k t (sym (waits-test stage.core marks k t s.stands i a) j) (sym (taken-test stage.core marks k t s.stands i a) j) (reply_by stage.core.next_conn o))
-          ∙ sym (polled-by marks m k t stage.core.next_conn o);
-    }
-  where
-    marks : List Mark
-    marks = marks_of stage.pool pairs
-
-    whole : mid.core ≡ record (started t m (start.Test i) stage.core) { tickets = with_ticket t to_connect (with_ticket t (to_test m i) stage.core.tickets) }
-    whole = becomes ∙ ap (λ (c : Core Link). record c { tickets = with_ticket t to_connect c.tickets }) begun
-
-    below : i.lent.id < stage.core.next_conn
-    below = (idle-first stage.core sound i a.rest a.idle).below
-
-    other : (i.lent.id == stage.core.next_conn) ≡ false
-    other = ne_eqb i.lent.id stage.core.next_conn (λ e. absurd (omega (arith, below, e)))
-
-    too : (stage.core.next_conn == i.lent.id) ≡ false
-    too = ne_eqb stage.core.next_conn i.lent.id (λ e. absurd (omega (arith, below, e)))

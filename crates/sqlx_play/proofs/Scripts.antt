@@ -6,7 +6,7 @@ use Rattle.sqlx_script.specs.declared.pool_line.PoolLine.{PoolLine}
 use Rattle.sqlx_script.specs.declared.report.Report.{Report}
 use Rattle.sqlx_script.specs.Texts.{report_text, line_of}
 use Rattle.sqlx_script.specs.Words.{lines_of}
-use Rattle.sqlx_script.specs.Grammar.{Script, reading_from, pool_of, script_after, script_lines, script_of, bad_line, limit}
+use Rattle.sqlx_script.specs.Grammar.{Script, pool_of, script_after, script_lines, script_of, bad_line, limit}
 use Rattle.std.specs.FinMap.{get, get-empty}
 use Rattle.std.specs.Ordering.{int_cmp}
 use Rattle.sqlx_pool_core.specs.StandsFor.{StandsFor}
@@ -22,12 +22,12 @@ use Rattle.sqlx_rules.specs.Answer.{report_of}
 use Rattle.sqlx_play.specs.StageStands.{IsSetUp, StageStands}
 use Rattle.sqlx_rules.specs.Output.{pairs_after, closing_due, replies_due, output_due}
 use Rattle.sqlx_play.specs.Causes.{WrotePart, StopsText}
-use Rattle.sqlx_play.specs.Plays.{PlaysLines, StopsAt, Plays, lines_text}
+use Rattle.sqlx_play.specs.Plays.{reading_of, PlaysLines, StopsAt, Plays, lines_text}
 use Rattle.sqlx_rules.specs.Pairs.{Pairs}
 
 -- the script of a first line that sets a pool up, and of the lines in rest
 abbrev pub script_with : PoolLine → List ℕ → Script
-script_with pool rest = record { pool = pool; lines = reading_from 2 0 (lines_of rest) }
+script_with pool rest = record { pool = pool; lines = reading_of pool rest }
 
 pub script_is : (text line rest : List ℕ) (pool : PoolLine) → lines_of text ≡ line ∷ lines_of rest → pool_of line ≡ Some pool → script_of text ≡ Some (script_with pool rest)
 unfolding script_lines
@@ -53,7 +53,7 @@ stops_later text rest pool before now n e s = (ap bad_line e ∙ s.bad, subst (�
 pub part_of_replies : (text rest : List ℕ) (pool : PoolLine) (before now : Option (List ℕ)) → script_of text ≡ Some (script_with pool rest) → WrotePart before now (lines_text pool rest)
     → WrotePart before now (output_due (script_of text))
 part_of_replies text rest pool before now e p =
-    let due = closing_due (reading_from 2 0 (lines_of rest)).bad (script_with pool rest) in
+    let due = closing_due (reading_of pool rest).bad (script_with pool rest) in
     record {
       front = p.front;
       rest = p.rest ++ due;
@@ -64,9 +64,9 @@ part_of_replies text rest pool before now e p =
 -- the line of the report, where no line is bad
 report_due : (rest : List ℕ) (pool : PoolLine) (before mid : Option (List ℕ)) (stage : Stage) (report : Report) → stage.pool ≡ pool → PlaysLines rest pool before mid stage
     → ((pairs : Pairs) → StageStands stage pairs → report ≡ report_of stage.pool pairs)
-    → line_of (report_text report) ≡ closing_due (reading_from 2 0 (lines_of rest)).bad (script_with pool rest)
+    → line_of (report_text report) ≡ closing_due (reading_of pool rest).bad (script_with pool rest)
 report_due rest pool before mid stage report same plays reports =
-    ap (λ r. line_of (report_text r)) (reports _ plays.stage_after ∙ ap (λ p. report_of p (pairs_after pool [] (reading_from 2 0 (lines_of rest)).events)) same)
+    ap (λ r. line_of (report_text r)) (reports _ plays.stage_after ∙ ap (λ p. report_of p (pairs_after pool [] (reading_of pool rest).events)) same)
     ∙ ap (λ bad. closing_due bad (script_with pool rest)) (sym plays.good)
 
 -- the replies and a part of the report were written
@@ -97,18 +97,18 @@ rows_seen stage pairs s key =
     ∙ (savepoints_read_alike history s.links.accepted).values stage.core.next_conn key
 
 -- all was written
-pub plays_text : (text rest : List ℕ) (pool : PoolLine) (before mid now : Option (List ℕ)) (stage : Stage) (report : Report) → length text ≤ limit → script_of text ≡ Some (script_with pool rest)
+pub plays_text : (text rest : List ℕ) (pool : PoolLine) (before mid now : Option (List ℕ)) (stage : Stage) (report : Report) → length text ≤ limit → script_of text ≡ Some (script_with pool rest) → 1 ≤ pool.tries
     → stage.pool ≡ pool → PlaysLines rest pool before mid stage
     → ((pairs : Pairs) → StageStands stage pairs → report ≡ report_of stage.pool pairs)
     → Appends mid now (line_of (report_text report)) → Plays text before now stage.core stage.out.store
-plays_text text rest pool before mid now stage report short e same plays reports w =
+plays_text text rest pool before mid now stage report short e many same plays reports w =
     let due = report_due rest pool before mid stage report same plays reports ∙ ap (λ bad. closing_due bad (script_with pool rest)) plays.good in
-    let pairs : Pairs = pairs_after pool [] (reading_from 2 0 (lines_of rest)).events in
+    let pairs : Pairs = pairs_after pool [] (reading_of pool rest).events in
     record {
       script = script_with pool rest;
       is_script = record { short = short; reads = e; good = plays.good };
       written = Appends-trans before mid now (lines_text pool rest) _ plays.written (subst (Appends mid now) due w);
-      headline = headline-holds pool (reading_from 2 0 (lines_of rest)).events;
+      headline = headline-holds pool many (reading_of pool rest).events;
       set_up = subst (λ (p : PoolLine). IsSetUp p stage.core.options) same plays.stage_after.set_up;
       places = plays.stage_after.places;
       core_after = subst (λ (p : PoolLine). StandsFor stage.core (marks_of p pairs)) same plays.stage_after.stands;

@@ -157,10 +157,10 @@ runs_not old new pairs event st r s sound e core pool ran =
 -- ---- a connection that the client owns
 
 work_is : (past : History) (c : ℕ) (store : Store) (link : Link) (st : Statement) → store.rows ≡ (linked_after past).rows → IsLinkOf (linked_after past) c link
-    → at_work store link st ≡ session_at past c link.number store.open_links store.given store.runs (answer_for st.answer)
+    → at_work store link st ≡ session_at past c link store.open_links store.given store.runs (answer_for st.answer)
 work_is past c store link st rows side = λ i. record {
   store = record { rows = rows i; open_links = store.open_links; given = store.given; runs = store.runs };
-  link = record { number = link.number; depth = (side i).depth; own = (side i).own; entries = (side i).entries };
+  link = record link { depth = (side i).depth; own = (side i).own; entries = (side i).entries };
   answer = answer_for st.answer;
 }
 
@@ -175,11 +175,11 @@ runs_on old new pairs event st r s sound e met core pool ran =
     let said' : bracket.Reply = reply_of a true (met_of st.answer) past in
     let links : LinksStand old.core old.out.store (ran.before ++ own ∷ ran.after) past = subst (λ (l : List (Lent Link)). LinksStand old.core old.out.store l past) ran.lent s.links in
     let owned : owns st.client (owner_of st.connection marks) ≡ true = sym (owner-alike old.core sound marks st.client st.connection s.stands) ∙ ran.owned in
-    let work : at_work old.out.store own.raw st ≡ session_at past own.id own.raw.number old.out.store.open_links old.out.store.given old.out.store.runs (answer_for st.answer) =
+    let work : at_work old.out.store own.raw st ≡ session_at past own.id own.raw old.out.store.open_links old.out.store.given old.out.store.runs (answer_for st.answer) =
     work_is past own.id old.out.store own.raw st links.rows (All-mid (λ (x : Lent Link). IsLinkOf (linked_after past) x.id x.raw) ran.before own ran.after links.lent_links) in
     let alike : AlikeAt a past own.id (at_work old.out.store own.raw st) said' (reply_on st.act (at_work old.out.store own.raw st)) (left_at old.out.store own.raw st) =
     subst (λ (x : Session). AlikeAt a past own.id x said' (reply_on st.act x) (left_by st.act x)) (sym work)
-    (acts-alike past links.accepted own.id own.raw.number old.out.store.open_links old.out.store.given old.out.store.runs st.act st.answer met
+    (acts-alike past links.accepted own.id own.raw old.out.store.open_links old.out.store.given old.out.store.runs st.act st.answer met
     (ap (λ (k : BracketLink). others_in_level k.depth old.out.store.open_links) (sym (All-mid (λ (x : Lent Link). IsLinkOf (linked_after past) x.id x.raw) ran.before own ran.after links.lent_links)) ∙ busy-alike old.core sound old.out.store ran.before own ran.after past links)) in
     let told : r ≡ written_reply a (depth own.id past) said' = ran.told ∙ alike.0 in
     let left : LinksStand old.core (left_at old.out.store own.raw st).store (ran.before ++ record own { raw = (left_at old.out.store own.raw st).link } ∷ ran.after) (change_by a said' past) =

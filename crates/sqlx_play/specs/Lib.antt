@@ -21,3 +21,6 @@ pub mod StatementRuns
 pub mod ScriptRuns
 pub mod Causes
 pub mod Plays
+pub mod Commands
+pub mod MadeRuns
+pub mod Program

@@ -92,6 +92,11 @@ abbrev pub left_met : Act → Session → Option Refusal → Session
 left_met act session None = after_act (statement_at act session.link.depth) session
 left_met act session (Some reason) = left_refused act session
 
+-- the reply and the session are those by what meets the act's statement
+abbrev pub IsAsMet : Act → Session → Session → Reply → Type 0
+IsAsMet act old new reply =
+    let refusal = refusal_of (Some (statement_at act old.link.depth)) old in (reply ≡ reply_met act old refusal) × (new ≡ left_met act old refusal)
+
 -- no statement runs for a level that is given up, or for a transaction by a text of the client's own inside another one
 abbrev pub reply_within : Act → Session → Reply
 reply_within GiveUp session = reply.Level (pred session.link.depth) (rollback_at session.link.depth)

@@ -1,5 +1,5 @@
 -- What the outside of a script answers: the letters of the present line.
-use Rattle.std.specs.Prelude.{◌≡◌, ℕ, ◌==◌, Bool, false, nat_lt, max, Option, Some, None, Result, Ok, Err, if◌then◌else◌}
+use Rattle.std.specs.Prelude.{◌≡◌, ℕ, ◌==◌, ◌||◌, Bool, false, nat_lt, max, Option, Some, None, Result, Ok, Err, if◌then◌else◌}
 use Rattle.sqlx_text.specs.declared.error.Error.{Error}
 use Rattle.sqlx_text.specs.declared.error.Error.TheVariants.{Io, Database}
 use Rattle.sqlx_text.specs.declared.io_fault.IoFault.TheVariants.{ConnectionRefused, Other}
@@ -7,16 +7,25 @@ use Rattle.sqlx_script.specs.declared.answers.PollAnswers.{PollAnswers}
 use Rattle.sqlx_script.specs.declared.answers.GiveAnswers.{GiveAnswers}
 use Rattle.sqlx_script.specs.declared.answers.ConnectAnswer.{ConnectAnswer}
 use Rattle.sqlx_script.specs.declared.answers.ConnectAnswer.TheVariants.{Connected, Transient, ConnectIo, ConnectDatabase}
+use Rattle.sqlx_script.specs.Built.{accepts}
 use Rattle.mem_store.specs.Store.{Link}
 use Rattle.sqlx_play.specs.declared.outside.ScriptOutside.{ScriptOutside}
 
 -- the letters that a poll's line has
 abbrev pub poll_letters : ScriptOutside → PollAnswers
-poll_letters out = record { ping = out.ping; before_acquire = out.before_acquire; connect = out.connect; after_connect = out.after_connect }
+poll_letters out = record { ping = out.ping; before_acquire = out.before_acquire; connect = out.connect; after_connect = out.after_connect; tests = out.tests }
+
+-- a ping is answered: by its letter, where the letters answer this test yet
+abbrev pub answers_ping : ScriptOutside → Bool
+answers_ping out = (out.tests == 0) || out.ping
+
+-- the hook before an acquire accepts: by its letter, where the letters answer this test yet
+abbrev pub accepts_acquire : ScriptOutside → Bool
+accepts_acquire out = (out.tests == 0) || accepts out.before_acquire
 
 -- the letters that a give's line has
 abbrev pub give_letters : ScriptOutside → GiveAnswers
-give_letters out = record { after_release = out.after_release; ping = out.ping }
+give_letters out = record { after_release = out.after_release; ping = answers_ping out }
 
 -- what the next connect is answered by
 abbrev pub next_connect : ScriptOutside → ConnectAnswer
@@ -26,6 +35,11 @@ next_connect out = if nat_lt 0 out.opens then Connected else out.connect
 abbrev pub is_left_open : Option ℕ → ℕ → Bool
 is_left_open None number = false
 is_left_open (Some left) number = left == number
+
+-- the link on which a hook left a level open, if it is another than the one of this number
+abbrev pub beside : ℕ → Option ℕ → Option ℕ
+beside number None = None
+beside number (Some left) = if left == number then None else Some left
 
 -- how many levels of the link are open: one at least, where a hook left one open
 abbrev pub depth_of : ScriptOutside → Link → ℕ

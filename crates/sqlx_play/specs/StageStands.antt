@@ -24,7 +24,7 @@ pub record IsSetUp (pool : PoolLine) (options : PoolOptions) : Type 0 where
   pub after_connect : options.after_connect ≡ pool.after_connect
   pub before_acquire : options.before_acquire ≡ pool.before_acquire
   pub after_release : options.after_release ≡ pool.after_release
-  pub tries : options.idle_tries ≡ 1
+  pub tries : options.idle_tries ≡ pool.tries
 
 -- the tries of a ticket in this phase: none in the line, and in backoff those that brought it there; between two events no step is under way
 abbrev pub IsTriedAt : Pairs → Ticket → Phase → Type 0

@@ -7,7 +7,7 @@ ghost use Rattle.sqlx_pool_core.specs.Outside.{HasRisen, declines, is_transient,
 ghost use Rattle.sqlx_script.specs.Built.{accepts, sets_up};
 ghost use Rattle.mem_store.specs.Store.{Link};
 ghost use Rattle.sqlx_play.specs.ScriptCalls.{Does, does-facts};
-ghost use Rattle.sqlx_play.specs.ScriptOutside.{depth_of, give_letters, is_left_open, next_connect, poll_letters, refused_by};
+ghost use Rattle.sqlx_play.specs.ScriptOutside.{beside, depth_of, give_letters, is_left_open, next_connect, poll_letters, refused_by};
 
 use mem_store::{MemStore, StoreLink};
 use sqlx_pool_core::{Outside, PoolConnectionMetadata};
@@ -15,8 +15,9 @@ use sqlx_script::{AfterConnectAnswer, ConnectAnswer, GiveAnswers, HookAnswer, Po
 use sqlx_text::{DatabaseFault, Error, ErrorKind, IoFault, UStr};
 use std::alloc::Global;
 
-/// The outside of the pool on which a script is played. It answers by the present line, and tells these answers. A
-/// second call of a kind within a line is answered as the first was. Made by [`play`](crate::play) alone.
+/// The outside of the pool on which a script is played. It answers by the present line, and tells these answers. The
+/// first tests of a poll, as many as its line tells, are answered by its letters, and each later one is accepted. Any
+/// other second call of a kind within a line is answered as the first was. Made by [`play`](crate::play) alone.
 #[derive(Drop)]
 pub struct ScriptOutside {
     pub(crate) store: MemStore,
@@ -27,6 +28,8 @@ pub struct ScriptOutside {
     pub(crate) after_connect: AfterConnectAnswer,
     pub(crate) before_acquire: HookAnswer,
     pub(crate) after_release: HookAnswer,
+    // So many tests are answered by `ping` and `before_acquire`, and each later one accepts. A close ends a test.
+    pub(crate) tests: u32,
     // The link on which a hook of this line left a level open.
     pub(crate) left_open: Option<u64>,
     pub(crate) faults: u64,
@@ -79,6 +82,7 @@ impl ScriptOutside {
             after_connect: AfterConnectAnswer::SetUp,
             before_acquire: HookAnswer::Accepts,
             after_release: HookAnswer::Accepts,
+            tests: 1,
             left_open: None,
             faults: 0,
             refusals: 0,
@@ -106,6 +110,7 @@ impl ScriptOutside {
         self.after_connect = answers.after_connect;
         self.before_acquire = answers.before_acquire;
         self.after_release = HookAnswer::Accepts;
+        self.tests = answers.tests;
         self.left_open = None;
     }
 
@@ -122,6 +127,7 @@ impl ScriptOutside {
         self.after_connect = AfterConnectAnswer::SetUp;
         self.before_acquire = HookAnswer::Accepts;
         self.after_release = answers.after_release;
+        self.tests = 1;
         self.left_open = None;
     }
 
@@ -140,6 +146,7 @@ impl ScriptOutside {
         self.after_connect = AfterConnectAnswer::SetUp;
         self.before_acquire = HookAnswer::Accepts;
         self.after_release = HookAnswer::Accepts;
+        self.tests = 1;
         self.left_open = None;
     }
 
@@ -175,9 +182,9 @@ impl ScriptOutside {
         self.connect
     }
 
-    // No hook left a level open on the link of this number, which is new.
+    // No hook left a level open on the link of this number, which is new or closed.
     fn forget(&mut self, number: u64)
-        ensures becomes { self.new ≡ record self.old { left_open = self.new.left_open } }
+        ensures becomes { self.new ≡ record self.old { left_open = beside number self.old.left_open } }
         ensures own { is_left_open self.new.left_open number ≡ false }
     {
         if self.left_open == Some(number) {
@@ -185,11 +192,20 @@ impl ScriptOutside {
         }
     }
 
+    // The link of this number is closed, and so its test is over, if it was tested.
+    fn end_test(&mut self, number: u64)
+        ensures { self.new ≡ record self.old { left_open = beside number self.old.left_open; tests = self.old.tests - 1 } }
+    {
+        self.forget(number);
+        self.tests = self.tests.saturating_sub(1);
+    }
+
     // Notes that a hook left a level open on this link, unless one is noted of another.
     fn leave_open(&mut self, number: u64) -> bool
         ensures becomes { self.new ≡ record self.old { left_open = self.new.left_open } }
         ensures own { result ≡ true → is_left_open self.new.left_open number ≡ true }
         ensures not_left { result ≡ false → is_left_open self.new.left_open number ≡ is_left_open self.old.left_open number }
+        ensures others { beside number self.new.left_open ≡ beside number self.old.left_open }
     {
         match self.left_open {
             None => {
@@ -207,6 +223,7 @@ impl ScriptOutside {
         ensures deeper { depth_of self.old conn.now ≤ depth_of self.new conn.now }
         ensures counted { IsCounted (declines result) (depth_of self.old conn.now) (depth_of self.new conn.now) self.old.refusals self.new.refusals }
         ensures refusals { self.old.refusals ≤ self.new.refusals }
+        ensures others { beside conn.now.number self.new.left_open ≡ beside conn.now.number self.old.left_open }
     {
         match answer {
             HookAnswer::Accepts => Ok(true),
@@ -268,7 +285,7 @@ impl Outside<StoreLink, ()> for ScriptOutside {
     fn ping(&mut self, conn: &mut StoreLink) -> Result<(), Error>
         ensures { Does (call.ping conn.old result conn.new) self.old self.new }
     {
-        if self.ping {
+        if self.tests == 0 || self.ping {
             return Ok(());
         }
         self.count_fault();
@@ -306,6 +323,9 @@ impl Outside<StoreLink, ()> for ScriptOutside {
     ) -> Result<bool, Error>
         ensures { Does (call.before_acquire conn.old _meta result conn.new) self.old self.new }
     {
+        if self.tests == 0 {
+            return Ok(true);
+        }
         self.ask_hook(self.before_acquire, conn)
     }
 
@@ -332,14 +352,14 @@ impl Outside<StoreLink, ()> for ScriptOutside {
     fn close(&mut self, conn: StoreLink)
         ensures { Does (call.close conn) self.old self.new }
     {
-        self.forget(conn.number());
+        self.end_test(conn.number());
         self.store.close(conn);
     }
 
     fn close_hard(&mut self, conn: StoreLink)
         ensures { Does (call.close_hard conn) self.old self.new }
     {
-        self.forget(conn.number());
+        self.end_test(conn.number());
         self.store.close(conn);
     }
 

@@ -1,17 +1,16 @@
 //! Plays a script.
-ghost use Rattle.std.specs.Prelude.{◌≡◌, true, ◌≢◌, ◌+◌, ◌*◌, ◌^◌, ◌<◌, ◌≤◌, ◌↔◌, ℕ, List, [], ◌∷◌, ◌++◌, length, IfOk, IfErr, IfSome, OnOk, IsErrOf, IsOkUnless};
+ghost use Rattle.std.specs.Prelude.{◌≡◌, true, ◌+◌, ◌*◌, ◌^◌, ◌<◌, ◌≤◌, ℕ, List, [], ◌∷◌, ◌++◌, length, IfOk, IfErr, IfSome, OnOk, IsOkUnless};
 ghost use Rattle.std.specs.Io.KnownBytes.{Appends};
 ghost use Rattle.sqlx_script.specs.declared.step.Event.{Event};
-ghost use Rattle.sqlx_script.specs.declared.reply.Reply.{Reply};
 ghost use Rattle.sqlx_script.specs.Texts.{reply_text, line_of};
-ghost use Rattle.sqlx_script.specs.Built.{is_built};
+ghost use Rattle.sqlx_script.specs.Built.{has_few_opens};
 ghost use Rattle.sqlx_script.specs.Grammar.{Script, script_of, limit};
 ghost use Rattle.sqlx_rules.specs.Answer.{answer};
 ghost use Rattle.sqlx_play.specs.StageStands.{StageStands, last_of, numbers_of};
 ghost use Rattle.sqlx_play.specs.ScriptRuns.{runs_of, runs_after};
 ghost use Rattle.sqlx_rules.specs.Output.{output_due};
 ghost use Rattle.sqlx_play.specs.Causes.{TookAll, WrotePart, TextCause, StopsText, PlayCause, IsSound, shown};
-ghost use Rattle.sqlx_play.specs.Plays.{PlaysLines, StopsAt, lines_text, Plays, Answers};
+ghost use Rattle.sqlx_play.specs.Plays.{Replies, RepliesInPart, PlaysLines, LinesCause, Plays};
 ghost use Rattle.sqlx_rules.specs.Pairs.{Pairs};
 
 use crate::error::PlayError;
@@ -51,21 +50,17 @@ fn play_event<K: Sink>(
     event: &Event,
     sink: &mut K,
 ) -> Result<(), PlayError>
-    requires built { is_built event.now.step ≡ true }
+    requires few { has_few_opens event.now.step ≡ true }
     requires numbers { numbers_of stage.old ≤ 2 ^ 62 }
     requires in_order { last_of stage.old ≤ event.now.moment.0 }
-    ensures ok { OnOk result ((pairs : Pairs) → StageStands stage.old pairs →
-        Appends (K.written sink.old) (K.written sink.new) (line_of (reply_text (answer stage.old.pool pairs event.now)))
-        × StageStands stage.new (pairs ++ (event.now, answer stage.old.pool pairs event.now) ∷ [])) }
+    ensures ok { OnOk result (Replies (K.written sink.old) (K.written sink.new) stage.old stage.new event.now) }
     ensures runs { OnOk result ((pairs : Pairs) → StageStands stage.old pairs →
         stage.new.out.store.runs ≡ runs_after event.now.step (answer stage.old.pool pairs event.now) stage.old.out.store.runs) }
     ensures pool { stage.new.pool ≡ stage.old.pool }
     ensures last { last_of stage.new ≤ event.now.moment.0 }
     ensures used { numbers_of stage.new ≤ numbers_of stage.old + 2 ^ 20 }
     ensures rises { K.faults sink.old ≤ K.faults sink.new }
-    ensures cause { IfErr result (TextCause (λ _. ⊥) ((pairs : Pairs) → StageStands stage.old pairs →
-        WrotePart (K.written sink.old) (K.written sink.new) (line_of (reply_text (answer stage.old.pool pairs event.now))))
-        (K.faults sink.old) (K.faults sink.new)) }
+    ensures cause { IfErr result (TextCause (λ _. ⊥) (RepliesInPart (K.written sink.old) (K.written sink.new) stage.old event.now) (K.faults sink.old) (K.faults sink.new)) }
 {
     let reply = answer(stage, alloc, event)?;
     write_line(alloc, sink, &reply)
@@ -86,15 +81,15 @@ fn play_lines<K: Sink>(
     ensures ok { OnOk result (PlaysLines text.now stage.old.pool (K.written sink.old) (K.written sink.new) stage.new) }
     ensures pool { stage.new.pool ≡ stage.old.pool }
     ensures rises { K.faults sink.old ≤ K.faults sink.new }
-    ensures cause { IfErr result (TextCause (StopsAt text.now stage.old.pool (K.written sink.old) (K.written sink.new))
-        (WrotePart (K.written sink.old) (K.written sink.new) (lines_text stage.old.pool text.now)) (K.faults sink.old) (K.faults sink.new)) }
+    ensures cause { IfErr result (LinesCause text.now stage.old.pool (K.written sink.old) (K.written sink.new) (K.faults sink.old) (K.faults sink.new)) }
 {
+    let counts_tests = stage.pool.counts_tests;
     let mut rest = text;
     let mut last: u64 = 0;
     let mut number: u64 = 2;
     while !rest.is_empty() {
         let (line, after) = cut_line(rest);
-        let event = match read_event(line) {
+        let event = match read_event(line, counts_tests) {
             Some(event) if event.moment.0 >= last => event,
             _ => return Err(PlayError::ScriptLine(number)),
         };
@@ -182,32 +177,4 @@ pub fn play<S: Source, K: Sink>(
     ensures writes_rise { K.faults sink.old ≤ K.faults sink.new }
 {
     play_source(alloc, source, sink)
-}
-
-/// What the program does with the words of its command line.
-pub fn run<S: Source, K: Sink>(
-    alloc: Global,
-    words: &[String],
-    source: &mut S,
-    sink: &mut K,
-) -> Result<(), PlayError>
-    // There were no words, all bytes were read, they are a script, and its output was written.
-    ensures ok { OnOk result ((words.now ≡ []) × (bytes : List ℕ) × TookAll (S.left source.old) (S.left source.new) bytes
-        × Answers bytes (K.written sink.old) (K.written sink.new)) }
-    // Any word is a wrong use: nothing is read or written.
-    ensures usage { IsErrOf result PlayError.Usage ↔ (words.now ≢ []) }
-    ensures unused { words.now ≢ [] → (S.left source.new ≡ S.left source.old) × (K.written sink.new ≡ K.written sink.old) }
-    // Without a word each other answer has its cause, and a script that is read and written without a fault is played, unless memory runs out.
-    ensures cause { words.now ≡ [] → IfErr result (PlayCause (shown S.left S.faults source.old source.new K.written K.faults sink.old sink.new)) }
-    ensures complete { words.now ≡ [] → (bytes : List ℕ) (script : Script) → IsSound (shown S.left S.faults source.old source.new K.written K.faults sink.old sink.new) bytes script
-        → IsOkUnless result PlayError.OutOfMemory }
-    ensures reads_rise { S.faults source.old ≤ S.faults source.new }
-    ensures writes_rise { K.faults sink.old ≤ K.faults sink.new }
-{
-    if !words.is_empty() {
-        return Err(PlayError::Usage);
-    }
-    let played = play(alloc, source, sink)?;
-    drop(played);
-    Ok(())
 }

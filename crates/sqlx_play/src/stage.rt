@@ -2,7 +2,7 @@
 ghost use Rattle.std.specs.Prelude.{◌≡◌, ◌+◌, ◌^◌, ◌≤◌, true, [], List, IfOk, IfErr};
 ghost use Rattle.sqlx_script.specs.declared.step.Event.{Event};
 ghost use Rattle.sqlx_script.specs.declared.reply.Reply.{Reply};
-ghost use Rattle.sqlx_script.specs.Built.{is_built};
+ghost use Rattle.sqlx_script.specs.Built.{has_few_opens};
 ghost use Rattle.sqlx_rules.specs.Answer.{report_of};
 ghost use Rattle.sqlx_play.specs.PlaysEvent.{PlaysEvent};
 ghost use Rattle.sqlx_play.specs.ScriptRuns.{runs_of, runs_after};
@@ -57,11 +57,13 @@ fn options_of(pool: &PoolLine) -> PoolOptions
         .after_connect(pool.after_connect)
         .before_acquire(pool.before_acquire)
         .after_release(pool.after_release)
+        .idle_tries(pool.tries)
 }
 
 /// The stage before the first event.
 pub fn new_stage(alloc: Global, pool: PoolLine) -> Result<Stage, PlayError>
     requires some { 1 ≤ pool.max }
+    requires tries { (1 ≤ pool.tries) × (pool.tries ≤ 16) }
     ensures stands { IfOk result (λ stage. StageStands stage []) }
     ensures pool { IfOk result (λ stage. stage.pool ≡ pool) }
     ensures runs { IfOk result (λ stage. stage.out.store.runs ≡ runs_of []) }
@@ -82,7 +84,7 @@ pub fn new_stage(alloc: Global, pool: PoolLine) -> Result<Stage, PlayError>
 
 /// One event on the stage.
 pub fn answer(stage: &mut Stage, alloc: Global, event: &Event) -> Result<Reply, PlayError>
-    requires built { is_built event.now.step ≡ true }
+    requires few { has_few_opens event.now.step ≡ true }
     requires numbers { numbers_of stage.old ≤ 2 ^ 62 }
     requires in_order { last_of stage.old ≤ event.now.moment.0 }
     ensures ok { IfOk result (PlaysEvent stage.old stage.new event.now) }

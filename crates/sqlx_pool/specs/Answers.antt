@@ -1,12 +1,22 @@
 -- What is asked of the answers of steps.
 use Rattle.std.specs.Prelude.{⊤, Bool, true, false, Option, Some, None}
+use Rattle.std.specs.List.{list_any}
+use Rattle.sqlx_log.specs.Marks.{is_shut}
 use Rattle.sqlx_pool_core.specs.declared.steps.Lent.{Lent}
+use Rattle.sqlx_pool_core.specs.declared.steps.Verdict.{Verdict}
+use Rattle.sqlx_pool_core.specs.declared.ticket.Phase.{Phase}
+use Rattle.sqlx_pool_core.specs.PollSteps.{judged, may_test_next, test_answer, tested_at}
+use Rattle.sqlx_pool.specs.State.{PoolState}
 use Rattle.sqlx_pool_core.specs.declared.steps.AfterTest.{AfterTest}
 use Rattle.sqlx_pool_core.specs.declared.steps.AfterTest.TheVariants as tested
 use Rattle.sqlx_pool_core.specs.declared.steps.Tried.{Tried}
 use Rattle.sqlx_pool_core.specs.declared.steps.Tried.TheVariants as tried
 use Rattle.sqlx_pool_core.specs.declared.steps.AfterConnect.{AfterConnect}
 use Rattle.sqlx_pool_core.specs.declared.steps.AfterConnect.TheVariants as connected
+
+-- what a test of a connection answers in a pool, to a ticket in this phase
+abbrev pub test_answer_in : {C O : Type 0} → PoolState C O → Verdict C → Option Phase → AfterTest C
+test_answer_in state verdict phase = test_answer (tested_at (judged verdict) phase) (list_any is_shut state.marks) (may_test_next state.core.options.idle_tries phase) state.core.idle verdict
 
 module _ {C : Type 0} where
   -- the test lends its connection

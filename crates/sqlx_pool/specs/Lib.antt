@@ -6,3 +6,7 @@ pub mod Checks
 pub mod Stage
 pub mod Polling
 pub mod Returned
+pub mod Begun
+pub mod Maybe
+pub mod Acquired
+pub mod Opened

@@ -78,7 +78,7 @@ impl<C: Depth + Drop, O: Drop, H: Ledger, L: Loans> AcquiringOf<C, O, H, L> {
             .begin(client, ticket, now, tally);
         let tries = pool.shared.options.get_idle_tries();
         let tested = pool.test::<R, X>(rt, client, ticket, begun, tries, out, tally);
-        let stage = pool.connect::<R, X>(rt, alloc, client, ticket, now, tested, out, tally);
+        let stage = pool.open_wanted::<R, X>(rt, alloc, client, ticket, now, tested, out, tally);
         match stage {
             Stage::Lent(lent, held) => {
                 Polling::Ready(PoolConnectionOf::new(pool, client, lent, held))

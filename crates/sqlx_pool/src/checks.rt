@@ -1,7 +1,9 @@
 //! What is asked of the outside between two locked steps: the core's own test of an idle connection, try to open one
 //! and test of one that comes back. Nothing here knows the lock. Each reads the connection's own depth last.
 
-ghost use Rattle.std.specs.Prelude.{◌≡◌, ℕ, ◌≤◌};
+ghost use Rattle.std.specs.Prelude.{◌≡◌, ℕ, ◌≤◌, IfErr, OnErr};
+ghost use Rattle.sqlx_pool_core.specs.Outside.{HasRisen};
+ghost use Rattle.sqlx_pool.specs.Opened.{IsOpenRefusal};
 ghost use Rattle.sqlx_pool_core.specs.PollParts.{IfAccepted, IfOpened, IfFailed, IsForGood};
 ghost use Rattle.sqlx_pool_core.specs.Giving.{is_pass};
 ghost use Rattle.sqlx_pool_core.specs.PollSteps.{judged};
@@ -9,7 +11,7 @@ ghost use Rattle.sqlx_pool.specs.Checks.{IfPassed};
 
 use sqlx_pool_core::probe::{self, Check, Opening};
 use sqlx_pool_core::{Idle, Lent, Outside, PoolConnectionMetadata, PoolOptions, Verdict};
-use sqlx_text::{Depth, Moment};
+use sqlx_text::{Depth, Error, Moment};
 use std::alloc::Global;
 
 // The test of an idle connection asks nothing of the outside.
@@ -94,6 +96,33 @@ pub fn judge<C: Depth, O, X: Outside<C, O>>(
     }
 }
 
+// Runs the hook after a connect, where it is set, on a new connection.
+pub fn hooked<C, O, X: Outside<C, O>>(hook: bool, raw: &mut C, out: &mut X) -> Result<(), Error>
+    ensures counts { (X.faults out.old ≤ X.faults out.new) × (X.refusals out.old ≤ X.refusals out.new) }
+    ensures refused { OnErr result (HasRisen (X.refusals out.old) (X.refusals out.new)) }
+{
+    if !hook {
+        return Ok(());
+    }
+    let meta = PoolConnectionMetadata {
+        age: 0,
+        idle_for: 0,
+    };
+    out.after_connect(raw, meta)
+}
+
+// Opens a connection.
+pub fn connected<C, O, X: Outside<C, O>>(
+    alloc: Global,
+    connect: &O,
+    out: &mut X,
+) -> Result<C, Error>
+    ensures counts { (X.faults out.old ≤ X.faults out.new) × (X.refusals out.old ≤ X.refusals out.new) }
+    ensures refused { IfErr result (IsOpenRefusal (X.faults out.old) (X.refusals out.old) (X.faults out.new) (X.refusals out.new)) }
+{
+    out.connect(alloc, connect)
+}
+
 // Tries to open a connection, and closes one that its hook refuses.
 fn tried<C, O, X: Outside<C, O>>(alloc: Global, hook: bool, connect: &O, out: &mut X) -> Opening<C>
     ensures cause { IfFailed result (λ e. IsForGood (X.faults out.old) (X.faults out.new) e) }
@@ -126,6 +155,18 @@ pub fn try_open<C: Depth, O, X: Outside<C, O>>(
     }
 }
 
+// Tests a connection that comes back, by what the outside says.
+fn returned<C, O, X: Outside<C, O>>(
+    hook: bool,
+    raw: &mut C,
+    meta: PoolConnectionMetadata,
+    out: &mut X,
+) -> Check
+    ensures counts { (X.faults out.old ≤ X.faults out.new) × (X.refusals out.old ≤ X.refusals out.new) }
+{
+    probe::returns::<C, O, X>(hook, raw, meta, out)
+}
+
 // Tests a connection that comes back: by the hook after a release where it is set, by its depth, and by a ping.
 pub fn may_rest<C: Depth, O, X: Outside<C, O>>(
     options: &PoolOptions,
@@ -134,7 +175,8 @@ pub fn may_rest<C: Depth, O, X: Outside<C, O>>(
     out: &mut X,
 ) -> Check
     ensures flat { IfPassed result (C.levels raw.new ≡ 0) }
+    ensures counts { (X.faults out.old ≤ X.faults out.new) × (X.refusals out.old ≤ X.refusals out.new) }
 {
-    let check = probe::returns::<C, O, X>(options.get_after_release(), raw, meta, out);
+    let check = returned::<C, O, X>(options.get_after_release(), raw, meta, out);
     flat(check, raw)
 }

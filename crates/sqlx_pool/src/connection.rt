@@ -1,6 +1,6 @@
 //! A connection that a pool has lent.
 
-ghost use Rattle.std.specs.Prelude.{◌≡◌, ℕ, true, false, IfErr};
+ghost use Rattle.std.specs.Prelude.{◌≡◌, ◌≤◌, ℕ, true, false, IfErr};
 ghost use Rattle.sqlx_text.specs.declared.error.Error.{Error};
 ghost use Rattle.sqlx_pool.specs.Returned.{was_kept};
 
@@ -70,7 +70,8 @@ impl<C: Depth + Drop, O: Drop, H: Ledger, L: Loans> PoolConnectionOf<C, O, H, L>
         now: Moment,
         out: &mut X,
     ) -> Returned
-        ensures { self.closes ≡ true → was_kept result ≡ false }
+        ensures closed { self.closes ≡ true → was_kept result ≡ false }
+        ensures counts { (X.faults out.old ≤ X.faults out.new) × (X.refusals out.old ≤ X.refusals out.new) }
     {
         let PoolConnectionOf {
             pool,
@@ -99,7 +100,7 @@ impl<C: Depth + Drop, O: Drop, H: Ledger, L: Loans> PoolConnectionOf<C, O, H, L>
                 }
             }
             Given::NotHeld(raw) => {
-                out.close_hard(raw);
+                close_by::<C, O, X>(Check::CloseHard, raw, out);
                 Returned::NotHeld
             }
         }
@@ -113,7 +114,8 @@ impl<C: Depth + Drop, O: Drop, H: Ledger, L: Loans> PoolConnectionOf<C, O, H, L>
         now: Moment,
         out: &mut X,
     ) -> Result<Openings, Error>
-        ensures { IfErr result (λ e. e ≡ Error.NotHeld) }
+        ensures only { IfErr result (λ e. e ≡ Error.NotHeld) }
+        ensures counts { (X.faults out.old ≤ X.faults out.new) × (X.refusals out.old ≤ X.refusals out.new) }
     {
         let PoolConnectionOf {
             pool,
@@ -127,10 +129,10 @@ impl<C: Depth + Drop, O: Drop, H: Ledger, L: Loans> PoolConnectionOf<C, O, H, L>
         let (ended, left) = pool.shared.locked.lock(rt).end(client, id, held);
         drop(left);
         if ended {
-            out.close(raw);
+            close_by::<C, O, X>(Check::Close, raw, out);
             Ok(pool.keep_minimum::<R, X>(rt, alloc, now, out))
         } else {
-            out.close_hard(raw);
+            close_by::<C, O, X>(Check::CloseHard, raw, out);
             Err(Error::NotHeld)
         }
     }
@@ -143,7 +145,8 @@ impl<C: Depth + Drop, O: Drop, H: Ledger, L: Loans> PoolConnectionOf<C, O, H, L>
         now: Moment,
         out: &mut X,
     ) -> (C, Openings)
-        ensures { result.0 ≡ self.raw }
+        ensures raw { result.0 ≡ self.raw }
+        ensures counts { (X.faults out.old ≤ X.faults out.new) × (X.refusals out.old ≤ X.refusals out.new) }
     {
         let PoolConnectionOf {
             pool,
@@ -168,7 +171,8 @@ impl<C: Depth + Drop, O: Drop, H: Ledger, L: Loans> PoolConnectionOf<C, O, H, L>
         now: Moment,
         out: &mut X,
     ) -> (C, Openings)
-        ensures { result.0 ≡ self.raw }
+        ensures raw { result.0 ≡ self.raw }
+        ensures counts { (X.faults out.old ≤ X.faults out.new) × (X.refusals out.old ≤ X.refusals out.new) }
     {
         let PoolConnectionOf {
             pool,

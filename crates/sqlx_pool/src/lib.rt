@@ -4,25 +4,42 @@
 //! its log; the connects, pings and hooks run between these steps, while the lock is free.
 #![tactic(auto)]
 
+mod acquire;
 mod acquiring;
+mod begins;
 mod books;
 mod checks;
 mod close_event;
 mod connection;
 mod filled;
 mod hold;
+mod hooks;
 mod locked;
+mod mark_log;
+mod maybe;
+mod options_connector;
+mod parts;
 mod pool;
+mod pool_connect;
 mod record;
 mod stage;
 mod tally;
 
+pub use acquire::Acquire;
 pub use acquiring::{AcquiringOf, Polling, PoolPollOf};
+pub use begins::{BeginRefusedOf, PoolBegin};
 pub use close_event::{CloseEventOf, Step};
 pub use connection::{PoolConnectionOf, Returned};
+pub use hooks::{Hooks, NoHooks};
 pub use locked::Locked;
+pub use mark_log::MarkLog;
+pub use maybe::{MaybePoolConnection, MaybePoolConnectionOf};
+pub use options_connector::OptionsConnector;
+pub use parts::Parts;
 pub use pool::PoolOf;
+pub use pool_connect::PoolConnect;
 pub use sqlx_pool_core::{CloseState, Mark, Openings, PoolConnectionMetadata, PoolOptions};
+pub use sqlx_traits::Connector;
 use sqlx_traits::Database;
 pub use stage::Why;
 pub use tally::{Held, Loans, Tally};
@@ -61,3 +78,6 @@ pub type CloseEvent<DB, H, L> = CloseEventOf<
     H,
     L,
 >;
+
+/// Why no transaction was begun on a connection of a database's pool.
+pub type BeginRefused<DB, H, L> = BeginRefusedOf<PoolConnection<DB, H, L>>;

@@ -4,13 +4,14 @@ ghost use Rattle.std.specs.Prelude.{◌≡◌, ℕ, ◌+◌, ◌^◌, ◌<◌, �
 ghost use Rattle.sqlx_text.specs.declared.error.Error.{Error};
 ghost use Rattle.sqlx_log.specs.FairLog.{IsFair};
 ghost use Rattle.sqlx_pool.specs.Booked.{CountsIf};
+ghost use Rattle.sqlx_pool.specs.Opened.{IsOpenable};
 
 mod first;
 mod keeping;
 mod polls;
 
-use crate::{AcquiringOf, CloseEventOf, Loans, Locked, PoolConnectionOf, Tally};
-use sqlx_pool_core::{CloseState, Mark, PoolOptions};
+use crate::{AcquiringOf, CloseEventOf, Loans, Locked, MarkLog, PoolConnectionOf, Tally};
+use sqlx_pool_core::{CloseState, PoolOptions};
 use sqlx_text::{Depth, Error, Moment, OutOfMemory};
 use std::alloc::Global;
 use std::sync::ledger::{Blank, Ledger};
@@ -31,20 +32,19 @@ pub struct PoolOf<C: Depth, O, H: Ledger, L: Loans> {
 }
 
 impl<C: Depth + Drop, O: Drop, H: Ledger, L: Loans> PoolOf<C, O, H, L> {
-    /// A pool with no connection yet, and the tally of its loans with every part. The two blanks are the ledgers of the
-    /// connections that are held and of the loans. In sqlx: `connect_lazy_with`.
-    pub fn connect_lazy_with(
+    // A pool with no connection yet, and the tally of its loans with every part. The two blanks are the ledgers of the
+    // connections that are held and of the loans.
+    pub(crate) fn new(
         alloc: Global,
         options: PoolOptions,
         connect: O,
         held: Blank,
         loans: Blank,
     ) -> Result<(Self, Tally<L>), OutOfMemory>
-        requires some { 1 ≤ options.max_connections }
-        requires tries { (1 ≤ options.idle_tries) × (options.idle_tries ≤ 16) }
-        requires max { options.max_connections ≡ L.max }
+        requires options { IsOpenable options L.max }
         requires held { (held.name ≡ H.name) × (held.parts ≡ H.parts) × (held.parts ≡ 2 ^ 32) }
         requires loans { (loans.name ≡ L.name) × (loans.parts ≡ L.parts) }
+        ensures options { IfOk result (λ made. made.0.shared.value.options ≡ options) }
         ensures tally { IfOk result (λ made. made.1 ≡ record { parts = L.parts; loans = 0 }) }
     {
         let Ok(connect) = Arc::new(alloc, connect) else {
@@ -62,7 +62,9 @@ impl<C: Depth + Drop, O: Drop, H: Ledger, L: Loans> PoolOf<C, O, H, L> {
     }
 
     /// Another handle on the same pool. In sqlx: `clone`.
-    pub fn try_clone(&self) -> Result<Self, OutOfMemory> {
+    pub fn try_clone(&self) -> Result<Self, OutOfMemory>
+        ensures { IfOk result (λ copy. copy.shared.value ≡ self.now.shared.value) }
+    {
         match Arc::try_clone(&self.shared) {
             Ok(shared) => Ok(PoolOf { shared }),
             Err(_) => Err(OutOfMemory),
@@ -129,13 +131,17 @@ impl<C: Depth + Drop, O: Drop, H: Ledger, L: Loans> PoolOf<C, O, H, L> {
         }
     }
 
-    /// How many connections there are or may be.
-    pub fn size<R: Wait>(&self, rt: &R) -> u32 {
+    /// How many connections there are or may be: at most the maximum.
+    pub fn size<R: Wait>(&self, rt: &R) -> u32
+        ensures { result ≤ L.max }
+    {
         self.shared.locked.lock(rt).size()
     }
 
-    /// How many connections are idle.
-    pub fn num_idle<R: Wait>(&self, rt: &R) -> usize {
+    /// How many connections are idle: at most the maximum.
+    pub fn num_idle<R: Wait>(&self, rt: &R) -> usize
+        ensures { result ≤ L.max }
+    {
         self.shared.locked.lock(rt).num_idle()
     }
 
@@ -158,7 +164,9 @@ impl<C: Depth + Drop, O: Drop, H: Ledger, L: Loans> PoolOf<C, O, H, L> {
     }
 
     /// How the pool was set up.
-    pub fn options(&self) -> &PoolOptions {
+    pub fn options(&self) -> &PoolOptions
+        ensures { result.now ≡ self.now.shared.value.options }
+    {
         &self.shared.options
     }
 
@@ -191,12 +199,14 @@ impl<C: Depth + Drop, O: Drop, H: Ledger, L: Loans> PoolOf<C, O, H, L> {
         self.shared.locked.lock(rt).log_len()
     }
 
-    /// A copy of the log: fair from the start, for a pool of this maximum.
-    pub fn read_log<R: Wait>(&self, rt: &R, alloc: Global) -> Result<Vec<Mark>, OutOfMemory>
-        ensures { IfOk result (λ log. IsFair L.max [] log.items) }
+    /// A copy of the log, which was never cut: fair from the start, for a pool of this maximum.
+    pub fn read_log<R: Wait>(&self, rt: &R, alloc: Global) -> Result<MarkLog, OutOfMemory>
+        ensures start { IfOk result (λ log. log.start.items ≡ []) }
+        ensures fair { IfOk result (λ log. IsFair L.max log.start.items log.marks.items) }
     {
         let guard = self.shared.locked.lock(rt);
         guard.facts();
-        guard.read_log(alloc)
+        let marks = guard.read_log(alloc)?;
+        Ok(MarkLog::new(Vec::new(alloc), marks))
     }
 }

@@ -1,5 +1,5 @@
 -- Why a keeping of the minimum ends: what a try that opened nothing says of the outside.
-use Rattle.std.proofs.Common.{◌≡◌, ◌==◌, ℕ, ◌+◌, ◌≤◌, ◌<◌, ◌⊎◌, inl, inr, Bool, true, false, is_err, cond, nat_lt, List, [], ◌∷◌, Result, Ok, Err, refl, sym, ap, ◌∙◌, subst, arith}
+use Rattle.std.proofs.Common.{◌≡◌, ◌==◌, ℕ, ◌+◌, ◌≤◌, ◌<◌, ◌⊎◌, inl, inr, Bool, true, false, is_err, cond, List, [], ◌∷◌, Result, Ok, Err, refl, sym, ap, ◌∙◌, subst, arith}
 use Rattle.std.proofs.lemmas.Bool.{lt-ltb}
 use Rattle.sqlx_text.specs.declared.error.Error.{Error}
 use Rattle.sqlx_text.specs.declared.error.Error.TheVariants as error
@@ -7,8 +7,8 @@ use Rattle.sqlx_pool_core.specs.declared.options.PoolOptions.{PoolOptions}
 use Rattle.sqlx_pool_core.specs.declared.probe.Opening.{Opening}
 use Rattle.sqlx_pool_core.specs.declared.probe.Opening.TheVariants.{Opened, Rejected, Transient, Failed}
 use Rattle.sqlx_pool_core.specs.declared.steps.Openings.{Openings}
-use Rattle.sqlx_pool_core.specs.Calls.{Call, Facts, IsCounted, connect, after_connect, close_hard}
-use Rattle.sqlx_pool_core.specs.Chain.{new_meta, refused, SetsUp, KeepsIf, Follows, Tries}
+use Rattle.sqlx_pool_core.specs.Calls.{Call, Facts, connect, after_connect, close_hard}
+use Rattle.sqlx_pool_core.specs.Chain.{new_meta, SetsUp, KeepsIf, Follows, Tries}
 use Rattle.sqlx_pool_core.specs.Core.{Core}
 use Rattle.sqlx_pool_core.specs.KeepingSteps.{has_place, lacks}
 use Rattle.sqlx_pool_core.specs.Minimum.{filled, opened_of, is_short, Keeps, KeepsMinimum}

@@ -1,25 +1,21 @@
 -- The openings of a keeping of the minimum, one behind the other.
-use Rattle.std.proofs.Common.{◌≡◌, ℕ, ◌+◌, ◌^◌, ◌<◌, ◌≤◌, max, min, nat_lt, Bool, true, false, not, ◌&&◌, zero, suc, ◌⊎◌, inl, inr, List, [], ◌∷◌, ◌++◌, length-append, append-nil, append_assoc, Option, Some, None, Result, Ok, Err, refl, sym, ap, ◌∙◌, subst, arith}
+use Rattle.std.proofs.Common.{◌≡◌, ℕ, ◌+◌, ◌<◌, ◌≤◌, max, nat_lt, Bool, true, false, zero, suc, List, [], ◌∷◌, ◌++◌, length-append, append-nil, append_assoc, Option, Some, None, refl, sym, ap, ◌∙◌, subst, arith}
 use Rattle.std.proofs.lemmas.List.Elements.{All-nil, All-push}
-use Rattle.sqlx_text.specs.declared.error.Error.{Error}
-use Rattle.sqlx_text.specs.declared.error.Error.TheVariants.{OutOfMemory}
 use Rattle.sqlx_log.specs.declared.mark.Mark.{Mark}
 use Rattle.sqlx_log.specs.declared.mark.Mark.TheVariants as mark
-use Rattle.sqlx_pool_core.specs.declared.options.PoolOptions.{PoolOptions}
 use Rattle.sqlx_pool_core.specs.declared.probe.Opening.{Opening}
 use Rattle.sqlx_pool_core.specs.declared.probe.Opening.TheVariants.{Opened, Rejected, Transient, Failed}
 use Rattle.sqlx_pool_core.specs.declared.steps.Idle.{Idle}
 use Rattle.sqlx_pool_core.specs.declared.steps.Openings.{Openings}
 use Rattle.sqlx_pool_core.specs.Calls.{Call, Facts}
 use Rattle.sqlx_pool_core.specs.Chain.{Tries}
-use Rattle.sqlx_pool_core.specs.Core.{Core, size, free, waiting}
+use Rattle.sqlx_pool_core.specs.Core.{Core}
 use Rattle.sqlx_pool_core.specs.Edits.{at_moment, opened, kept}
 use Rattle.sqlx_pool_core.specs.KeepingSteps.{done, done_at, done_marks, placed, placed_back, has_place, lacks}
 use Rattle.sqlx_pool_core.specs.Logs.{Logs}
-use Rattle.sqlx_pool_core.specs.Minimum.{raw_of, filled, filled_marks, opened_of, is_short, openings_made, IsFresh, Opens, Keeps, KeepsMinimum}
+use Rattle.sqlx_pool_core.specs.Minimum.{raw_of, filled, filled_marks, opened_of, openings_made, IsFresh, Opens, Keeps, KeepsMinimum}
 use Rattle.sqlx_pool_core.proofs.Keeping.{place-open}
 use Rattle.sqlx_pool_core.proofs.Polling.{logs-then, logs-by}
-use Rattle.sqlx_pool_core.specs.PollParts.{IfOpened}
 use Rattle.sqlx_pool_core.proofs.PollEnds.{tries-rest}
 use Rattle.sqlx_pool_core.proofs.Lacking.{below-lack, place-left}
 use Rattle.sqlx_pool_core.proofs.Fair.{makes-nothing}

@@ -1,4 +1,4 @@
-pub mod InPlace
+pub mod ByNumber
 pub mod Found
 pub mod Counting
 pub mod Soundness

@@ -10,7 +10,7 @@ pub mod PollTable
 pub mod OwnTurn
 pub mod Outside
 pub mod Edits
-pub mod InPlace
+pub mod Tickets
 pub mod Place
 pub mod PollSteps
 pub mod ReturnSteps

@@ -13,6 +13,7 @@ mod pool_core;
 pub mod probe;
 mod steps;
 mod ticket;
+mod tickets;
 
 pub use options::PoolOptions;
 pub use outside::{Outside, PoolConnectionMetadata};

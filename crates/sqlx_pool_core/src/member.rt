@@ -21,6 +21,7 @@ use crate::lists;
 use crate::options::PoolOptions;
 use crate::steps::{CloseState, Idle, Numbers};
 use crate::ticket::{Held, Phase, Ticket};
+use crate::tickets::Tickets;
 use sqlx_text::{Moment, OutOfMemory};
 use std::alloc::Global;
 use std::collections::VecDeque;
@@ -33,7 +34,7 @@ const NUMBERS: u64 = 1 << 63;
 #[derive(Drop)]
 pub struct Member<C> {
     options: PoolOptions,
-    tickets: Vec<Ticket>,
+    tickets: Tickets,
     held: Vec<Held>,
     idle: VecDeque<Idle<C>>,
     leaked: u32,
@@ -56,9 +57,9 @@ impl<C> Model for Member<C> {
 
     ghost Value = { Core C };
 
-    ghost view = { λ s. core_of s.options s.tickets.items s.held.items s.idle.items s.leaked s.shut s.closed s.places s.permits s.next_ticket s.next_conn s.last.0 };
+    ghost view = { λ s. core_of s.options s.tickets s.held.items s.idle.items s.leaked s.shut s.closed s.places s.permits s.next_ticket s.next_conn s.last.0 };
 
-    ghost invariant = { λ s. IsSound (core_of s.options s.tickets.items s.held.items s.idle.items s.leaked s.shut s.closed s.places s.permits s.next_ticket s.next_conn s.last.0)
+    ghost invariant = { λ s. IsSound (core_of s.options s.tickets s.held.items s.idle.items s.leaked s.shut s.closed s.places s.permits s.next_ticket s.next_conn s.last.0)
         × HasRoom s.options.max_connections s.shut (vec_capacity s.held) (deque_capacity s.idle) };
 }
 
@@ -89,7 +90,7 @@ impl<C> Member<C> {
         };
         Ok(Member {
             options,
-            tickets: Vec::new(alloc),
+            tickets: Tickets::new(alloc),
             held,
             idle,
             leaked: 0,
@@ -128,7 +129,7 @@ impl<C> Member<C> {
     pub fn num_free(&self) -> u32
         ensures { result ≡ free self.now }
     {
-        let taken = self.held.len() + lists::gone_of(&self.tickets);
+        let taken = self.held.len() + self.tickets.gone();
         self.permits - (taken as u32 + self.leaked + self.places)
     }
 
@@ -136,7 +137,7 @@ impl<C> Member<C> {
     pub fn size(&self) -> u32
         ensures { result ≡ size self.now }
     {
-        let size = self.idle.len() + self.held.len() + lists::gone_of(&self.tickets);
+        let size = self.idle.len() + self.held.len() + self.tickets.gone();
         size as u32 + self.leaked + self.places
     }
 
@@ -151,9 +152,9 @@ impl<C> Member<C> {
     pub fn due(&self) -> usize
         ensures { result ≡ due self.now }
     {
-        let waiting = lists::waiting_of(&self.tickets);
-        let testing = lists::testing_of(&self.tickets);
-        let left = lists::left_to_test(&self.tickets, self.options.get_idle_tries());
+        let waiting = self.tickets.waiting();
+        let testing = self.tickets.testing();
+        let left = self.tickets.left_to_test(self.options.get_idle_tries());
         let shut = if self.shut { 0 } else { 1 };
         6 * self.tickets.len()
             + 2 * waiting

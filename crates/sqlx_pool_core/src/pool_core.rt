@@ -88,9 +88,7 @@ impl<C> PoolCore<C> {
     /// The moment that a step goes by: one below the last moment counts as the last one.
     pub fn moment(&self, now: Moment) -> Moment
         ensures moment { result.0 ≡ moment_of self.now now }
-        ensures sound { IsSound self.now }
     {
-        self.pool.sound();
         self.pool.moment(now)
     }
 
@@ -102,9 +100,11 @@ impl<C> PoolCore<C> {
         self.pool.due()
     }
 
-    /// The pool has at most its maximum of connections, and its numbers have a bound.
+    /// What holds of every pool: it has at most its maximum of connections, its numbers rise and have a bound, and each
+    /// connection is at one place at most. It does nothing.
     pub fn bounds(&self)
-        ensures { IsBounded self.now }
+        ensures bounded { IsBounded self.now }
+        ensures sound { IsSound self.now }
     {
         self.pool.sound();
     }

@@ -1,5 +1,5 @@
 -- A connection without an owner has no open level, by the events and their replies alone.
-use Rattle.std.proofs.Common.{◌≡◌, ℕ, zero, suc, ◌+◌, ◌==◌, ◌&&◌, ◌||◌, Bool, true, false, not, cond, IsTrue, if◌then◌else◌, List, [], ◌∷◌, ◌++◌, map, filter, count_by, Option, Some, None, refl, sym, ap, subst, ◌∙◌, inl, inr, arith, append-nil}
+use Rattle.std.proofs.Common.{◌≡◌, ℕ, zero, suc, ◌+◌, ◌≤◌, ◌==◌, ◌&&◌, ◌||◌, Bool, true, false, not, cond, IsTrue, if◌then◌else◌, List, [], ◌∷◌, ◌++◌, map, filter, count_by, take, Option, Some, None, refl, sym, ap, subst, ◌∙◌, inl, inr, arith, append-nil}
 use Rattle.std.specs.Prelude.{pos}
 use Rattle.std.specs.List.{list_any}
 use Rattle.std.proofs.lemmas.Bool.{eqb-true, not-true, and_parts}
@@ -26,7 +26,7 @@ use Rattle.sqlx_script.specs.Built.{accepts}
 use Rattle.sqlx_brackets.specs.Changes.{leaves, History}
 use Rattle.sqlx_brackets.specs.Brackets.{depth}
 use Rattle.sqlx_brackets.specs.Events.{accepted, begin, custom, put, del, get, commit, roll_back, give_up, connection_asked, reply_of, change_by}
-use Rattle.sqlx_rules.specs.ScriptMarks.{added, waits, taken_by, is_this, leaving, taking, opening, polled, openings, given, ended, detached, leaked, line_limits, reaping, closing, reaped_of, made, marks_of}
+use Rattle.sqlx_rules.specs.ScriptMarks.{added, is_among, refusing, reaching, testing, trying, opening, polled, openings, given, ended, detached, leaked, line_limits, reaping, closing, reaped_of, made, marks_of}
 use Rattle.sqlx_rules.specs.ScriptLevels.{owns, Statement, met_of, statement_of, statement_reply, written_reply, read_reply, gone_by, changed_by, history_of}
 use Rattle.sqlx_rules.specs.Answer.{is_kept, opened_for_minimum, give_reply, reply_at, answer}
 use Rattle.sqlx_rules.proofs.Pairs.{marks_of-push, history_of-push}
@@ -115,33 +115,45 @@ new-shut false idle last = tt
 
 -- ---- the marks of a poll
 
-new-taking : (taken ready : Option ℕ) (ms : List Mark) → IsNew ms → IsNew (taking taken ready ++ ms)
-new-taking None ready ms h last = h last
-new-taking (Some c) ready ms h last = by (is_this c ready)
-  where
-    by : (b : Bool) → KeepsNew last ((mark.Taken c ∷ (if b then [] else mark.Closed c ∷ [])) ++ ms)
-    by true = h (Some (mark.Taken c))
-    by false = h (Some (mark.Closed c))
+new-refusing : (rs : List IdleEntry) (ms : List Mark) → IsNew ms → IsNew (refusing rs ++ ms)
+new-refusing [] ms h last = h last
+new-refusing (r ∷ rs) ms h last = new-refusing rs ms h (Some (mark.Closed r.conn))
 
-new-opening : (c m : ℕ) (taken : Option ℕ) (ms : List Mark) → IsNew ms → IsNew (opening c m taken ++ ms)
-new-opening c m taken ms h last = by (is_this c taken)
+new-reaching : (c : ℕ) (rs : List IdleEntry) (ms : List Mark) → IsNew ms → IsNew (reaching c rs ++ ms)
+new-reaching c [] ms h last = h last
+new-reaching c (r ∷ rs) ms h last = by (new-reaching c rs ms h (Some (mark.Closed r.conn))) (c == r.conn)
+  where
+    by : KeepsNew (Some (mark.Closed r.conn)) (reaching c rs ++ ms) → (b : Bool) → KeepsNew last ((if b then mark.Taken r.conn ∷ [] else mark.Taken r.conn ∷ mark.Closed r.conn ∷ reaching c rs) ++ ms)
+    by more true = h (Some (mark.Taken r.conn))
+    by more false = more
+
+new-testing : (tries : ℕ) (idle : List IdleEntry) (ready : Option ℕ) (ms : List Mark) → IsNew ms → IsNew (testing tries idle ready ++ ms)
+new-testing tries idle None ms h last = new-refusing (take tries idle) ms h last
+new-testing tries idle (Some c) ms h last = by (is_among c idle)
+  where
+    by : (b : Bool) → KeepsNew last ((if b then reaching c idle else refusing (take tries idle)) ++ ms)
+    by true = new-reaching c idle ms h last
+    by false = new-refusing (take tries idle) ms h last
+
+new-opening : (c m : ℕ) (idle : List IdleEntry) (ms : List Mark) → IsNew ms → IsNew (opening c m idle ++ ms)
+new-opening c m idle ms h last = by (is_among c idle)
   where
     by : (b : Bool) → KeepsNew last ((if b then [] else mark.Opened c m ∷ []) ++ ms)
     by true = h last
     by false = h (Some (mark.Opened c m))
 
-new-trying : (t : ℕ) (b : Bool) (taken ready : Option ℕ) (ms : List Mark) → IsNew ms → IsNew ((leaving t b ++ taking taken ready) ++ ms)
-new-trying t true taken ready ms h last = new-taking taken ready ms h (Some (mark.Left t))
-new-trying t false taken ready ms h last = new-taking taken ready ms h last
+new-trying : (tries t : ℕ) (line : Bool) (idle : List IdleEntry) (ready : Option ℕ) (ms : List Mark) → IsNew ms → IsNew (trying tries t line idle ready ++ ms)
+new-trying tries t true idle ready ms h last = new-testing tries idle ready ms h (Some (mark.Left t))
+new-trying tries t false idle ready ms h last = h last
 
-new-polled : (marks : List Mark) (m k t : ℕ) (r : Reply) → IsNew (polled marks m k t r)
-new-polled marks m k t reply.PoolClosed last = tt
-new-polled marks m k t reply.PoolTimedOut last = tt
-new-polled marks m k t (reply.Ready c) last = new-trying t (waits k t marks) (taken_by k t marks) (Some c) (opening c m (taken_by k t marks) ++ (mark.Lent k c ∷ mark.Ended t ∷ [])) (new-opening c m (taken_by k t marks) (mark.Lent k c ∷ mark.Ended t ∷ []) (λ l. tt)) last
-new-polled marks m k t (reply.Backoff until) last = subst (KeepsNew last) (append-nil (leaving t (waits k t marks) ++ taking (taken_by k t marks) None)) (new-trying t (waits k t marks) (taken_by k t marks) None [] (λ l. tt) last)
-new-polled marks m k t reply.Io last = new-trying t (waits k t marks) (taken_by k t marks) None (mark.Ended t ∷ []) (λ l. tt) last
-new-polled marks m k t reply.DatabaseRefused last = new-trying t (waits k t marks) (taken_by k t marks) None (mark.Ended t ∷ []) (λ l. tt) last
-new-polled marks m k t other last = tt
+new-polled : (tries m k t : ℕ) (line : Bool) (idle : List IdleEntry) (r : Reply) → IsNew (polled tries m k t line idle r)
+new-polled tries m k t line idle reply.PoolClosed last = tt
+new-polled tries m k t line idle reply.PoolTimedOut last = tt
+new-polled tries m k t line idle (reply.Ready c) last = new-trying tries t line idle (Some c) (opening c m idle ++ (mark.Lent k c ∷ mark.Ended t ∷ [])) (new-opening c m idle (mark.Lent k c ∷ mark.Ended t ∷ []) (λ l. tt)) last
+new-polled tries m k t line idle (reply.Backoff until) last = subst (KeepsNew last) (append-nil (trying tries t line idle None)) (new-trying tries t line idle None [] (λ l. tt) last)
+new-polled tries m k t line idle reply.Io last = new-trying tries t line idle None (mark.Ended t ∷ []) (λ l. tt) last
+new-polled tries m k t line idle reply.DatabaseRefused last = new-trying tries t line idle None (mark.Ended t ∷ []) (λ l. tt) last
+new-polled tries m k t line idle other last = tt
 
 -- ---- the marks of the other events, but of a give
 
@@ -202,7 +214,7 @@ not_owner k c marks none = by (owns k (owner_of c marks)) refl
     by false e = e
     by true e = absurd (let some = owns-counts k c marks e in omega (arith, some, none))
 
-module _ (pool : PoolLine) (pairs : Pairs) (marks : List Mark) (past : History) (m : ℕ) (f : IsFair pool.max [] marks) (h : IsAtRest (view_of marks) past) where
+module _ (pool : PoolLine) (many : 1 ≤ pool.tries) (pairs : Pairs) (marks : List Mark) (past : History) (m : ℕ) (f : IsFair pool.max [] marks) (h : IsAtRest (view_of marks) past) where
   rests-new : (ms : List Mark) → IsFair pool.max marks ms → IsNew ms → IsAtRest (view_of (marks ++ ms)) (gone_by ms past)
   rests-new ms fair new = subst (λ (v : View). IsAtRest v (gone_by ms past)) (sym (view_of-stepped_all marks ms))
       (rests-marks ms [] pool.max (view_of marks) (last_mark None marks) past (sound-log pool.max marks f)
@@ -262,18 +274,18 @@ module _ (pool : PoolLine) (pairs : Pairs) (marks : List Mark) (past : History) 
       IsAtRest (view_of (marks ++ made pool marks m s r)) (gone_by (made pool marks m s r) (changed_by (statement_of s) r past))
 
   rests-made : (s : Step) → IsAtRestBehind s
-  rests-made (step.Ask client) = rests-new _ (fair-made pool pairs marks past m f (step.Ask client)) (new-asked pool marks m client _)
-  rests-made (step.Poll client ticket answers) = rests-new _ (fair-made pool pairs marks past m f (step.Poll client ticket answers)) (new-polled marks m client ticket _)
-  rests-made (step.Cancel client ticket) = rests-new _ (fair-made pool pairs marks past m f (step.Cancel client ticket)) (new-cancelled pool marks m client ticket _)
-  rests-made (step.Try client) = rests-new _ (fair-made pool pairs marks past m f (step.Try client)) (new-tried pool marks m client _)
-  rests-made (step.Give client c answers opens) = rests-given client c opens answers _ refl (fair-made pool pairs marks past m f (step.Give client c answers opens))
-  rests-made (step.End client c opens) = rests-new _ (fair-made pool pairs marks past m f (step.End client c opens)) (new-ended pool marks m c _)
-  rests-made (step.Detach client c opens) = rests-new _ (fair-made pool pairs marks past m f (step.Detach client c opens)) (new-detached pool marks m c _)
-  rests-made (step.Leak client c opens) = rests-new _ (fair-made pool pairs marks past m f (step.Leak client c opens)) (new-leaked pool marks m c _)
-  rests-made (step.Reap opens) = rests-new _ (fair-made pool pairs marks past m f (step.Reap opens)) (new-reaped (reaped_of pool marks m) _ (new-openings _ (next_conn marks) m))
-  rests-made (step.Min opens) = rests-new _ (fair-made pool pairs marks past m f (step.Min opens)) (new-openings _ (next_conn marks) m)
+  rests-made (step.Ask client) = rests-new _ (fair-made pool many pairs marks past m f (step.Ask client)) (new-asked pool marks m client _)
+  rests-made (step.Poll client ticket answers) = rests-new _ (fair-made pool many pairs marks past m f (step.Poll client ticket answers)) (new-polled pool.tries m client ticket _ (idle_of marks) _)
+  rests-made (step.Cancel client ticket) = rests-new _ (fair-made pool many pairs marks past m f (step.Cancel client ticket)) (new-cancelled pool marks m client ticket _)
+  rests-made (step.Try client) = rests-new _ (fair-made pool many pairs marks past m f (step.Try client)) (new-tried pool marks m client _)
+  rests-made (step.Give client c answers opens) = rests-given client c opens answers _ refl (fair-made pool many pairs marks past m f (step.Give client c answers opens))
+  rests-made (step.End client c opens) = rests-new _ (fair-made pool many pairs marks past m f (step.End client c opens)) (new-ended pool marks m c _)
+  rests-made (step.Detach client c opens) = rests-new _ (fair-made pool many pairs marks past m f (step.Detach client c opens)) (new-detached pool marks m c _)
+  rests-made (step.Leak client c opens) = rests-new _ (fair-made pool many pairs marks past m f (step.Leak client c opens)) (new-leaked pool marks m c _)
+  rests-made (step.Reap opens) = rests-new _ (fair-made pool many pairs marks past m f (step.Reap opens)) (new-reaped (reaped_of pool marks m) _ (new-openings _ (next_conn marks) m))
+  rests-made (step.Min opens) = rests-new _ (fair-made pool many pairs marks past m f (step.Min opens)) (new-openings _ (next_conn marks) m)
   rests-made step.CloseState = rests-new [] (fair-nothing pool.max marks) (λ last. tt)
-  rests-made step.Close = rests-new _ (fair-made pool pairs marks past m f step.Close) (new-shut (is_open marks) (idle_of marks))
+  rests-made step.Close = rests-new _ (fair-made pool many pairs marks past m f step.Close) (new-shut (is_open marks) (idle_of marks))
   rests-made (step.Begin k c a) = rests-statement (record { client = k; conn = c; act = begin c; met = met_of a }) refl
   rests-made (step.Custom k c begins a) = rests-statement (record { client = k; conn = c; act = custom c begins; met = met_of a }) refl
   rests-made (step.Put k c key value a) = rests-statement (record { client = k; conn = c; act = put c (pos key) value; met = met_of a }) refl
@@ -285,31 +297,31 @@ module _ (pool : PoolLine) (pairs : Pairs) (marks : List Mark) (past : History) 
 
   -- the marks of a step, and what a loan among them finds
   lends-made : (s : Step) → LendAtRest (made pool marks m s (reply_at pool pairs marks past m s (statement_of s)))
-  lends-made (step.Ask client) = lends-new _ (fair-made pool pairs marks past m f (step.Ask client)) (new-asked pool marks m client _)
-  lends-made (step.Poll client ticket answers) = lends-new _ (fair-made pool pairs marks past m f (step.Poll client ticket answers)) (new-polled marks m client ticket _)
-  lends-made (step.Cancel client ticket) = lends-new _ (fair-made pool pairs marks past m f (step.Cancel client ticket)) (new-cancelled pool marks m client ticket _)
-  lends-made (step.Try client) = lends-new _ (fair-made pool pairs marks past m f (step.Try client)) (new-tried pool marks m client _)
+  lends-made (step.Ask client) = lends-new _ (fair-made pool many pairs marks past m f (step.Ask client)) (new-asked pool marks m client _)
+  lends-made (step.Poll client ticket answers) = lends-new _ (fair-made pool many pairs marks past m f (step.Poll client ticket answers)) (new-polled pool.tries m client ticket _ (idle_of marks) _)
+  lends-made (step.Cancel client ticket) = lends-new _ (fair-made pool many pairs marks past m f (step.Cancel client ticket)) (new-cancelled pool marks m client ticket _)
+  lends-made (step.Try client) = lends-new _ (fair-made pool many pairs marks past m f (step.Try client)) (new-tried pool marks m client _)
   lends-made (step.Give client c answers opens) = lends-none _ (none_given marks m c (reply_at pool pairs marks past m (step.Give client c answers opens) None))
-  lends-made (step.End client c opens) = lends-new _ (fair-made pool pairs marks past m f (step.End client c opens)) (new-ended pool marks m c _)
-  lends-made (step.Detach client c opens) = lends-new _ (fair-made pool pairs marks past m f (step.Detach client c opens)) (new-detached pool marks m c _)
-  lends-made (step.Leak client c opens) = lends-new _ (fair-made pool pairs marks past m f (step.Leak client c opens)) (new-leaked pool marks m c _)
-  lends-made (step.Reap opens) = lends-new _ (fair-made pool pairs marks past m f (step.Reap opens)) (new-reaped (reaped_of pool marks m) _ (new-openings _ (next_conn marks) m))
-  lends-made (step.Min opens) = lends-new _ (fair-made pool pairs marks past m f (step.Min opens)) (new-openings _ (next_conn marks) m)
-  lends-made step.Close = lends-new _ (fair-made pool pairs marks past m f step.Close) (new-shut (is_open marks) (idle_of marks))
+  lends-made (step.End client c opens) = lends-new _ (fair-made pool many pairs marks past m f (step.End client c opens)) (new-ended pool marks m c _)
+  lends-made (step.Detach client c opens) = lends-new _ (fair-made pool many pairs marks past m f (step.Detach client c opens)) (new-detached pool marks m c _)
+  lends-made (step.Leak client c opens) = lends-new _ (fair-made pool many pairs marks past m f (step.Leak client c opens)) (new-leaked pool marks m c _)
+  lends-made (step.Reap opens) = lends-new _ (fair-made pool many pairs marks past m f (step.Reap opens)) (new-reaped (reaped_of pool marks m) _ (new-openings _ (next_conn marks) m))
+  lends-made (step.Min opens) = lends-new _ (fair-made pool many pairs marks past m f (step.Min opens)) (new-openings _ (next_conn marks) m)
+  lends-made step.Close = lends-new _ (fair-made pool many pairs marks past m f step.Close) (new-shut (is_open marks) (idle_of marks))
   lends-made other = lends-none [] refl
 
 -- ---- a script
 
-pub lends-answer : (pool : PoolLine) (pairs : Pairs) (event : Event) → IsFair pool.max [] (marks_of pool pairs) → IsAtRest (view_of (marks_of pool pairs)) (history_of pool pairs)
+pub lends-answer : (pool : PoolLine) → 1 ≤ pool.tries → (pairs : Pairs) (event : Event) → IsFair pool.max [] (marks_of pool pairs) → IsAtRest (view_of (marks_of pool pairs)) (history_of pool pairs)
     → (done rest : List Mark) (k c : ℕ) → added pool (marks_of pool pairs) (event, answer pool pairs event) ≡ done ++ mark.Lent k c ∷ rest → depth c (gone_by done (history_of pool pairs)) ≡ 0
 unfolding answer
-lends-answer pool pairs event f h = lends-made pool pairs (marks_of pool pairs) (history_of pool pairs) event.moment.0 f h event.step
+lends-answer pool many pairs event f h = lends-made pool many pairs (marks_of pool pairs) (history_of pool pairs) event.moment.0 f h event.step
 
-pub at_rest-push : (pool : PoolLine) (pairs : Pairs) (event : Event) → IsFair pool.max [] (marks_of pool pairs) → IsAtRest (view_of (marks_of pool pairs)) (history_of pool pairs)
+pub at_rest-push : (pool : PoolLine) → 1 ≤ pool.tries → (pairs : Pairs) (event : Event) → IsFair pool.max [] (marks_of pool pairs) → IsAtRest (view_of (marks_of pool pairs)) (history_of pool pairs)
     → IsAtRest (view_of (marks_of pool (pairs ++ (event, answer pool pairs event) ∷ []))) (history_of pool (pairs ++ (event, answer pool pairs event) ∷ []))
 unfolding answer
-at_rest-push pool pairs event f h =
+at_rest-push pool many pairs event f h =
     let pair : Event × Reply = (event, answer pool pairs event) in
     subst (λ (l : List Mark). IsAtRest (view_of l) (history_of pool (pairs ++ pair ∷ []))) (sym (marks_of-push pool pairs pair))
     (subst (IsAtRest (view_of (marks_of pool pairs ++ added pool (marks_of pool pairs) pair))) (sym (history_of-push pool pairs pair))
-    (rests-made pool pairs (marks_of pool pairs) (history_of pool pairs) event.moment.0 f h event.step))
+    (rests-made pool many pairs (marks_of pool pairs) (history_of pool pairs) event.moment.0 f h event.step))

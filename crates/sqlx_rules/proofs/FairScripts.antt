@@ -1,5 +1,5 @@
 -- The marks of a script are fair, by its events and replies alone.
-use Rattle.std.proofs.Common.{◌≡◌, ℕ, Bool, true, false, not, if◌then◌else◌, List, [], ◌∷◌, ◌++◌, Option, Some, None, refl, sym, subst}
+use Rattle.std.proofs.Common.{◌≡◌, ℕ, ◌≤◌, Bool, true, false, not, if◌then◌else◌, List, [], ◌∷◌, ◌++◌, Option, Some, None, refl, sym, subst}
 use Rattle.std.specs.List.{list_any}
 use Rattle.sqlx_log.specs.declared.mark.Mark.{Mark}
 use Rattle.sqlx_log.specs.Marks.{PendingTicket, tickets_of, is_shut, next_ticket}
@@ -25,7 +25,7 @@ use Rattle.sqlx_rules.specs.Pairs.{Pairs}
 
 -- ---- one event
 
-module _ (pool : PoolLine) (pairs : Pairs) (marks : List Mark) (past : History) (m : ℕ) (f : IsFair pool.max [] marks) where
+module _ (pool : PoolLine) (many : 1 ≤ pool.tries) (pairs : Pairs) (marks : List Mark) (past : History) (m : ℕ) (f : IsFair pool.max [] marks) where
   asked_by : (client : ℕ) (b : Bool) → list_any is_shut marks ≡ b → IsFair pool.max marks (made pool marks m (step.Ask client) (if not b then reply.Ticket (next_ticket marks) else reply.PoolClosed))
   asked_by client true e = fair-nothing pool.max marks
   asked_by client false e = fair-ask pool marks f client m e
@@ -36,7 +36,7 @@ module _ (pool : PoolLine) (pairs : Pairs) (marks : List Mark) (past : History) 
 
   pub fair-made : (s : Step) → IsFair pool.max marks (made pool marks m s (reply_at pool pairs marks past m s (statement_of s)))
   fair-made (step.Ask client) = asked_by client (list_any is_shut marks) refl
-  fair-made (step.Poll client ticket answers) = fair-poll pool answers marks f m client ticket (tries_of ticket pairs)
+  fair-made (step.Poll client ticket answers) = fair-poll pool many answers marks f m client ticket (tries_of ticket pairs)
   fair-made (step.Cancel client ticket) = cancelled_by client ticket (asked_in client ticket (tickets_of marks)) refl
   fair-made (step.Try client) = fair-try pool marks f client m
   fair-made (step.Give client c answers opens) = fair-give pool marks f client c m opens answers past
@@ -50,22 +50,22 @@ module _ (pool : PoolLine) (pairs : Pairs) (marks : List Mark) (past : History) 
 
 -- ---- a script
 
-pub fair-answer : (pool : PoolLine) (pairs : Pairs) (event : Event) → IsFair pool.max [] (marks_of pool pairs) → IsFair pool.max (marks_of pool pairs) (added pool (marks_of pool pairs) (event, answer pool pairs event))
+pub fair-answer : (pool : PoolLine) → 1 ≤ pool.tries → (pairs : Pairs) (event : Event) → IsFair pool.max [] (marks_of pool pairs) → IsFair pool.max (marks_of pool pairs) (added pool (marks_of pool pairs) (event, answer pool pairs event))
 unfolding answer
-fair-answer pool pairs event f = fair-made pool pairs (marks_of pool pairs) (history_of pool pairs) event.moment.0 f event.step
+fair-answer pool many pairs event f = fair-made pool many pairs (marks_of pool pairs) (history_of pool pairs) event.moment.0 f event.step
 
-pub fair-push : (pool : PoolLine) (pairs : Pairs) (event : Event) → IsFair pool.max [] (marks_of pool pairs) → IsFair pool.max [] (marks_of pool (pairs ++ (event, answer pool pairs event) ∷ []))
-fair-push pool pairs event f =
+pub fair-push : (pool : PoolLine) → 1 ≤ pool.tries → (pairs : Pairs) (event : Event) → IsFair pool.max [] (marks_of pool pairs) → IsFair pool.max [] (marks_of pool (pairs ++ (event, answer pool pairs event) ∷ []))
+fair-push pool many pairs event f =
     let pair : Event × Reply = (event, answer pool pairs event) in
-    subst (IsFair pool.max []) (sym (marks_of-push pool pairs pair)) (fair-append pool.max [] (marks_of pool pairs) (added pool (marks_of pool pairs) pair) f (fair-answer pool pairs event f))
+    subst (IsFair pool.max []) (sym (marks_of-push pool pairs pair)) (fair-append pool.max [] (marks_of pool pairs) (added pool (marks_of pool pairs) pair) f (fair-answer pool many pairs event f))
 
-fair-after : (pool : PoolLine) (pairs : Pairs) (events : List Event) → IsFair pool.max [] (marks_of pool pairs) → IsFair pool.max [] (marks_of pool (pairs_after pool pairs events))
+fair-after : (pool : PoolLine) → 1 ≤ pool.tries → (pairs : Pairs) (events : List Event) → IsFair pool.max [] (marks_of pool pairs) → IsFair pool.max [] (marks_of pool (pairs_after pool pairs events))
 unfolding pairs_after
-fair-after pool pairs [] f = f
-fair-after pool pairs (event ∷ events) f = fair-after pool (pairs ++ (event, answer pool pairs event) ∷ []) events (fair-push pool pairs event f)
+fair-after pool many pairs [] f = f
+fair-after pool many pairs (event ∷ events) f = fair-after pool many (pairs ++ (event, answer pool pairs event) ∷ []) events (fair-push pool many pairs event f)
 
 pub fair-none : (pool : PoolLine) → IsFair pool.max [] (marks_of pool [])
 fair-none pool = subst (IsFair pool.max []) (sym (marks_of-nil pool)) (fair-nothing pool.max [])
 
-pub fair-script : (pool : PoolLine) (events : List Event) → IsFair pool.max [] (marks_of pool (pairs_after pool [] events))
-fair-script pool events = fair-after pool [] events (fair-none pool)
+pub fair-script : (pool : PoolLine) → 1 ≤ pool.tries → (events : List Event) → IsFair pool.max [] (marks_of pool (pairs_after pool [] events))
+fair-script pool many events = fair-after pool many [] events (fair-none pool)

@@ -1,5 +1,5 @@
 -- The headline holds of each script whose replies are the answers.
-use Rattle.std.proofs.Common.{◌≡◌, Bool, true, false, List, [], ◌∷◌, ◌++◌, find, Option, Some, None, option_map, refl, sym, ap, subst, ◌∙◌}
+use Rattle.std.proofs.Common.{◌≡◌, ◌≤◌, Bool, true, false, List, [], ◌∷◌, ◌++◌, find, Option, Some, None, option_map, refl, sym, ap, subst, ◌∙◌}
 use Rattle.std.specs.List.{list_any}
 use Rattle.sqlx_log.specs.Marks.{Loan, loans_of, is_loan_of}
 use Rattle.sqlx_log.specs.View.{view_of}
@@ -32,7 +32,7 @@ record IsRight (pool : PoolLine) (pairs : Pairs) : Type 0 where
   fair : IsFair pool.max [] (marks_of pool pairs)
   rests : IsAtRest (view_of (marks_of pool pairs)) (history_of pool pairs)
 
-module _ (pool : PoolLine) (events : List Event) where
+module _ (pool : PoolLine) (many : 1 ≤ pool.tries) (events : List Event) where
   right : AllFronts (IsRight pool) (pairs_after pool [] events)
   right = all-fronts pool (IsRight pool) push none events
     where
@@ -40,7 +40,7 @@ module _ (pool : PoolLine) (events : List Event) where
       none = record { fair = fair-none pool; rests = λ c unowned. ap (depth c) (history_of-nil pool) }
 
       push : (pairs : Pairs) (e : Event) → IsRight pool pairs → IsRight pool (pairs ++ (e, answer pool pairs e) ∷ [])
-      push pairs e h = record { fair = fair-push pool pairs e h.fair; rests = at_rest-push pool pairs e h.fair h.rests }
+      push pairs e h = record { fair = fair-push pool many pairs e h.fair; rests = at_rest-push pool many pairs e h.fair h.rests }
 
   -- ---- the clauses
 
@@ -64,7 +64,7 @@ module _ (pool : PoolLine) (events : List Event) where
   lends-script front later pair done rest client conn e made =
       let is = right front (pair ∷ later) e in
       let answered : pair ≡ (pair.0, answer pool front pair.0) = are-answers pool events front pair later e in
-      lends-answer pool front pair.0 is.fair is.rests done rest client conn (ap (added pool (marks_of pool front)) (sym answered) ∙ made)
+      lends-answer pool many front pair.0 is.fair is.rests done rest client conn (ap (added pool (marks_of pool front)) (sym answered) ∙ made)
 
   pub within-script : KeepsMaximum pool (pairs_after pool [] events)
   within-script front later e = fair-within pool.max (marks_of pool front) (right front later e).fair
@@ -76,10 +76,10 @@ module _ (pool : PoolLine) (events : List Event) where
       subst (StopsInTurn pool front moment.0 client ticket) (sym (ap (λ (pair : Event × Reply). pair.1) answered)) (stops-in-turn pool front moment client ticket answers)
 
   pub lends_once-script : NoTwoOwners [] (marks_of pool (pairs_after pool [] events))
-  lends_once-script = lends-once pool.max [] (marks_of pool (pairs_after pool [] events)) (fair-script pool events).safe
+  lends_once-script = lends-once pool.max [] (marks_of pool (pairs_after pool [] events)) (fair-script pool many events).safe
 
   pub line-script : InTurn pool.max [] (marks_of pool (pairs_after pool [] events))
-  line-script = keeps-the-line pool.max [] (marks_of pool (pairs_after pool [] events)) (fair-script pool events).order
+  line-script = keeps-the-line pool.max [] (marks_of pool (pairs_after pool [] events)) (fair-script pool many events).order
 
   pub headline-holds : HoldsHeadline pool (pairs_after pool [] events)
   headline-holds = record {

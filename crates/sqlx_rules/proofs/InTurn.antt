@@ -17,8 +17,8 @@ use Rattle.sqlx_script.specs.declared.answers.ConnectAnswer.TheVariants as conne
 use Rattle.sqlx_script.specs.declared.reply.Reply.{Reply}
 use Rattle.sqlx_script.specs.declared.reply.Reply.TheVariants as reply
 use Rattle.sqlx_rules.specs.Tries.{Tries, tries_of, until_after}
-use Rattle.sqlx_rules.specs.ScriptMarks.{marks_of, first_of}
-use Rattle.sqlx_rules.specs.Answer.{answer, passes_test, is_set_up, connect_reply, idle_reply, turn_reply, ticket_turn, poll_reply}
+use Rattle.sqlx_rules.specs.ScriptMarks.{marks_of}
+use Rattle.sqlx_rules.specs.Answer.{answer, passing_of, is_set_up, connect_reply, idle_reply, turn_reply, ticket_turn, poll_reply}
 use Rattle.sqlx_rules.specs.Laws.{StopsWaitingInTurn}
 
 ready_or_back : (b : Bool) (c until : ℕ) → (if b then reply.Ready c else reply.Backoff until) ≢ reply.Waiting
@@ -32,24 +32,20 @@ connects pool answers c until connect.Transient e = cc
 connects pool answers c until connect.ConnectIo e = cc
 connects pool answers c until connect.ConnectDatabase e = cc
 
-ready_or_else : (b : Bool) (c : ℕ) (other : Reply) → other ≢ reply.Waiting → (if b then reply.Ready c else other) ≢ reply.Waiting
-ready_or_else true c other h e = cc
-ready_or_else false c other h e = h e
-
--- nor does a test of an idle connection
-tests : (passes : Bool) (first : Option ℕ) (other : Reply) → other ≢ reply.Waiting → idle_reply passes first other ≢ reply.Waiting
-tests passes None other h e = h e
-tests passes (Some c) other h e = ready_or_else passes c other h e
+-- nor does a test of idle connections
+tests : (passing : Option ℕ) (other : Reply) → other ≢ reply.Waiting → idle_reply passing other ≢ reply.Waiting
+tests None other h e = h e
+tests (Some c) other h e = cc
 
 -- whatever is tried
-tried : (passes : Bool) (idle : List IdleEntry) (other : Reply) → other ≢ reply.Waiting → turn_reply passes (first_of idle) other (first_idle idle) ≢ reply.Waiting
-tried passes [] other h e = h e
-tried passes (r ∷ rest) other h e = tests passes (Some r.conn) other h e
+tried : (passing : Option ℕ) (idle : List IdleEntry) (other : Reply) → other ≢ reply.Waiting → turn_reply passing other (first_idle idle) ≢ reply.Waiting
+tried passing [] other h e = h e
+tried passing (r ∷ rest) other h e = tests passing other h e
 
 -- the reply in the line, by whether the ticket is entitled
-line_at : (b passes : Bool) (idle : List IdleEntry) (other : Reply) → other ≢ reply.Waiting → (turn_reply passes (first_of idle) other (if b then first_idle idle else turn.Waiting) ≢ reply.Waiting) ↔ (b ≡ true)
-line_at true passes idle other h = (λ n. refl, λ e. tried passes idle other h)
-line_at false passes idle other h = (λ n. absurd (n refl), λ e. absurd cc)
+line_at : (b : Bool) (passing : Option ℕ) (idle : List IdleEntry) (other : Reply) → other ≢ reply.Waiting → (turn_reply passing other (if b then first_idle idle else turn.Waiting) ≢ reply.Waiting) ↔ (b ≡ true)
+line_at true passing idle other h = (λ n. refl, λ e. tried passing idle other h)
+line_at false passing idle other h = (λ n. absurd (n refl), λ e. absurd cc)
 
 entitled : (before free : ℕ) → (nat_lt before free ≡ true) ↔ (before < free)
 entitled before free = (λ e. grind (arith, nat_tests), λ h. grind (arith, nat_tests))
@@ -74,8 +70,8 @@ stops-in-turn pool pairs moment client ticket answers a w =
     let tries = tries_of ticket pairs in
     let connecting = connect_reply pool answers (next_conn marks) (until_after moment.0 a.deadline tries) answers.connect in
     let h : connecting ≢ reply.Waiting = connects pool answers (next_conn marks) (until_after moment.0 a.deadline tries) answers.connect in
-    let by_turn : Turn → Reply = turn_reply (passes_test pool answers) (first_of (idle_of marks)) connecting in
+    let by_turn : Turn → Reply = turn_reply (passing_of pool answers (idle_of marks)) connecting in
     let is : poll_reply pool answers marks moment.0 tries (asked_in client ticket (tickets_of marks)) ≡ by_turn (if is_first_at pool.max 0 marks a.ticket then first_idle (idle_of marks) else turn.Waiting) =
     ap (poll_reply pool answers marks moment.0 tries) w.asked ∙ ap by_turn (waiting_turn pool marks moment.0 tries a w.opened w.waits w.in_time) in
     subst (λ (r : Reply). (r ≢ reply.Waiting) ↔ (before a.ticket (view_of marks) < free pool.max (view_of marks))) (sym is)
-    (both (line_at (is_first_at pool.max 0 marks a.ticket) (passes_test pool answers) (idle_of marks) connecting h) (entitled (before a.ticket (view_of marks)) (free pool.max (view_of marks))))
+    (both (line_at (is_first_at pool.max 0 marks a.ticket) (passing_of pool answers (idle_of marks)) (idle_of marks) connecting h) (entitled (before a.ticket (view_of marks)) (free pool.max (view_of marks))))

@@ -3,6 +3,7 @@ pub mod Pairs
 pub mod Fronts
 pub mod InTurn
 pub mod FairEvents
+pub mod FairTests
 pub mod FairPolls
 pub mod FairScripts
 pub mod Depths

@@ -11,11 +11,11 @@ use Rattle.sqlx_script.specs.declared.step.Step.{Step}
 
 -- a pool of this maximum and timeout, without minimum, limits and switches
 abbrev pub plain_pool : ℕ → ℕ → PoolLine
-plain_pool max timeout = record { max = max; min = 0; timeout = timeout; lifetime = None; idle = None; test_before_acquire = false; after_connect = false; before_acquire = false; after_release = false }
+plain_pool max timeout = record { max = max; min = 0; timeout = timeout; lifetime = None; idle = None; test_before_acquire = false; after_connect = false; before_acquire = false; after_release = false; tries = 1; counts_tests = false }
 
 -- everything that a poll asks is answered well
 abbrev pub good : PollAnswers
-good = record { ping = true; before_acquire = hook.Accepts; connect = connect.Connected; after_connect = set_up.SetUp }
+good = record { ping = true; before_acquire = hook.Accepts; connect = connect.Connected; after_connect = set_up.SetUp; tests = 1 }
 
 -- the connect is refused for a cause that may pass
 abbrev pub refused_for_now : PollAnswers

@@ -1,10 +1,11 @@
 -- Worked scripts: the replies and the closing report, by computing the definitions.
-use Rattle.std.specs.Prelude.{◌≡◌, pos, true, false, List, [], ◌∷◌, map, Some, refl}
+use Rattle.std.specs.Prelude.{◌≡◌, ℕ, pos, true, false, List, [], ◌∷◌, ◌++◌, map, Some, refl}
 use Rattle.sqlx_savepoints.specs.declared.level_text.LevelText.TheVariants as text
 use Rattle.sqlx_script.specs.declared.answers.HookAnswer.TheVariants as hook
 use Rattle.sqlx_script.specs.declared.answers.AfterConnectAnswer.TheVariants as set_up
 use Rattle.sqlx_script.specs.declared.answers.ConnectAnswer.TheVariants as connect
 use Rattle.sqlx_script.specs.declared.answers.StatementAnswer.TheVariants as met
+use Rattle.sqlx_script.specs.declared.answers.PollAnswers.{PollAnswers}
 use Rattle.sqlx_script.specs.declared.pool_line.PoolLine.{PoolLine}
 use Rattle.sqlx_script.specs.declared.step.Event.{Event}
 use Rattle.sqlx_script.specs.declared.step.Step.TheVariants as step
@@ -347,3 +348,57 @@ empty_events =
 empty : told empty_pool empty_events ≡ ([], record { held = 0; idle = 0; leaked = 0; waiting = 0 })
 unfolding pairs_after answer report_of marks_after history_from tries_after
 empty = refl
+
+-- ---- several tests a poll
+
+-- Three idle connections, of which a poll may test two.
+abbrev two_tests : PoolLine
+two_tests = record (plain_pool 3 100000000) { test_before_acquire = true; tries = 2; counts_tests = true }
+
+abbrev three_idle : List Event
+three_idle =
+    (at 0 (step.Ask 1)) ∷
+    (at 0 (step.Ask 1)) ∷
+    (at 0 (step.Ask 1)) ∷
+    (at 0 (step.Poll 1 1 good)) ∷
+    (at 0 (step.Poll 1 2 good)) ∷
+    (at 0 (step.Poll 1 3 good)) ∷
+    (at 1000000 (step.Give 1 1 returns_well 0)) ∷
+    (at 1000000 (step.Give 1 2 returns_well 0)) ∷
+    (at 1000000 (step.Give 1 3 returns_well 0)) ∷ []
+
+-- no ping of so many tests is answered
+abbrev pings_refused : ℕ → PollAnswers
+pings_refused n = record good { ping = false; tests = n }
+
+abbrev kept_three : List Reply
+kept_three = (reply.Ticket 1) ∷ (reply.Ticket 2) ∷ (reply.Ticket 3) ∷ (reply.Ready 1) ∷ (reply.Ready 2) ∷ (reply.Ready 3) ∷ (reply.Kept) ∷ (reply.Kept) ∷ (reply.Kept) ∷ []
+
+-- The second test passes; where both are refused a new connection is opened.
+abbrev next_idle_events : List Event
+next_idle_events =
+    three_idle ++
+    (at 2000000 (step.Ask 2)) ∷
+    (at 2000000 (step.Poll 2 4 (pings_refused 1))) ∷
+    (at 2000000 (step.Ask 2)) ∷
+    (at 2000000 (step.Poll 2 5 (pings_refused 2))) ∷ []
+
+next_idle : told two_tests next_idle_events ≡ (kept_three ++ (reply.Ticket 4) ∷ (reply.Ready 2) ∷ (reply.Ticket 5) ∷ (reply.Ready 4) ∷ [], record { held = 2; idle = 0; leaked = 0; waiting = 0 })
+unfolding pairs_after answer report_of marks_after history_from tries_after
+next_idle = refl
+
+-- Two are refused, and so is the connect: the third stays idle.
+abbrev refused_behind_events : List Event
+refused_behind_events = three_idle ++ (at 2000000 (step.Ask 2)) ∷ (at 2000000 (step.Poll 2 4 (record (pings_refused 3) { connect = connect.ConnectIo }))) ∷ []
+
+refused_behind : told two_tests refused_behind_events ≡ (kept_three ++ (reply.Ticket 4) ∷ (reply.Io) ∷ [], record { held = 0; idle = 1; leaked = 0; waiting = 0 })
+unfolding pairs_after answer report_of marks_after history_from tries_after
+refused_behind = refl
+
+-- A count of no test: the letters are answered by none, and the first connection passes.
+abbrev no_test_events : List Event
+no_test_events = three_idle ++ (at 2000000 (step.Ask 2)) ∷ (at 2000000 (step.Poll 2 4 (pings_refused 0))) ∷ []
+
+no_test : told two_tests no_test_events ≡ (kept_three ++ (reply.Ticket 4) ∷ (reply.Ready 1) ∷ [], record { held = 1; idle = 2; leaked = 0; waiting = 0 })
+unfolding pairs_after answer report_of marks_after history_from tries_after
+no_test = refl

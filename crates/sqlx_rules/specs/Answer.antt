@@ -1,9 +1,9 @@
 -- The reply to an event, and the closing report, read off the events and replies before it.
-use Rattle.std.specs.Prelude.{ℕ, ◌-◌, ◌==◌, ◌&&◌, ◌||◌, Bool, not, List, [], ◌∷◌, ◌++◌, length, map, min, if◌then◌else◌, Option, Some, None}
+use Rattle.std.specs.Prelude.{ℕ, zero, suc, ◌-◌, ◌==◌, ◌&&◌, ◌||◌, Bool, not, List, [], ◌∷◌, ◌++◌, length, map, take, min, if◌then◌else◌, Option, Some, None}
 use Rattle.std.specs.List.{list_any}
 use Rattle.sqlx_log.specs.declared.mark.Mark.{Mark}
 use Rattle.sqlx_log.specs.declared.mark.Mark.TheVariants as mark
-use Rattle.sqlx_log.specs.Marks.{PendingTicket, tickets_of, loans_of, idle_of, owner_of, leaked_of, is_shut, is_open, next_ticket, next_conn}
+use Rattle.sqlx_log.specs.Marks.{PendingTicket, IdleEntry, tickets_of, loans_of, idle_of, owner_of, leaked_of, is_shut, is_open, next_ticket, next_conn}
 use Rattle.sqlx_log.specs.Counts.{asked_in}
 use Rattle.sqlx_log.specs.EventTable.{closes_at, size_at, is_all_in_at}
 use Rattle.sqlx_log.specs.PollTable.{turn_at_rest, is_first_at}
@@ -30,7 +30,7 @@ use Rattle.sqlx_rules.specs.Pairs.{Pairs}
 
 -- ---- polls
 
--- the idle connection passes its test
+-- an idle connection passes a test that the letters of the poll answer
 abbrev pub passes_test : PoolLine → PollAnswers → Bool
 passes_test pool answers = (not pool.test_before_acquire || answers.ping) && (not pool.before_acquire || accepts answers.before_acquire)
 
@@ -45,21 +45,35 @@ connect_reply pool answers c until connect.Transient = reply.Backoff until
 connect_reply pool answers c until connect.ConnectIo = reply.Io
 connect_reply pool answers c until connect.ConnectDatabase = reply.DatabaseRefused
 
--- the reply where the first idle connection is tested, or else a connect is tried
-abbrev pub idle_reply : Bool → Option ℕ → Reply → Reply
-idle_reply passes None else_reply = else_reply
-idle_reply passes (Some c) else_reply = if passes then reply.Ready c else else_reply
+-- how many tests of a poll are refused: the letters answer the first ones, and each later one is accepted
+abbrev pub refused_tests : PoolLine → PollAnswers → ℕ
+refused_tests pool answers = if passes_test pool answers then 0 else answers.tests
 
--- the reply to a poll by its turn: a test is of the first idle connection, and what follows a refused one, or none, is `connecting`
-abbrev pub turn_reply : Bool → Option ℕ → Reply → Turn → Reply
-turn_reply passes first connecting turn.NotHeld = reply.NotHeld
-turn_reply passes first connecting turn.Closed = reply.PoolClosed
-turn_reply passes first connecting turn.TimedOut = reply.PoolTimedOut
-turn_reply passes first connecting turn.Waiting = reply.Waiting
-turn_reply passes first connecting (turn.Backoff until) = reply.Backoff until
-turn_reply passes first connecting turn.Test = idle_reply passes first connecting
-turn_reply passes first connecting turn.Connect = connecting
-turn_reply passes first connecting turn.Exhausted = connecting
+-- the connection behind so many others
+abbrev pub conn_at : ℕ → List IdleEntry → Option ℕ
+conn_at n [] = None
+conn_at zero (r ∷ rest) = Some r.conn
+conn_at (suc n) (r ∷ rest) = conn_at n rest
+
+-- the idle connection that passes its test: the one behind those that are refused, among those that the poll may test
+abbrev pub passing_of : PoolLine → PollAnswers → List IdleEntry → Option ℕ
+passing_of pool answers idle = conn_at (refused_tests pool answers) (take pool.tries idle)
+
+-- the reply where idle connections are tested: one passes, or else a connect is tried
+abbrev pub idle_reply : Option ℕ → Reply → Reply
+idle_reply None connecting = connecting
+idle_reply (Some c) connecting = reply.Ready c
+
+-- the reply to a poll by its turn, where this idle connection passes its test; where none does, a connect is tried
+abbrev pub turn_reply : Option ℕ → Reply → Turn → Reply
+turn_reply passing connecting turn.NotHeld = reply.NotHeld
+turn_reply passing connecting turn.Closed = reply.PoolClosed
+turn_reply passing connecting turn.TimedOut = reply.PoolTimedOut
+turn_reply passing connecting turn.Waiting = reply.Waiting
+turn_reply passing connecting (turn.Backoff until) = reply.Backoff until
+turn_reply passing connecting turn.Test = idle_reply passing connecting
+turn_reply passing connecting turn.Connect = connecting
+turn_reply passing connecting turn.Exhausted = connecting
 
 -- the turn of a ticket that hasn't ended; a script's pool never runs out of numbers, so none counts as drawn
 abbrev pub ticket_turn : PoolLine → List Mark → ℕ → Option Tries → PendingTicket → Turn
@@ -70,7 +84,7 @@ ticket_turn pool marks m tries a =
 abbrev pub ticket_reply : PoolLine → PollAnswers → List Mark → ℕ → Option Tries → PendingTicket → Reply
 ticket_reply pool answers marks m tries a =
     let connecting = connect_reply pool answers (next_conn marks) (until_after m a.deadline tries) answers.connect in
-    turn_reply (passes_test pool answers) (first_of (idle_of marks)) connecting (ticket_turn pool marks m tries a)
+    turn_reply (passing_of pool answers (idle_of marks)) connecting (ticket_turn pool marks m tries a)
 
 -- the reply to a poll
 abbrev pub poll_reply : PoolLine → PollAnswers → List Mark → ℕ → Option Tries → Option PendingTicket → Reply

@@ -1,5 +1,5 @@
--- The headline's laws: what holds whatever the events of a script, where each reply is the answer to its event.
-use Rattle.std.specs.Prelude.{ℕ, List, []}
+-- The headline's laws: what holds whatever the events of a script, where each reply is the answer to its event. A poll of a script may test one connection at least.
+use Rattle.std.specs.Prelude.{ℕ, ◌≤◌, List, []}
 use Rattle.sqlx_text.specs.declared.moment.Moment.{Moment}
 use Rattle.sqlx_log.specs.Laws.{NoTwoOwners, InTurn}
 use Rattle.sqlx_script.specs.declared.pool_line.PoolLine.{PoolLine}
@@ -19,24 +19,24 @@ StopsWaitingInTurn = (pool : PoolLine) (pairs : Pairs) (moment : Moment) (client
 
 -- No connection has two owners.
 abbrev pub ScriptsLendOnce : Type 0
-ScriptsLendOnce = (pool : PoolLine) (events : List Event) → NoTwoOwners [] (marks_of pool (pairs_after pool [] events))
+ScriptsLendOnce = (pool : PoolLine) → 1 ≤ pool.tries → (events : List Event) → NoTwoOwners [] (marks_of pool (pairs_after pool [] events))
 
 -- None is lent mid-transaction.
 abbrev pub ScriptsLendAtRest : Type 0
-ScriptsLendAtRest = (pool : PoolLine) (events : List Event) → LendsAtRest pool (pairs_after pool [] events)
+ScriptsLendAtRest = (pool : PoolLine) → 1 ≤ pool.tries → (events : List Event) → LendsAtRest pool (pairs_after pool [] events)
 
 -- A connection without an owner has no open level.
 abbrev pub ScriptsRestUnowned : Type 0
-ScriptsRestUnowned = (pool : PoolLine) (events : List Event) → RestsUnowned pool (pairs_after pool [] events)
+ScriptsRestUnowned = (pool : PoolLine) → 1 ≤ pool.tries → (events : List Event) → RestsUnowned pool (pairs_after pool [] events)
 
 -- Tickets leave the line in turn.
 abbrev pub ScriptsKeepTheLine : Type 0
-ScriptsKeepTheLine = (pool : PoolLine) (events : List Event) → InTurn pool.max [] (marks_of pool (pairs_after pool [] events))
+ScriptsKeepTheLine = (pool : PoolLine) → 1 ≤ pool.tries → (events : List Event) → InTurn pool.max [] (marks_of pool (pairs_after pool [] events))
 
 -- After each event the pool keeps its maximum.
 abbrev pub ScriptsKeepTheMaximum : Type 0
-ScriptsKeepTheMaximum = (pool : PoolLine) (events : List Event) → KeepsMaximum pool (pairs_after pool [] events)
+ScriptsKeepTheMaximum = (pool : PoolLine) → 1 ≤ pool.tries → (events : List Event) → KeepsMaximum pool (pairs_after pool [] events)
 
 -- The whole headline.
 abbrev pub ScriptsHoldTheHeadline : Type 0
-ScriptsHoldTheHeadline = (pool : PoolLine) (events : List Event) → HoldsHeadline pool (pairs_after pool [] events)
+ScriptsHoldTheHeadline = (pool : PoolLine) → 1 ≤ pool.tries → (events : List Event) → HoldsHeadline pool (pairs_after pool [] events)

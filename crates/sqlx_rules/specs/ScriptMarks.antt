@@ -1,9 +1,11 @@
 -- The marks that a script's events make in its pool, read off the events and their replies.
-use Rattle.std.specs.Prelude.{ℕ, zero, suc, ◌+◌, ◌==◌, Bool, true, false, not, List, [], ◌∷◌, ◌++◌, if◌then◌else◌, map, Option, Some, None}
+use Rattle.std.specs.Prelude.{ℕ, zero, suc, ◌+◌, ◌==◌, Bool, true, false, not, List, [], ◌∷◌, ◌++◌, if◌then◌else◌, map, take, Option, Some, None}
+use Rattle.std.specs.List.{list_any}
 use Rattle.sqlx_log.specs.declared.mark.Mark.{Mark}
 use Rattle.sqlx_log.specs.declared.mark.Mark.TheVariants as mark
 use Rattle.sqlx_log.specs.Marks.{PendingTicket, IdleEntry, tickets_of, idle_of, is_open, next_conn}
 use Rattle.sqlx_log.specs.Counts.{asked_in}
+use Rattle.sqlx_log.specs.FairLog.{rests}
 use Rattle.sqlx_log.specs.EventTable.{Limits, may_pass_at, all_reaped_at}
 use Rattle.sqlx_script.specs.declared.pool_line.PoolLine.{PoolLine}
 use Rattle.sqlx_script.specs.declared.step.Event.{Event}
@@ -13,7 +15,7 @@ use Rattle.sqlx_script.specs.declared.reply.Reply.{Reply}
 use Rattle.sqlx_script.specs.declared.reply.Reply.TheVariants as reply
 use Rattle.sqlx_rules.specs.Pairs.{Pairs}
 
--- ---- the idle connection of a poll
+-- ---- the idle connections of a poll
 
 -- the connection of the first that rests
 abbrev pub first_of : List IdleEntry → Option ℕ
@@ -29,44 +31,45 @@ in_line (Some a) = not a.left
 abbrev pub waits : ℕ → ℕ → List Mark → Bool
 waits k t marks = in_line (asked_in k t (tickets_of marks))
 
--- the idle connection that a poll takes: the first, where the ticket stands in the line
-abbrev pub taken_by : ℕ → ℕ → List Mark → Option ℕ
-taken_by k t marks = if waits k t marks then first_of (idle_of marks) else None
-
--- whether it is this connection
-abbrev pub is_this : ℕ → Option ℕ → Bool
-is_this c None = false
-is_this c (Some d) = c == d
+-- whether this connection is one of those that rest
+abbrev pub is_among : ℕ → List IdleEntry → Bool
+is_among c idle = list_any (rests c) idle
 
 -- ---- what a poll makes
 
--- the ticket leaves the line
-abbrev pub leaving : ℕ → Bool → List Mark
-leaving t true = mark.Left t ∷ []
-leaving t false = []
+-- connections that are tested in turn and refused: each is taken, and closed
+abbrev pub refusing : List IdleEntry → List Mark
+refusing [] = []
+refusing (r ∷ rest) = mark.Taken r.conn ∷ mark.Closed r.conn ∷ refusing rest
 
--- an idle connection is taken, and closed where it isn't the one that is ready
-abbrev pub taking : Option ℕ → Option ℕ → List Mark
-taking None ready = []
-taking (Some c) ready = mark.Taken c ∷ (if is_this c ready then [] else mark.Closed c ∷ [])
+-- the connections before this one are refused, and it is taken
+abbrev pub reaching : ℕ → List IdleEntry → List Mark
+reaching c [] = []
+reaching c (r ∷ rest) = if c == r.conn then mark.Taken r.conn ∷ [] else mark.Taken r.conn ∷ mark.Closed r.conn ∷ reaching c rest
 
--- a connection is opened, unless it is the idle one that was taken
-abbrev pub opening : ℕ → ℕ → Option ℕ → List Mark
-opening c m taken = if is_this c taken then [] else mark.Opened c m ∷ []
+-- the tests of a poll: they end with the connection that is ready, where it was idle; else as many are refused as there may be
+abbrev pub testing : ℕ → List IdleEntry → Option ℕ → List Mark
+testing tries idle None = refusing (take tries idle)
+testing tries idle (Some c) = if is_among c idle then reaching c idle else refusing (take tries idle)
 
--- the ticket leaves the line where it stands in it, with the first idle connection if there is one
-abbrev pub trying : ℕ → ℕ → List Mark → Option ℕ → List Mark
-trying k t marks ready = leaving t (waits k t marks) ++ taking (taken_by k t marks) ready
+-- the ticket leaves the line where it stands in it, and then idle connections are tested
+abbrev pub trying : ℕ → ℕ → Bool → List IdleEntry → Option ℕ → List Mark
+trying tries t true idle ready = mark.Left t ∷ testing tries idle ready
+trying tries t false idle ready = []
 
--- what a poll with this reply makes
-abbrev pub polled : List Mark → ℕ → ℕ → ℕ → Reply → List Mark
-polled marks m k t reply.PoolClosed = mark.Ended t ∷ []
-polled marks m k t reply.PoolTimedOut = mark.Ended t ∷ []
-polled marks m k t (reply.Ready c) = trying k t marks (Some c) ++ (opening c m (taken_by k t marks) ++ (mark.Lent k c ∷ mark.Ended t ∷ []))
-polled marks m k t (reply.Backoff until) = trying k t marks None
-polled marks m k t reply.Io = trying k t marks None ++ (mark.Ended t ∷ [])
-polled marks m k t reply.DatabaseRefused = trying k t marks None ++ (mark.Ended t ∷ [])
-polled marks m k t other = []
+-- a connection is opened, unless it was idle
+abbrev pub opening : ℕ → ℕ → List IdleEntry → List Mark
+opening c m idle = if is_among c idle then [] else mark.Opened c m ∷ []
+
+-- what a poll with this reply makes, of a ticket that stands in the line or not, where these connections rest
+abbrev pub polled : ℕ → ℕ → ℕ → ℕ → Bool → List IdleEntry → Reply → List Mark
+polled tries m k t line idle reply.PoolClosed = mark.Ended t ∷ []
+polled tries m k t line idle reply.PoolTimedOut = mark.Ended t ∷ []
+polled tries m k t line idle (reply.Ready c) = trying tries t line idle (Some c) ++ (opening c m idle ++ (mark.Lent k c ∷ mark.Ended t ∷ []))
+polled tries m k t line idle (reply.Backoff until) = trying tries t line idle None
+polled tries m k t line idle reply.Io = trying tries t line idle None ++ (mark.Ended t ∷ [])
+polled tries m k t line idle reply.DatabaseRefused = trying tries t line idle None ++ (mark.Ended t ∷ [])
+polled tries m k t line idle other = []
 
 -- ---- what the other events make
 
@@ -131,7 +134,7 @@ shut marks = if is_open marks then mark.Shut ∷ map closing (idle_of marks) els
 abbrev pub made : PoolLine → List Mark → ℕ → Step → Reply → List Mark
 made pool marks m (Ask client) (reply.Ticket n) = mark.Asked n client (m + pool.timeout) ∷ []
 made pool marks m (Ask client) other = []
-made pool marks m (Poll client ticket answers) r = polled marks m client ticket r
+made pool marks m (Poll client ticket answers) r = polled pool.tries m client ticket (waits client ticket marks) (idle_of marks) r
 made pool marks m (Cancel client ticket) reply.Cancelled = mark.Ended ticket ∷ []
 made pool marks m (Cancel client ticket) other = []
 made pool marks m (Try client) (reply.Ready c) = mark.Taken c ∷ mark.Lent client c ∷ []

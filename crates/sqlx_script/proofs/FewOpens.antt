@@ -2,10 +2,11 @@
 use Rattle.std.proofs.Common.{◌≡◌, ℕ, Bool, true, false, cond, List, [], ◌∷◌, Option, Some, codes, refl, arith}
 use Rattle.std.specs.Str.{bytes_eq}
 use Rattle.std.proofs.lemmas.Bool.Decides.{nat_tests}
-use Rattle.sqlx_script.specs.Numbers.{number_in, opens}
-use Rattle.sqlx_script.specs.Rows.{row, ended, words0, words1, words2, words3, words4, words5}
-use Rattle.sqlx_script.specs.Built.{is_few, is_built}
-use Rattle.sqlx_script.specs.Grammar.{statement_of, step_of}
+use Rattle.sqlx_script.specs.Numbers.{number_in, name_number, opens, tests}
+use Rattle.sqlx_script.specs.Letters.{poll_answers, answering}
+use Rattle.sqlx_script.specs.Rows.{row, row_if, ended, words0, words1, words2, words3, words4, words5}
+use Rattle.sqlx_script.specs.Built.{is_few, has_few_opens}
+use Rattle.sqlx_script.specs.Grammar.{statement_of, poll_words, step_of}
 use Rattle.sqlx_script.specs.declared.step.Step.{Step}
 use Rattle.sqlx_script.specs.declared.step.Step.TheVariants.{Ask, Poll, Cancel, Try, Give, End, Detach, Leak, Reap, Min, CloseState, Begin, Custom, Put, Del, Get, Commit, Rollback, GiveUp, Close}
 use Rattle.sqlx_script.proofs.Rows.{bound}
@@ -17,9 +18,9 @@ opens_few w n h = grind (arith, nat_tests)
 
 -- the step that is made of these words, if any is, tells few
 abbrev Few : (List (List ℕ) → Option Step) → Type 0
-Few f = (ws : List (List ℕ)) (step : Step) → f ws ≡ Some step → is_built step ≡ true
+Few f = (ws : List (List ℕ)) (step : Step) → f ws ≡ Some step → has_few_opens step ≡ true
 
-ended_few : (made : Step) → is_built made ≡ true → Few (ended made)
+ended_few : (made : Step) → has_few_opens made ≡ true → Few (ended made)
 ended_few made few [] step h = cc
 ended_few made few (w ∷ ws) step h = cc
 
@@ -27,56 +28,69 @@ row_few : {A : Type 0} (p : List ℕ → Option A) (f : A → List (List ℕ) �
 row_few p f few [] step h = cc
 row_few p f few (w ∷ ws) step h = let first = bound (p w) (λ x. f x ws) step h in few w first.0 first.1 ws step first.2
 
+row_if_few : {A : Type 0} (told : Bool) (p : List ℕ → Option A) (other : A) (f : A → List (List ℕ) → Option Step) → ((x : A) → Few (f x)) → Few (row_if told p other f)
+row_if_few true p other f few = row_few p f (λ _ x _. few x)
+row_if_few false p other f few = few other
+
 -- ---- steps that tell of no connects
 
-none0 : (made : Step) → is_built made ≡ true → Few (words0 made)
+none0 : (made : Step) → has_few_opens made ≡ true → Few (words0 made)
 unfolding words0
 none0 made few = ended_few made few
 
-none1 : {A : Type 0} (p : List ℕ → Option A) (make : A → Step) → ((x : A) → is_built (make x) ≡ true) → Few (words1 p make)
+none1 : {A : Type 0} (p : List ℕ → Option A) (make : A → Step) → ((x : A) → has_few_opens (make x) ≡ true) → Few (words1 p make)
 unfolding words1
 none1 p make few = row_few p _ (λ _ x _. ended_few (make x) (few x))
 
-none2 : {A B : Type 0} (p : List ℕ → Option A) (q : List ℕ → Option B) (make : A → B → Step) → ((x : A) (y : B) → is_built (make x y) ≡ true) → Few (words2 p q make)
+none2 : {A B : Type 0} (p : List ℕ → Option A) (q : List ℕ → Option B) (make : A → B → Step) → ((x : A) (y : B) → has_few_opens (make x y) ≡ true) → Few (words2 p q make)
 unfolding words2
 none2 p q make few = row_few p _ (λ _ x _. row_few q _ (λ _ y _. ended_few (make x y) (few x y)))
 
-none3 : {A B C : Type 0} (p : List ℕ → Option A) (q : List ℕ → Option B) (r : List ℕ → Option C) (make : A → B → C → Step) → ((x : A) (y : B) (z : C) → is_built (make x y z) ≡ true) → Few (words3 p q r make)
+none3 : {A B C : Type 0} (p : List ℕ → Option A) (q : List ℕ → Option B) (r : List ℕ → Option C) (make : A → B → C → Step) → ((x : A) (y : B) (z : C) → has_few_opens (make x y z) ≡ true) → Few (words3 p q r make)
 unfolding words3
 none3 p q r make few = row_few p _ (λ _ x _. row_few q _ (λ _ y _. row_few r _ (λ _ z _. ended_few (make x y z) (few x y z))))
 
 none4 : {A B C D : Type 0} (p : List ℕ → Option A) (q : List ℕ → Option B) (r : List ℕ → Option C) (s : List ℕ → Option D) (make : A → B → C → D → Step)
-    → ((x : A) (y : B) (z : C) (u : D) → is_built (make x y z u) ≡ true) → Few (words4 p q r s make)
+    → ((x : A) (y : B) (z : C) (u : D) → has_few_opens (make x y z u) ≡ true) → Few (words4 p q r s make)
 unfolding words4
 none4 p q r s make few =
     row_few p _ (λ _ x _. row_few q _ (λ _ y _. row_few r _ (λ _ z _. row_few s _ (λ _ u _. ended_few (make x y z u) (few x y z u)))))
 
 none5 : {A B C D E : Type 0} (p : List ℕ → Option A) (q : List ℕ → Option B) (r : List ℕ → Option C) (s : List ℕ → Option D) (t : List ℕ → Option E) (make : A → B → C → D → E → Step)
-    → ((x : A) (y : B) (z : C) (u : D) (v : E) → is_built (make x y z u v) ≡ true) → Few (words5 p q r s t make)
+    → ((x : A) (y : B) (z : C) (u : D) (v : E) → has_few_opens (make x y z u v) ≡ true) → Few (words5 p q r s t make)
 unfolding words5
 none5 p q r s t make few =
     row_few p _ (λ _ x _. row_few q _ (λ _ y _. row_few r _ (λ _ z _. row_few s _ (λ _ u _. row_few t _ (λ _ v _. ended_few (make x y z u v) (few x y z u v))))))
 
 -- ---- steps whose last word tells of connects
 
-last1 : (make : ℕ → Step) → ((n : ℕ) → is_few n ≡ true → is_built (make n) ≡ true) → Few (words1 opens make)
+last1 : (make : ℕ → Step) → ((n : ℕ) → is_few n ≡ true → has_few_opens (make n) ≡ true) → Few (words1 opens make)
 unfolding words1
 last1 make few = row_few opens _ (λ w n h. ended_few (make n) (few n (opens_few w n h)))
 
-last3 : {A B : Type 0} (p : List ℕ → Option A) (q : List ℕ → Option B) (make : A → B → ℕ → Step) → ((x : A) (y : B) (n : ℕ) → is_few n ≡ true → is_built (make x y n) ≡ true) → Few (words3 p q opens make)
+last3 : {A B : Type 0} (p : List ℕ → Option A) (q : List ℕ → Option B) (make : A → B → ℕ → Step) → ((x : A) (y : B) (n : ℕ) → is_few n ≡ true → has_few_opens (make x y n) ≡ true) → Few (words3 p q opens make)
 unfolding words3
 last3 p q make few = row_few p _ (λ _ x _. row_few q _ (λ _ y _. row_few opens _ (λ w n h. ended_few (make x y n) (few x y n (opens_few w n h)))))
 
 last4 : {A B C : Type 0} (p : List ℕ → Option A) (q : List ℕ → Option B) (r : List ℕ → Option C) (make : A → B → C → ℕ → Step)
-    → ((x : A) (y : B) (z : C) (n : ℕ) → is_few n ≡ true → is_built (make x y z n) ≡ true) → Few (words4 p q r opens make)
+    → ((x : A) (y : B) (z : C) (n : ℕ) → is_few n ≡ true → has_few_opens (make x y z n) ≡ true) → Few (words4 p q r opens make)
 unfolding words4
 last4 p q r make few =
     row_few p _ (λ _ x _. row_few q _ (λ _ y _. row_few r _ (λ _ z _. row_few opens _ (λ w n h. ended_few (make x y z n) (few x y z n (opens_few w n h))))))
 
 -- ---- lines
 
+poll_few : (counts_tests : Bool) → Few (poll_words counts_tests)
+unfolding poll_words
+poll_few counts_tests =
+    row_few name_number _ (λ _ client _.
+    row_few name_number _ (λ _ ticket _.
+    row_few poll_answers _ (λ _ answers _.
+    row_if_few counts_tests tests 1 _ (λ n.
+    ended_few (Poll client ticket (answering answers n)) refl))))
+
 -- the step of a name that is this text, or else that of the others
-choose : (b : Bool) (here others : Option Step) (step : Step) → cond b here others ≡ Some step → (here ≡ Some step → is_built step ≡ true) → (others ≡ Some step → is_built step ≡ true) → is_built step ≡ true
+choose : (b : Bool) (here others : Option Step) (step : Step) → cond b here others ≡ Some step → (here ≡ Some step → has_few_opens step ≡ true) → (others ≡ Some step → has_few_opens step ≡ true) → has_few_opens step ≡ true
 choose true here others step h few rest = few h
 choose false here others step h few rest = rest h
 
@@ -94,11 +108,11 @@ statement_few name fields step h =
     cc))))))))
 
 -- the step of a name and its fields tells few
-pub step_few : (name : List ℕ) → Few (step_of name)
+pub step_few : (counts_tests : Bool) (name : List ℕ) → Few (step_of counts_tests name)
 unfolding step_of
-step_few name fields step h =
+step_few counts_tests name fields step h =
     choose (bytes_eq name (codes "ask")) _ _ step h (none1 _ Ask (λ _. refl) fields step) (λ h1.
-    choose (bytes_eq name (codes "poll")) _ _ step h1 (none3 _ _ _ Poll (λ _ _ _. refl) fields step) (λ h2.
+    choose (bytes_eq name (codes "poll")) _ _ step h1 (poll_few counts_tests fields step) (λ h2.
     choose (bytes_eq name (codes "cancel")) _ _ step h2 (none2 _ _ Cancel (λ _ _. refl) fields step) (λ h3.
     choose (bytes_eq name (codes "try")) _ _ step h3 (none1 _ Try (λ _. refl) fields step) (λ h4.
     choose (bytes_eq name (codes "give")) _ _ step h4 (last4 _ _ _ Give (λ _ _ _ _ h. h) fields step) (λ h5.

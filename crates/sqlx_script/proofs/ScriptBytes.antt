@@ -8,12 +8,12 @@ use Rattle.std.proofs.lemmas.Bool.{cases_Bool, cond-true, cond-false, and_parts,
 use Rattle.std.proofs.lemmas.Bool.Decides.{nat_tests}
 use Rattle.std.proofs.lemmas.Slice.Eq.{bytes_eq-Decides}
 use Rattle.sqlx_script.specs.Words.{is_blank, words_of, ends_well, lines_of, longer}
-use Rattle.sqlx_script.specs.Numbers.{◌>>=◌, is_number, has_leading_zero, number_in, value, plain_value, minus_value, limit_nanos, millis, nanos, name_number, opens, key, exactly}
+use Rattle.sqlx_script.specs.Numbers.{◌>>=◌, is_number, has_leading_zero, number_in, value, plain_value, minus_value, limit_nanos, millis, nanos, name_number, opens, key}
 use Rattle.sqlx_script.specs.Letters.{plus_or_minus, hook_letter, after_connect_letter, connect_letter, statement_letter, sign, statement, poll_answers, give_answers, switches}
-use Rattle.sqlx_script.specs.Rows.{row, ended, words0, words1, words2, words3, words4, words5}
+use Rattle.sqlx_script.specs.Rows.{row, row_if, ended, words0, words1, words2, words3, words4, words5}
 use Rattle.sqlx_script.proofs.Rows.{bound}
 use Rattle.sqlx_script.specs.Laws.{is_plain, is_script_byte}
-use Rattle.sqlx_script.specs.Grammar.{statement_of, step_of, limits_after, event_words, pool_words, event_of, pool_of, whole, Reading, reading_at, reading_from, Script, script_after, script_lines, IsScript}
+use Rattle.sqlx_script.specs.Grammar.{statement_of, poll_words, step_of, pool_name, limits_after, event_words, pool_words, event_of, pool_of, whole, Reading, reading_at, reading_from, Script, script_after, script_lines, IsScript}
 use Rattle.sqlx_script.specs.declared.answers.HookAnswer.{HookAnswer}
 use Rattle.sqlx_script.specs.declared.answers.AfterConnectAnswer.{AfterConnectAnswer}
 use Rattle.sqlx_script.specs.declared.answers.ConnectAnswer.{ConnectAnswer}
@@ -21,7 +21,7 @@ use Rattle.sqlx_script.specs.declared.answers.StatementAnswer.{StatementAnswer}
 use Rattle.sqlx_script.specs.declared.pool_line.PoolLine.{PoolLine}
 use Rattle.sqlx_script.specs.declared.step.Event.{Event}
 use Rattle.sqlx_script.specs.declared.step.Step.{Step}
-use Rattle.sqlx_script.specs.declared.step.Step.TheVariants.{Ask, Poll, Cancel, Try, Give, End, Detach, Leak, Reap, Min, CloseState, Begin, Custom, Put, Del, Get, Commit, Rollback, GiveUp, Close}
+use Rattle.sqlx_script.specs.declared.step.Step.TheVariants.{Ask, Cancel, Try, Give, End, Detach, Leak, Reap, Min, CloseState, Begin, Custom, Put, Del, Get, Commit, Rollback, GiveUp, Close}
 
 -- the bytes of a word are from 0x20 to 0x7E
 abbrev plain : List ℕ → Bool
@@ -109,9 +109,12 @@ value_plain (b ∷ w) x h = elim (cases_Bool (b == 45)) [
 same_plain : (w text : List ℕ) → bytes_eq w text ≡ true → plain text ≡ true → plain w ≡ true
 same_plain w text same h = subst (λ x. plain x ≡ true) (sym ((bytes_eq-Decides w text).0 same)) h
 
-exactly_plain : (text : List ℕ) → plain text ≡ true → IsPlainKind (exactly text)
-unfolding exactly
-exactly_plain text t w x h = same_plain w text (passed (bytes_eq w text) w x h) t
+pool_name_plain : IsPlainKind pool_name
+unfolding pool_name
+pool_name_plain w x h = elim (cases_Bool (bytes_eq w (codes "pool"))) [
+  | inl yes' ↦ same_plain w (codes "pool") yes' refl
+  | inr no' ↦ same_plain w (codes "pool2") (passed (bytes_eq w (codes "pool2")) true x (sym (cond-false (bytes_eq w (codes "pool")) _ _ no') ∙ h)) refl
+]
 
 limit_nanos_plain : IsPlainKind limit_nanos
 unfolding limit_nanos
@@ -219,6 +222,10 @@ row_tame p f kind tame (w ∷ ws) r h =
     let first = bound (p w) (λ x. f x ws) r h in
     and_from (plain w) (all_plain ws) (kind w first.0 first.1) (tame first.0 ws r first.2)
 
+row_if_tame : {A R : Type 0} (told : Bool) (p : List ℕ → Option A) (other : A) (f : A → List (List ℕ) → Option R) → IsPlainKind p → ((x : A) → Tame (f x)) → Tame (row_if told p other f)
+row_if_tame true p other f kind tame = row_tame p f kind tame
+row_if_tame false p other f kind tame = tame other
+
 tame0 : {R : Type 0} (made : R) → Tame (words0 made)
 unfolding words0
 tame0 made = ended_tame made
@@ -269,11 +276,20 @@ statement_step_plain name fields step h =
     pick name (codes "giveup") fields _ _ step h7 refl (tame2 name_plain name_plain GiveUp) (λ h8.
     cc))))))))
 
-step_plain : (name : List ℕ) (fields : List (List ℕ)) (step : Step) → step_of name fields ≡ Some step → (plain name ≡ true) × (all_plain fields ≡ true)
+poll_plain : (counts_tests : Bool) → Tame (poll_words counts_tests)
+unfolding poll_words
+poll_plain counts_tests =
+    row_tame _ _ name_plain (λ client.
+    row_tame _ _ name_plain (λ ticket.
+    row_tame _ _ poll_answers_plain (λ answers.
+    row_if_tame counts_tests _ _ _ (number_plain 0 65536) (λ n.
+    ended_tame _))))
+
+step_plain : (counts_tests : Bool) (name : List ℕ) (fields : List (List ℕ)) (step : Step) → step_of counts_tests name fields ≡ Some step → (plain name ≡ true) × (all_plain fields ≡ true)
 unfolding step_of
-step_plain name fields step h =
+step_plain counts_tests name fields step h =
     pick name (codes "ask") fields _ _ step h refl (tame1 name_plain Ask) (λ h1.
-    pick name (codes "poll") fields _ _ step h1 refl (tame3 name_plain name_plain poll_answers_plain Poll) (λ h2.
+    pick name (codes "poll") fields _ _ step h1 refl (poll_plain counts_tests) (λ h2.
     pick name (codes "cancel") fields _ _ step h2 refl (tame2 name_plain name_plain Cancel) (λ h3.
     pick name (codes "try") fields _ _ step h3 refl (tame1 name_plain Try) (λ h4.
     pick name (codes "give") fields _ _ step h4 refl (tame4 name_plain name_plain give_answers_plain opens_plain Give) (λ h5.
@@ -286,32 +302,33 @@ step_plain name fields step h =
     pick name (codes "close") fields _ _ step h11 refl (tame0 Close) (λ h12.
     statement_step_plain name fields step h12))))))))))))
 
-event_plain : Tame event_words
+event_plain : (counts_tests : Bool) → Tame (event_words counts_tests)
 unfolding event_words
-event_plain [] r h = cc
-event_plain (name ∷ []) r h = cc
-event_plain (name ∷ w ∷ fields) r h =
+event_plain counts_tests [] r h = cc
+event_plain counts_tests (name ∷ []) r h = cc
+event_plain counts_tests (name ∷ w ∷ fields) r h =
     let now = bound (millis w) _ r h in
-    let step = bound (step_of name fields) _ r now.2 in
-    let both = step_plain name fields step.0 step.1 in
+    let step = bound (step_of counts_tests name fields) _ r now.2 in
+    let both = step_plain counts_tests name fields step.0 step.1 in
     and_from (plain name) (all_plain (w ∷ fields)) both.0 (and_from (plain w) (all_plain fields) (number_plain 0 (2 ^ 40) w now.0 now.1) both.1)
 
-limits_plain : (max min timeout : ℕ) → Tame (limits_after max min timeout)
+limits_plain : (counts_tests : Bool) (max min timeout : ℕ) → Tame (limits_after counts_tests max min timeout)
 unfolding limits_after
-limits_plain max min timeout =
+limits_plain counts_tests max min timeout =
     row_tame _ _ limit_nanos_plain (λ lifetime.
     row_tame _ _ limit_nanos_plain (λ idle.
     row_tame _ _ switches_plain (λ on.
-    ended_tame _)))
+    row_if_tame counts_tests _ _ _ (number_plain 1 17) (λ tries.
+    ended_tame _))))
 
 pool_plain : Tame pool_words
 unfolding pool_words
 pool_plain =
-    row_tame _ _ (exactly_plain (codes "pool") refl) (λ _.
+    row_tame _ _ pool_name_plain (λ counts_tests.
     row_tame _ _ (number_plain 1 65536) (λ max.
     row_tame _ _ opens_plain (λ min.
     row_tame _ _ (number_plain 0 (2 ^ 40)) (λ timeout.
-    limits_plain max min (nanos timeout)))))
+    limits_plain counts_tests max min (nanos timeout)))))
 
 -- the bytes of a line may stand in a script
 abbrev ok : List ℕ → Bool
@@ -341,9 +358,9 @@ whole_ok f line r tame h = elim (cases_Bool (ends_well line)) [
   | inr no' ↦ let none : None ≡ Some r = sym (cond-false (ends_well line) (f (words_of line)) None no') ∙ h in cc
 ]
 
-event_ok : (line : List ℕ) (e : Event) → event_of line ≡ Some e → ok line ≡ true
+event_ok : (counts_tests : Bool) (line : List ℕ) (e : Event) → event_of counts_tests line ≡ Some e → ok line ≡ true
 unfolding event_of
-event_ok line e h = whole_ok event_words line e event_plain h
+event_ok counts_tests line e h = whole_ok (event_words counts_tests) line e (event_plain counts_tests) h
 
 pool_ok : (line : List ℕ) (p : PoolLine) → pool_of line ≡ Some p → ok line ≡ true
 unfolding pool_of
@@ -376,29 +393,30 @@ ok_bytes (b ∷ bytes) h = elim (cases_Bool (b == 10)) [
 ]
 
 -- a line that is an event, before lines of which none is bad where none of them is
-good_event : (n last : ℕ) (line : List ℕ) (lines : List (List ℕ)) (o : Option Event) → event_of line ≡ o → ((now : ℕ) → (reading_from (n + 1) now lines).bad ≡ None → all_ok lines ≡ true)
-    → (reading_at n last (λ now. reading_from (n + 1) now lines) o).bad ≡ None → all_ok (line ∷ lines) ≡ true
-good_event n last line lines None e rest h = cc
-good_event n last line lines (Some event) e rest h = elim (cases_Bool (nat_lt event.moment.0 last)) [
+good_event : (counts_tests : Bool) (n last : ℕ) (line : List ℕ) (lines : List (List ℕ)) (o : Option Event) → event_of counts_tests line ≡ o
+    → ((now : ℕ) → (reading_from counts_tests (n + 1) now lines).bad ≡ None → all_ok lines ≡ true)
+    → (reading_at n last (λ now. reading_from counts_tests (n + 1) now lines) o).bad ≡ None → all_ok (line ∷ lines) ≡ true
+good_event counts_tests n last line lines None e rest h = cc
+good_event counts_tests n last line lines (Some event) e rest h = elim (cases_Bool (nat_lt event.moment.0 last)) [
   | inl yes' ↦
       let none : Some n ≡ None = ap (λ (r : Reading). r.bad) (sym (cond-true (nat_lt event.moment.0 last) (record { events = []; bad = Some n }) _ yes')) ∙ h in
       cc
   | inr no' ↦
-      let later : (reading_from (n + 1) event.moment.0 lines).bad ≡ None = ap (λ (r : Reading). r.bad) (sym (cond-false (nat_lt event.moment.0 last) _ _ no')) ∙ h in
-      and_from (ok line) (all_ok lines) (event_ok line event e) (rest event.moment.0 later)
+      let later : (reading_from counts_tests (n + 1) event.moment.0 lines).bad ≡ None = ap (λ (r : Reading). r.bad) (sym (cond-false (nat_lt event.moment.0 last) _ _ no')) ∙ h in
+      and_from (ok line) (all_ok lines) (event_ok counts_tests line event e) (rest event.moment.0 later)
 ]
 
 -- lines of which none is bad
-good_lines : (lines : List (List ℕ)) (n last : ℕ) → (reading_from n last lines).bad ≡ None → all_ok lines ≡ true
+good_lines : (counts_tests : Bool) (lines : List (List ℕ)) (n last : ℕ) → (reading_from counts_tests n last lines).bad ≡ None → all_ok lines ≡ true
 unfolding reading_from
-good_lines [] n last h = refl
-good_lines (line ∷ lines) n last h = good_event n last line lines (event_of line) refl (λ now. good_lines lines (n + 1) now) h
+good_lines counts_tests [] n last h = refl
+good_lines counts_tests (line ∷ lines) n last h = good_event counts_tests n last line lines (event_of counts_tests line) refl (λ now. good_lines counts_tests lines (n + 1) now) h
 
 good_script : (line : List ℕ) (lines : List (List ℕ)) (script : Script) (o : Option PoolLine) → pool_of line ≡ o → script_after o lines ≡ Some script → script.lines.bad ≡ None → all_ok (line ∷ lines) ≡ true
 good_script line lines script None e reads good = cc
 good_script line lines script (Some pool) e reads good =
-    let same : reading_from 2 0 lines ≡ script.lines = cc in
-    and_from (ok line) (all_ok lines) (pool_ok line pool e) (good_lines lines 2 0 (ap (λ (r : Reading). r.bad) same ∙ good))
+    let same : reading_from pool.counts_tests 2 0 lines ≡ script.lines = cc in
+    and_from (ok line) (all_ok lines) (pool_ok line pool e) (good_lines pool.counts_tests lines 2 0 (ap (λ (r : Reading). r.bad) same ∙ good))
 
 good_whole : (lines : List (List ℕ)) (script : Script) → script_lines lines ≡ Some script → script.lines.bad ≡ None → all_ok lines ≡ true
 unfolding script_lines

@@ -25,24 +25,24 @@ abbrev pub is_few : ℕ → Bool
 is_few opens = nat_le opens 65536
 
 -- whether an event tells of so many connects at most; one that tells of none does
-abbrev pub is_built : Step → Bool
-is_built (Ask client) = true
-is_built (Poll client ticket answers) = true
-is_built (Cancel client ticket) = true
-is_built (Try client) = true
-is_built (Give client connection answers opens) = is_few opens
-is_built (End client connection opens) = is_few opens
-is_built (Detach client connection opens) = is_few opens
-is_built (Leak client connection opens) = is_few opens
-is_built (Reap opens) = is_few opens
-is_built (Min opens) = is_few opens
-is_built CloseState = true
-is_built (Begin client connection answer) = true
-is_built (Custom client connection begins answer) = true
-is_built (Put client connection key value answer) = true
-is_built (Del client connection key answer) = true
-is_built (Get client connection key answer) = true
-is_built (Commit client connection answer) = true
-is_built (Rollback client connection answer) = true
-is_built (GiveUp client connection) = true
-is_built Close = true
+abbrev pub has_few_opens : Step → Bool
+has_few_opens (Ask client) = true
+has_few_opens (Poll client ticket answers) = true
+has_few_opens (Cancel client ticket) = true
+has_few_opens (Try client) = true
+has_few_opens (Give client connection answers opens) = is_few opens
+has_few_opens (End client connection opens) = is_few opens
+has_few_opens (Detach client connection opens) = is_few opens
+has_few_opens (Leak client connection opens) = is_few opens
+has_few_opens (Reap opens) = is_few opens
+has_few_opens (Min opens) = is_few opens
+has_few_opens CloseState = true
+has_few_opens (Begin client connection answer) = true
+has_few_opens (Custom client connection begins answer) = true
+has_few_opens (Put client connection key value answer) = true
+has_few_opens (Del client connection key answer) = true
+has_few_opens (Get client connection key answer) = true
+has_few_opens (Commit client connection answer) = true
+has_few_opens (Rollback client connection answer) = true
+has_few_opens (GiveUp client connection) = true
+has_few_opens Close = true

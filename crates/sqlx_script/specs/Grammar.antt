@@ -1,10 +1,10 @@
 -- What each line of a script says, and which line is the first bad one.
-use Rattle.std.specs.Prelude.{◌≡◌, ℕ, ◌+◌, ◌≤◌, List, [], ◌∷◌, length, codes, if◌then◌else◌, nat_lt, Option, Some, None}
+use Rattle.std.specs.Prelude.{◌≡◌, ℕ, ◌+◌, ◌≤◌, Bool, true, false, List, [], ◌∷◌, length, codes, if◌then◌else◌, nat_lt, Option, Some, None}
 use Rattle.std.specs.Str.{bytes_eq}
 use Rattle.sqlx_script.specs.Words.{lines_of, ends_well, words_of}
-use Rattle.sqlx_script.specs.Numbers.{◌>>=◌, number_in, millis, nanos, name_number, key, opens, value, limit_nanos, any, exactly}
-use Rattle.sqlx_script.specs.Letters.{sign, statement, poll_answers, give_answers, switches}
-use Rattle.sqlx_script.specs.Rows.{row, ended, words0, words1, words2, words3, words4, words5}
+use Rattle.sqlx_script.specs.Numbers.{◌>>=◌, number_in, millis, nanos, name_number, key, opens, value, limit_nanos, tries, tests, any}
+use Rattle.sqlx_script.specs.Letters.{sign, statement, poll_answers, answering, give_answers, switches}
+use Rattle.sqlx_script.specs.Rows.{row, row_if, ended, words0, words1, words2, words3, words4, words5}
 use Rattle.sqlx_script.specs.declared.pool_line.PoolLine.{PoolLine}
 use Rattle.sqlx_script.specs.declared.step.Event.{Event}
 use Rattle.sqlx_script.specs.declared.step.Step.{Step}
@@ -25,11 +25,20 @@ statement_of name fields =
     if bytes_eq name (codes "giveup") then words2 name_number name_number GiveUp fields else
     None
 
+-- the fields of `poll`; of a `pool2` script they end with a number: so many tests are answered by the letters
+unfoldable pub poll_words : Bool → List (List ℕ) → Option Step
+poll_words counts_tests =
+    row name_number (λ client.
+    row name_number (λ ticket.
+    row poll_answers (λ answers.
+    row_if counts_tests tests 1 (λ n.
+    ended (Poll client ticket (answering answers n))))))
+
 -- what follows the moment, for each name
-unfoldable pub step_of : List ℕ → List (List ℕ) → Option Step
-step_of name fields =
+unfoldable pub step_of : Bool → List ℕ → List (List ℕ) → Option Step
+step_of counts_tests name fields =
     if bytes_eq name (codes "ask") then words1 name_number Ask fields else
-    if bytes_eq name (codes "poll") then words3 name_number name_number poll_answers Poll fields else
+    if bytes_eq name (codes "poll") then poll_words counts_tests fields else
     if bytes_eq name (codes "cancel") then words2 name_number name_number Cancel fields else
     if bytes_eq name (codes "try") then words1 name_number Try fields else
     if bytes_eq name (codes "give") then words4 name_number name_number give_answers opens Give fields else
@@ -43,15 +52,21 @@ step_of name fields =
     statement_of name fields
 
 -- a line after the first: a name, a moment, and the fields of the name
-unfoldable pub event_words : List (List ℕ) → Option Event
-event_words = row any (λ name. row millis (λ ms fields. step_of name fields >>= λ step. Some (record { moment = record { 0 = nanos ms }; step = step })))
+unfoldable pub event_words : Bool → List (List ℕ) → Option Event
+event_words counts_tests =
+    row any (λ name. row millis (λ ms fields. step_of counts_tests name fields >>= λ step. Some (record { moment = record { 0 = nanos ms }; step = step })))
 
--- the last words of the first line, `lifetime idle switches`, after these maximum, minimum and nanoseconds to wait
-unfoldable pub limits_after : ℕ → ℕ → ℕ → List (List ℕ) → Option PoolLine
-limits_after max min timeout =
+-- whether the polls of a script tell a number of tests, by the first word of its first line: those of `pool2` do
+unfoldable pub pool_name : List ℕ → Option Bool
+pool_name word = if bytes_eq word (codes "pool") then Some false else if bytes_eq word (codes "pool2") then Some true else None
+
+-- the last words of the first line, `lifetime idle switches`, and `tries` in a `pool2` script, after these maximum, minimum and nanoseconds to wait
+unfoldable pub limits_after : Bool → ℕ → ℕ → ℕ → List (List ℕ) → Option PoolLine
+limits_after counts_tests max min timeout =
     row limit_nanos (λ lifetime.
     row limit_nanos (λ idle.
     row switches (λ on.
+    row_if counts_tests tries 1 (λ tries.
     ended (record {
       max = max;
       min = min;
@@ -62,24 +77,26 @@ limits_after max min timeout =
       after_connect = on.after_connect;
       before_acquire = on.before_acquire;
       after_release = on.after_release;
-    }))))
+      tries = tries;
+      counts_tests = counts_tests;
+    })))))
 
--- the first line, `pool max min timeout lifetime idle switches`
+-- the first line, `pool max min timeout lifetime idle switches` or `pool2 max min timeout lifetime idle switches tries`
 unfoldable pub pool_words : List (List ℕ) → Option PoolLine
 pool_words =
-    row (exactly (codes "pool")) (λ _.
+    row pool_name (λ counts_tests.
     row (number_in 1 65536) (λ max.
     row opens (λ min.
     row millis (λ timeout.
-    limits_after max min (nanos timeout)))))
+    limits_after counts_tests max min (nanos timeout)))))
 
 -- what a line says by its words, if it ends with its newline
 abbrev pub whole : {R : Type 0} → (List (List ℕ) → Option R) → List ℕ → Option R
 whole f line = if ends_well line then f (words_of line) else None
 
 -- the event of a line after the first
-unfoldable pub event_of : List ℕ → Option Event
-event_of line = whole event_words line
+unfoldable pub event_of : Bool → List ℕ → Option Event
+event_of counts_tests line = whole (event_words counts_tests) line
 
 -- what a first line says
 unfoldable pub pool_of : List ℕ → Option PoolLine
@@ -102,9 +119,9 @@ reading_at n last rest None = record { events = []; bad = Some n }
 reading_at n last rest (Some event) = if nat_lt event.moment.0 last then record { events = []; bad = Some n } else with_event event (rest event.moment.0)
 
 -- what these lines say, of which the first has number n and follows a line of the moment last
-unfoldable pub reading_from : ℕ → ℕ → List (List ℕ) → Reading
-reading_from n last [] = record { events = []; bad = None }
-reading_from n last (line ∷ lines) = reading_at n last (λ now. reading_from (n + 1) now lines) (event_of line)
+unfoldable pub reading_from : Bool → ℕ → ℕ → List (List ℕ) → Reading
+reading_from counts_tests n last [] = record { events = []; bad = None }
+reading_from counts_tests n last (line ∷ lines) = reading_at n last (λ now. reading_from counts_tests (n + 1) now lines) (event_of counts_tests line)
 
 -- what the first line says, and what the lines after it say
 pub record Script : Type 0 where
@@ -114,7 +131,7 @@ pub record Script : Type 0 where
 -- the script of a first line and of lines after it
 abbrev pub script_after : Option PoolLine → List (List ℕ) → Option Script
 script_after None lines = None
-script_after (Some pool) lines = Some (record { pool = pool; lines = reading_from 2 0 lines })
+script_after (Some pool) lines = Some (record { pool = pool; lines = reading_from pool.counts_tests 2 0 lines })
 
 -- what lines say; None where the first is bad, or there is none
 unfoldable pub script_lines : List (List ℕ) → Option Script

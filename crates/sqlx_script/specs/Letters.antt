@@ -43,12 +43,16 @@ unfoldable pub statement : List ℕ → Option StatementAnswer
 statement (b ∷ []) = statement_letter b
 statement word = None
 
--- the four letters of a `poll`
+-- the four letters of a `poll`, which answer one test
 unfoldable pub poll_answers : List ℕ → Option PollAnswers
 poll_answers (p ∷ b ∷ c ∷ a ∷ []) =
     plus_or_minus p >>= λ ping. hook_letter b >>= λ before. connect_letter c >>= λ connect. after_connect_letter a >>= λ after.
-    Some (record { ping = ping; before_acquire = before; connect = connect; after_connect = after })
+    Some (record { ping = ping; before_acquire = before; connect = connect; after_connect = after; tests = 1 })
 poll_answers word = None
+
+-- these letters, which answer so many tests
+abbrev pub answering : PollAnswers → ℕ → PollAnswers
+answering answers tests = record answers { tests = tests }
 
 -- the two letters of a `give`
 unfoldable pub give_answers : List ℕ → Option GiveAnswers

@@ -46,6 +46,14 @@ key = number_in 0 1000
 abbrev pub opens : List ℕ → Option ℕ
 opens = number_in 0 65536
 
+-- how many idle connections a poll may test
+abbrev pub tries : List ℕ → Option ℕ
+tries = number_in 1 17
+
+-- how many tests the letters of a poll answer
+abbrev pub tests : List ℕ → Option ℕ
+tests = number_in 0 65536
+
 -- the value of a number up to 2^63 - 1
 abbrev pub plain_value : List ℕ → Option ℤ
 plain_value word = number_in 0 9223372036854775808 word >>= λ n. Some (pos n)
@@ -65,7 +73,3 @@ limit_nanos word = if bytes_eq word (45 ∷ []) then Some None else (millis word
 -- whatever word
 abbrev pub any : List ℕ → Option (List ℕ)
 any word = Some word
-
--- this word and no other
-unfoldable pub exactly : List ℕ → List ℕ → Option (List ℕ)
-exactly text word = if bytes_eq word text then Some word else None

@@ -1,5 +1,5 @@
 -- Words in a row, each of its kind, and no more.
-use Rattle.std.specs.Prelude.{◌≡◌, ℕ, List, [], ◌∷◌, Option, Some, None}
+use Rattle.std.specs.Prelude.{◌≡◌, ℕ, Bool, true, false, List, [], ◌∷◌, Option, Some, None}
 use Rattle.sqlx_script.specs.Numbers.{◌>>=◌}
 
 -- what was made of the words, where none is left
@@ -11,6 +11,11 @@ ended made (w ∷ ws) = None
 abbrev pub row : {A R : Type 0} → (List ℕ → Option A) → (A → List (List ℕ) → Option R) → List (List ℕ) → Option R
 row p f [] = None
 row p f (w ∷ ws) = p w >>= λ x. f x ws
+
+-- a word of this kind where one is told, or else this value, and then what f says of the others
+abbrev pub row_if : {A R : Type 0} → Bool → (List ℕ → Option A) → A → (A → List (List ℕ) → Option R) → List (List ℕ) → Option R
+row_if true p other f ws = row p f ws
+row_if false p other f ws = f other ws
 
 -- no word
 unfoldable pub words0 : {R : Type 0} → R → List (List ℕ) → Option R

@@ -48,7 +48,7 @@ pub enum StatementAnswer {
     StatementRefused,
 }
 
-/// The four letters of a `poll`.
+/// The four letters of a `poll`, and how many tests they answer.
 #[derive(Clone, Copy)]
 pub struct PollAnswers {
     /// Whether a ping of an idle connection is answered.
@@ -56,6 +56,8 @@ pub struct PollAnswers {
     pub before_acquire: HookAnswer,
     pub connect: ConnectAnswer,
     pub after_connect: AfterConnectAnswer,
+    /// So many tests of idle connections are answered by `ping` and `before_acquire`; each later one accepts.
+    pub tests: u32,
 }
 
 /// The two letters of a `give`.

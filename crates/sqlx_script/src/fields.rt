@@ -1,9 +1,11 @@
 //! The fields of each event, after its name and its moment.
 ghost use Rattle.std.specs.Prelude.{◌≡◌};
 ghost use Rattle.sqlx_script.specs.Rows.{words0, words1, words2, words3, words4, words5};
+ghost use Rattle.sqlx_script.specs.Grammar.{poll_words};
 ghost use Rattle.sqlx_script.specs.Numbers.{name_number, opens, key, value};
-ghost use Rattle.sqlx_script.specs.Letters.{sign, statement, poll_answers, give_answers};
+ghost use Rattle.sqlx_script.specs.Letters.{sign, statement, give_answers};
 
+use crate::answers::PollAnswers;
 use crate::step::Step;
 use crate::words::Words;
 
@@ -16,18 +18,19 @@ pub fn ask(words: &mut Words<'_>) -> Option<Step>
     words.finish(Step::Ask { client })
 }
 
-/// The fields of `poll`.
-#[tactic(auto, using(crate::proofs::Rows::reads), unfolding(crate::specs::Rows::words3))]
-pub fn poll(words: &mut Words<'_>) -> Option<Step>
-    ensures { result ≡ words3 name_number name_number poll_answers Step.Poll words.old }
+/// The fields of `poll`, with how many tests its letters answer where it tells that.
+#[tactic(auto, using(crate::proofs::Rows::reads), unfolding(crate::specs::Grammar::poll_words))]
+pub fn poll(words: &mut Words<'_>, counts_tests: bool) -> Option<Step>
+    ensures { result ≡ poll_words counts_tests words.old }
 {
     let client = words.name_number()?;
     let ticket = words.name_number()?;
-    let answers = words.poll_answers()?;
+    let letters = words.poll_answers()?;
+    let tests = if counts_tests { words.tests()? } else { 1 };
     words.finish(Step::Poll {
         client,
         ticket,
-        answers,
+        answers: PollAnswers { tests, ..letters },
     })
 }
 

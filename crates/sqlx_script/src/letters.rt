@@ -98,7 +98,7 @@ pub fn statement(word: &[u8]) -> Option<StatementAnswer>
     }
 }
 
-/// The four letters of a `poll`.
+/// The four letters of a `poll`, which answer one test.
 #[tactic(auto, unfolding(crate::specs::Letters::poll_answers))]
 pub fn poll_answers(word: &[u8]) -> Option<PollAnswers>
     ensures { result ≡ spec.poll_answers word.now }
@@ -111,6 +111,7 @@ pub fn poll_answers(word: &[u8]) -> Option<PollAnswers>
         before_acquire: hook(*before)?,
         connect: connect(*connects)?,
         after_connect: after_connect(*after)?,
+        tests: 1,
     })
 }
 

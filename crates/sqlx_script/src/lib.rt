@@ -19,6 +19,7 @@ pub use answers::{
     AfterConnectAnswer, ConnectAnswer, GiveAnswers, HookAnswer, PollAnswers, StatementAnswer,
 };
 pub use lines::cut_line;
+pub use numbers::number_in;
 pub use pool_line::PoolLine;
 pub use reading::{read_event, read_pool_line};
 pub use reply::Reply;

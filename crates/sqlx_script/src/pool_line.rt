@@ -1,6 +1,6 @@
 //! The first line of a script, which says how the pool is set up.
 
-/// `pool max min timeout lifetime idle switches`. Durations are in nanoseconds.
+/// `pool max min timeout lifetime idle switches`, or `pool2 max min timeout lifetime idle switches tries`. Durations are in nanoseconds.
 #[derive(Clone, Copy)]
 pub struct PoolLine {
     /// At most so many connections, from 1 to 65,535.
@@ -21,4 +21,8 @@ pub struct PoolLine {
     pub before_acquire: bool,
     /// Whether there is an `after_release` hook.
     pub after_release: bool,
+    /// At most so many idle connections are tested in a poll, from 1 to 16; 1 where the first word is `pool`.
+    pub tries: u32,
+    /// Whether the first word is `pool2`, so that each poll tells how many tests its letters answer; else they answer one.
+    pub counts_tests: bool,
 }

@@ -1,6 +1,6 @@
 //! What a line of a script says.
 ghost use Rattle.std.specs.Prelude.{◌≡◌, ◌≤◌, IfSome, true};
-ghost use Rattle.sqlx_script.specs.Built.{is_built};
+ghost use Rattle.sqlx_script.specs.Built.{has_few_opens};
 ghost use Rattle.std.specs.Str.{bytes_eq};
 ghost use Rattle.sqlx_script.specs.Grammar.{statement_of, step_of, event_of, limits_after, pool_of};
 
@@ -46,13 +46,13 @@ fn statement(name: &[u8], words: &mut Words<'_>) -> Option<Step>
 
 // What follows the moment.
 #[tactic(auto, unfolding(crate::specs::Grammar::step_of))]
-fn step(name: &[u8], words: &mut Words<'_>) -> Option<Step>
-    ensures { result ≡ step_of name.now words.old }
+fn step(name: &[u8], words: &mut Words<'_>, counts_tests: bool) -> Option<Step>
+    ensures { result ≡ step_of counts_tests name.now words.old }
 {
     if is(name, b"ask") {
         fields::ask(words)
     } else if is(name, b"poll") {
-        fields::poll(words)
+        fields::poll(words, counts_tests)
     } else if is(name, b"cancel") {
         fields::cancel(words)
     } else if is(name, b"try") {
@@ -78,31 +78,39 @@ fn step(name: &[u8], words: &mut Words<'_>) -> Option<Step>
     }
 }
 
-/// What a line after the first says, if it is an event.
+/// What a line after the first says, if it is an event; `counts_tests` is what the first line says.
 #[tactic(auto, using(crate::proofs::Rows::reads, crate::proofs::FewOpens::step_few), unfolding(crate::specs::Grammar::event_of, crate::specs::Grammar::event_words))]
-pub fn read_event(line: &[u8]) -> Option<Event>
-    ensures says { result ≡ event_of line.now }
-    ensures built { IfSome result (λ event. is_built event.step ≡ true) }
+pub fn read_event(line: &[u8], counts_tests: bool) -> Option<Event>
+    ensures says { result ≡ event_of counts_tests line.now }
+    ensures few { IfSome result (λ event. has_few_opens event.step ≡ true) }
 {
     let mut words = Words::of_line(line)?;
     let name = words.next()?;
     let now = words.millis()?;
-    let step = step(name, &mut words)?;
+    let step = step(name, &mut words, counts_tests)?;
     Some(Event {
         moment: Moment(now * NANOS),
         step,
     })
 }
 
-// How old connections may grow, what is asked of them, and these maximum, minimum and nanoseconds to wait.
+// How old connections may grow, what is asked of them and how many are tested, and these maximum, minimum and nanoseconds to wait.
 #[tactic(auto, using(crate::proofs::Rows::reads), unfolding(crate::specs::Grammar::limits_after))]
-fn limits(words: &mut Words<'_>, max: u32, min: u32, timeout: u64) -> Option<PoolLine>
-    ensures says { result ≡ limits_after max min timeout words.old }
+fn limits(
+    words: &mut Words<'_>,
+    counts_tests: bool,
+    max: u32,
+    min: u32,
+    timeout: u64,
+) -> Option<PoolLine>
+    ensures says { result ≡ limits_after counts_tests max min timeout words.old }
     ensures max { IfSome result (λ pool. pool.max ≡ max) }
+    ensures tries { IfSome result (λ pool. (1 ≤ pool.tries) × (pool.tries ≤ 16)) }
 {
     let lifetime = words.limit_nanos()?;
     let idle = words.limit_nanos()?;
     let on = words.switches()?;
+    let tries = if counts_tests { words.tries()? } else { 1 };
     words.finish(PoolLine {
         max,
         min,
@@ -113,6 +121,8 @@ fn limits(words: &mut Words<'_>, max: u32, min: u32, timeout: u64) -> Option<Poo
         after_connect: on.after_connect,
         before_acquire: on.before_acquire,
         after_release: on.after_release,
+        tries,
+        counts_tests,
     })
 }
 
@@ -121,11 +131,12 @@ fn limits(words: &mut Words<'_>, max: u32, min: u32, timeout: u64) -> Option<Poo
 pub fn read_pool_line(line: &[u8]) -> Option<PoolLine>
     ensures says { result ≡ pool_of line.now }
     ensures some { IfSome result (λ pool. 1 ≤ pool.max) }
+    ensures tries { IfSome result (λ pool. (1 ≤ pool.tries) × (pool.tries ≤ 16)) }
 {
     let mut words = Words::of_line(line)?;
-    words.exactly(b"pool")?;
+    let counts_tests = words.pool_name()?;
     let max = words.number(1, 65_536)?;
     let min = words.opens()?;
     let timeout = words.millis()?;
-    limits(&mut words, max as u32, min, timeout * NANOS)
+    limits(&mut words, counts_tests, max as u32, min, timeout * NANOS)
 }

@@ -6,6 +6,7 @@ ghost use Rattle.sqlx_script.specs.Words.{is_blank, ends_well, words_of};
 ghost use Rattle.sqlx_script.specs.Rows.{word, ended, Reads};
 ghost use Rattle.sqlx_script.specs.Numbers as numbers_spec;
 ghost use Rattle.sqlx_script.specs.Letters as letters_spec;
+ghost use Rattle.sqlx_script.specs.Grammar.{pool_name};
 
 use crate::answers::{GiveAnswers, PollAnswers, StatementAnswer};
 use crate::letters::Switches;
@@ -109,6 +110,21 @@ impl<'a> Words<'a> {
         Some(self.number(0, 65_536)? as u32)
     }
 
+    /// How many idle connections a poll may test.
+    pub fn tries(&mut self) -> Option<u32>
+        ensures reads { Reads numbers_spec.tries result self.old self.new }
+        ensures within { IfSome result (λ n. (1 ≤ n) × (n ≤ 16)) }
+    {
+        Some(self.number(1, 17)? as u32)
+    }
+
+    /// How many tests the letters of a poll answer.
+    pub fn tests(&mut self) -> Option<u32>
+        ensures { Reads numbers_spec.tests result self.old self.new }
+    {
+        Some(self.number(0, 65_536)? as u32)
+    }
+
     /// A value.
     #[tactic(auto, unfolding(crate::specs::Rows::word))]
     pub fn value(&mut self) -> Option<i64>
@@ -165,13 +181,16 @@ impl<'a> Words<'a> {
         letters::four_switches(self.next()?)
     }
 
-    /// This word and no other.
-    #[tactic(auto, unfolding(crate::specs::Rows::word, crate::specs::Numbers::exactly))]
-    pub fn exactly(&mut self, text: &[u8]) -> Option<&'a [u8]>
-        ensures { MatchOption result (word (numbers_spec.exactly text.now) self.old ≡ None) (λ w. word (numbers_spec.exactly text.now) self.old ≡ Some (w.now, self.new)) }
+    /// The first word of a script: whether its polls tell how many tests their letters answer.
+    #[tactic(auto, unfolding(crate::specs::Rows::word, crate::specs::Grammar::pool_name))]
+    pub fn pool_name(&mut self) -> Option<bool>
+        ensures { Reads pool_name result self.old self.new }
     {
-        let word = self.next()?;
-        if word == text { Some(word) } else { None }
+        match self.next()? {
+            b"pool" => Some(false),
+            b"pool2" => Some(true),
+            _ => None,
+        }
     }
 
     /// What the words made, where none is left.

@@ -22,6 +22,8 @@ pub struct Row {
 pub struct Timeline {
     rows: Vec<Row>,
     clients: Clients,
+    // Whether each poll tells how many tests its letters answer.
+    counts_tests: bool,
 }
 
 impl Timeline {
@@ -30,6 +32,7 @@ impl Timeline {
         Timeline {
             rows: Vec::new(alloc),
             clients: Clients::new(alloc),
+            counts_tests: false,
         }
     }
 
@@ -52,11 +55,12 @@ impl Timeline {
     pub fn add(&mut self, alloc: Global, line: &str, reply: &str) -> Result<bool, AllocError> {
         let whole = format!(in alloc; "{line}\n")?;
         if self.rows.is_empty() {
-            if read_pool_line(whole.as_bytes()).is_none() {
-                return Ok(false);
+            match read_pool_line(whole.as_bytes()) {
+                Some(pool) => self.counts_tests = pool.counts_tests,
+                None => return Ok(false),
             }
         } else {
-            match read_event(whole.as_bytes()) {
+            match read_event(whole.as_bytes(), self.counts_tests) {
                 Some(event) if !reply.is_empty() => self
                     .clients
                     .hear(&event.step, Told::by(reply))?,

@@ -1,9 +1,10 @@
 -- A call inside a level of its own.
-use Rattle.std.specs.Prelude.{◌≡◌, ◌+◌, ◌≤◌, ◌⊎◌, ℕ, IfErr, None, Result, Ok, Err}
+use Rattle.std.specs.Prelude.{◌≡◌, ◌+◌, ◌≤◌, ◌⊎◌, ℕ, IfErr, None, Option, Result, Ok, Err}
 use Rattle.sqlx_text.specs.declared.error.Error.{Error}
+use Rattle.sqlx_text.specs.declared.sql_str.SqlStr.{SqlStr}
 use Rattle.sqlx_traits.specs.Calls.{Call, Outcome}
 use Rattle.sqlx_traits.specs.Calls.Call.{begin, commit, rollback}
-use Rattle.sqlx_traits.specs.Faults.{FaultCause}
+use Rattle.sqlx_traits.specs.Faults.{BeginCause, FaultCause}
 
 -- of what a call may answer and make of a connection: it leaves the levels as it found them
 abbrev pub Leaves : {C G : Type 0} → (C → ℕ) → (C → G → C → Type 0) → Type 0
@@ -14,6 +15,10 @@ module _ {C : Type 0} (does : Call → C → Outcome → C → Type 0) (levels f
   -- the manager's call has this outcome, with the cause of a refusal
   abbrev pub Comes : Call → C → Outcome → C → Type 0
   Comes call before outcome after = does call before outcome after × (faults before ≤ faults after) × IfErr outcome (FaultCause (faults before) (faults after))
+
+  -- a level couldn't be begun, by the statement where one is given: the levels stay, and the error has its cause
+  abbrev pub RefusesToBegin : Option SqlStr → C → Error → Type 0
+  RefusesToBegin statement before e = (after : C) × does (begin statement) before (Err e) after × (levels after ≡ levels before) × (faults before ≤ faults after) × BeginCause (faults before) (faults after) e
 
   -- a level is opened
   abbrev pub Begins : C → C → Type 0

@@ -1,10 +1,10 @@
 //! Levels of a connection that is borrowed. They stand in a module since `transaction` and `Transaction` can't
 //! stand side by side.
-ghost use Rattle.std.specs.Prelude.{◌≡◌, ◌≢◌, ◌+◌, ◌-◌, ◌<◌, ◌≤◌, Err, IfOk, None, Ok, Option, Result, Some, nat_lt};
+ghost use Rattle.std.specs.Prelude.{◌≡◌, ◌≢◌, ◌+◌, ◌-◌, ◌<◌, ◌≤◌, Err, IfErr, IfOk, None, Ok, Option, Result, Some, nat_lt};
 ghost use Rattle.std.specs.Fn.{FnOnceReturnsAtMut};
 ghost use Rattle.sqlx_text.specs.declared.error.Error.{Error};
 ghost use Rattle.sqlx_traits.specs.Calls as call;
-ghost use Rattle.sqlx_tx.specs.Within.{Ends, Leaves, Transacts};
+ghost use Rattle.sqlx_tx.specs.Within.{Ends, Leaves, RefusesToBegin, Transacts};
 
 use crate::{Borrowed, Transaction};
 use sqlx_text::{Error, SqlStr};
@@ -30,6 +30,7 @@ pub fn begin<'c, DB: Database>(
     ensures levels { IfOk result (λ begun. DB.Connection.levels begun.0.now ≡ DB.Connection.levels conn.old + 1) }
     ensures does { IfOk result (λ begun. DB.TransactionManager.does (call.begin None) conn.old (Ok tt) begun.0.now) }
     ensures rises { IfOk result (λ begun. DB.Connection.faults conn.old ≤ DB.Connection.faults begun.0.now) }
+    ensures refused { IfErr result (RefusesToBegin DB.TransactionManager.does DB.Connection.levels DB.Connection.faults None conn.old) }
 {
     match DB::TransactionManager::begin(alloc, &mut *conn, None) {
         Ok(()) => Ok(Transaction::adopt(Borrowed(conn))),
@@ -51,6 +52,7 @@ pub fn begin_with<'c, DB: Database>(
     ensures levels { IfOk result (λ begun. DB.Connection.levels begun.0.now ≡ DB.Connection.levels conn.old + 1) }
     ensures does { IfOk result (λ begun. DB.TransactionManager.does (call.begin (Some statement)) conn.old (Ok tt) begun.0.now) }
     ensures rises { IfOk result (λ begun. DB.Connection.faults conn.old ≤ DB.Connection.faults begun.0.now) }
+    ensures refused { IfErr result (RefusesToBegin DB.TransactionManager.does DB.Connection.levels DB.Connection.faults (Some statement) conn.old) }
 {
     match DB::TransactionManager::begin(alloc, &mut *conn, Some(statement)) {
         Ok(()) => Ok(Transaction::adopt(Borrowed(conn))),

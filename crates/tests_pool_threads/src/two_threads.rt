@@ -70,7 +70,7 @@ fn two<H: Ledger + Send + Sync, L: Loans + Send + Sync, R: Wait + Threads + Sync
     requires loans { (loans.name ≡ L.name) × (loans.parts ≡ L.parts) × (loans.parts ≡ 2 ^ 32) }
 {
     let options = PoolOptions::new().max_connections(2);
-    let (pool, mut all) = Conns::<H, L>::connect_lazy_with(alloc, options, (), held, loans)?;
+    let (pool, mut all) = options.connect_lazy_with::<Conn, (), H, L>(alloc, (), held, loans)?;
     let one = all.split();
     let other = all.split();
     let shared = &pool;

@@ -2,7 +2,7 @@
 ghost use Rattle.std.specs.Prelude.{◌≡◌, true, false, ◌≤◌, Option, Some, None, IfOk, OnOk, IfErr};
 ghost use Rattle.sqlx_savepoints.specs.Texts as texts;
 ghost use Rattle.mem_store.specs.Statements.{Reads};
-ghost use Rattle.mem_store.specs.Acts.{act_of, refusal_of};
+ghost use Rattle.mem_store.specs.Acts.{act_of};
 ghost use Rattle.mem_store.specs.Errors.{error_of};
 ghost use Rattle.mem_store.specs.declared.statement.Statement.{Statement as Held};
 ghost use Rattle.mem_store.specs.declared.act.Act.{Act as Doing};
@@ -185,8 +185,7 @@ fn begin(session: &mut StoreSession, alloc: Global) -> Result<Reply, PlayError>
 }
 
 fn begin_immediate(session: &mut StoreSession) -> Result<Reply, PlayError>
-    ensures ok { IfOk result (λ reply. (reply ≡ spec.reply_met (Act.Custom true) session.old (refusal_of (Some (spec.statement_at (Act.Custom true) session.old.link.depth)) session.old))
-        × (session.new ≡ spec.left_met (Act.Custom true) session.old (refusal_of (Some (spec.statement_at (Act.Custom true) session.old.link.depth)) session.old))) }
+    ensures ok { IfOk result (spec.IsAsMet (Act.Custom true) session.old session.new) }
     ensures memory { IfErr result (λ e. e ≡ PlayError.OutOfMemory) }
 {
     match run_text(session, "BEGIN IMMEDIATE", &[])? {
@@ -199,8 +198,7 @@ fn begin_immediate(session: &mut StoreSession) -> Result<Reply, PlayError>
 }
 
 fn select_one(session: &mut StoreSession) -> Result<Reply, PlayError>
-    ensures ok { IfOk result (λ reply. (reply ≡ spec.reply_met (Act.Custom false) session.old (refusal_of (Some (spec.statement_at (Act.Custom false) session.old.link.depth)) session.old))
-        × (session.new ≡ spec.left_met (Act.Custom false) session.old (refusal_of (Some (spec.statement_at (Act.Custom false) session.old.link.depth)) session.old))) }
+    ensures ok { IfOk result (spec.IsAsMet (Act.Custom false) session.old session.new) }
     ensures memory { IfErr result (λ e. e ≡ PlayError.OutOfMemory) }
 {
     match run_text(session, SELECT_ONE, &[])? {

@@ -31,8 +31,7 @@ pub fn close(stage: &mut Stage, moment: Moment) -> Reply
     ensures last { last_of stage.new ≡ last_of stage.old }
     ensures used { numbers_of stage.new ≡ numbers_of stage.old }
 {
-    // The core is sound.
-    let _moment = stage.core.moment(moment);
+    stage.core.bounds();
     let mut idle = stage.core.close();
     let count = idle.len() as u64;
     close_all(&mut stage.out.store, &mut idle);

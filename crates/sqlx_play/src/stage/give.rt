@@ -39,8 +39,7 @@ fn take_back(
     ensures used { numbers_of stage.new ≡ numbers_of stage.old }
     ensures memory { IfErr result (λ e. e ≡ PlayError.OutOfMemory) }
 {
-    // The core is sound.
-    let _moment = stage.core.moment(moment);
+    stage.core.bounds();
     let Some(at) = place_of(&stage.lent, conn) else {
         return Ok(Returned::NotHeld);
     };

@@ -32,14 +32,14 @@ fn close_lent(stage: &mut Stage, conn: u64)
 }
 
 // Ends a client's connection.
-fn end_loan(stage: &mut Stage, moment: Moment, client: u32, conn: u64) -> bool
+fn end_loan(stage: &mut Stage, client: u32, conn: u64) -> bool
     ensures ok { LoanEnds stage.old stage.new (Mark.Closed conn) client conn result }
     ensures pool { stage.new.pool ≡ stage.old.pool }
     ensures runs { stage.new.out.store.runs ≡ stage.old.out.store.runs }
     ensures last { last_of stage.new ≡ last_of stage.old }
     ensures used { numbers_of stage.new ≡ numbers_of stage.old }
 {
-    stage.core.moment(moment);
+    stage.core.bounds();
     if !stage.core.end(client, conn) {
         return false;
     }
@@ -48,14 +48,14 @@ fn end_loan(stage: &mut Stage, moment: Moment, client: u32, conn: u64) -> bool
 }
 
 // Takes a client's connection out of the pool.
-fn detach_loan(stage: &mut Stage, moment: Moment, client: u32, conn: u64) -> bool
+fn detach_loan(stage: &mut Stage, client: u32, conn: u64) -> bool
     ensures ok { LoanEnds stage.old stage.new (Mark.Detached conn) client conn result }
     ensures pool { stage.new.pool ≡ stage.old.pool }
     ensures runs { stage.new.out.store.runs ≡ stage.old.out.store.runs }
     ensures last { last_of stage.new ≡ last_of stage.old }
     ensures used { numbers_of stage.new ≡ numbers_of stage.old }
 {
-    stage.core.moment(moment);
+    stage.core.bounds();
     if !stage.core.detach(client, conn) {
         return false;
     }
@@ -64,14 +64,14 @@ fn detach_loan(stage: &mut Stage, moment: Moment, client: u32, conn: u64) -> boo
 }
 
 // Takes a client's connection out of the pool, which keeps its place.
-fn leak_loan(stage: &mut Stage, moment: Moment, client: u32, conn: u64) -> bool
+fn leak_loan(stage: &mut Stage, client: u32, conn: u64) -> bool
     ensures ok { LoanEnds stage.old stage.new (Mark.Leaked conn) client conn result }
     ensures pool { stage.new.pool ≡ stage.old.pool }
     ensures runs { stage.new.out.store.runs ≡ stage.old.out.store.runs }
     ensures last { last_of stage.new ≡ last_of stage.old }
     ensures used { numbers_of stage.new ≡ numbers_of stage.old }
 {
-    stage.core.moment(moment);
+    stage.core.bounds();
     if !stage.core.leak(client, conn) {
         return false;
     }
@@ -98,7 +98,7 @@ pub fn end(
     ensures used { numbers_of stage.new ≤ numbers_of stage.old + 2 ^ 20 }
     ensures memory { IfErr result (λ e. e ≡ PlayError.OutOfMemory) }
 {
-    if !end_loan(stage, moment, client, u64::from(connection)) {
+    if !end_loan(stage, client, u64::from(connection)) {
         return Ok(Reply::NotHeld);
     }
     let opened = fill(stage, alloc, moment, opens)?;
@@ -124,7 +124,7 @@ pub fn detach(
     ensures used { numbers_of stage.new ≤ numbers_of stage.old + 2 ^ 20 }
     ensures memory { IfErr result (λ e. e ≡ PlayError.OutOfMemory) }
 {
-    if !detach_loan(stage, moment, client, u64::from(connection)) {
+    if !detach_loan(stage, client, u64::from(connection)) {
         return Ok(Reply::NotHeld);
     }
     let opened = fill(stage, alloc, moment, opens)?;
@@ -150,7 +150,7 @@ pub fn leak(
     ensures used { numbers_of stage.new ≤ numbers_of stage.old + 2 ^ 20 }
     ensures memory { IfErr result (λ e. e ≡ PlayError.OutOfMemory) }
 {
-    if !leak_loan(stage, moment, client, u64::from(connection)) {
+    if !leak_loan(stage, client, u64::from(connection)) {
         return Ok(Reply::NotHeld);
     }
     let opened = fill(stage, alloc, moment, opens)?;

@@ -60,8 +60,7 @@ pub fn poll(
     ensures used { numbers_of stage.new ≤ numbers_of stage.old + 2 ^ 20 }
     ensures memory { IfErr result (λ e. e ≡ PlayError.OutOfMemory) }
 {
-    // The core is sound.
-    let _moment = stage.core.moment(moment);
+    stage.core.bounds();
     stage.out.begin_poll(answers);
     let polled = stage
         .core

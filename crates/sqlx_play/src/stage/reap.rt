@@ -21,8 +21,7 @@ fn reap_one(stage: &mut Stage, moment: Moment) -> bool
     ensures last { last_of stage.new ≤ moment.0 }
     ensures used { numbers_of stage.new ≡ numbers_of stage.old }
 {
-    // The core is sound.
-    let _moment = stage.core.moment(moment);
+    stage.core.bounds();
     match stage.core.reap(moment) {
         Some(idle) => {
             stage.out.store.close(idle.lent.raw);

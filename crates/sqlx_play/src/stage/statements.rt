@@ -94,6 +94,7 @@ fn run(stage: &mut Stage, alloc: Global, statement: Statement) -> Result<Reply, 
     ensures memory { IfErr result (λ e. e ≡ PlayError.OutOfMemory) }
 {
     let id = u64::from(statement.connection);
+    stage.core.bounds();
     if !stage.core.owns(statement.client, id) {
         return Ok(Reply::NotHeld);
     }

@@ -7,8 +7,8 @@ ghost use Rattle.sqlx_pool_core.specs.Core.{ticket_of};
 ghost use Rattle.sqlx_pool_core.specs.Logs.{moment_of};
 ghost use Rattle.sqlx_pool_core.specs.PollParts.{IfAccepted};
 ghost use Rattle.sqlx_pool_core.specs.PollTable.{phase_turn};
-ghost use Rattle.sqlx_pool_core.specs.PollSteps.{phase_for, judged, tested_at, may_test_next, start_answer, start_marks, started, test_answer, test_marks, after_test, connect_answer, connect_marks, after_connect, may_cancel, cancel_marks, cancelled};
-ghost use Rattle.sqlx_pool.specs.Answers.{lends_tested, IfTestLends, lends_new, IfTryLends, IfTried, is_fatal, is_ended};
+ghost use Rattle.sqlx_pool_core.specs.PollSteps.{phase_for, judged, start_answer, start_marks, started, test_marks, after_test, connect_answer, connect_marks, after_connect, may_cancel, cancel_marks, cancelled};
+ghost use Rattle.sqlx_pool.specs.Answers.{test_answer_in, lends_tested, IfTestLends, lends_new, IfTryLends, IfTried, is_fatal, is_ended};
 ghost use Rattle.sqlx_pool.specs.Booked.{CountsIf};
 
 use super::Locked;
@@ -72,7 +72,7 @@ impl<C: Depth, O, H: Ledger, L: Loans> Locked<C, O, H, L> {
     ) -> (AfterTest<C>, Option<Held<H>>)
         requires parts { 0 < tally.old.parts }
         requires flat { IfAccepted verdict (λ raw. C.levels raw ≡ 0) }
-        ensures answer { result.0 ≡ test_answer (tested_at (judged verdict) (phase_for client ticket self.old.core.tickets)) (list_any is_shut self.old.marks) (may_test_next self.old.core.options.idle_tries (phase_for client ticket self.old.core.tickets)) self.old.core.idle verdict }
+        ensures answer { result.0 ≡ test_answer_in self.old verdict (phase_for client ticket self.old.core.tickets) }
         ensures marks { self.new.marks ≡ self.old.marks ++ test_marks client ticket (judged verdict) result.0 }
         ensures becomes { self.new.core ≡ after_test client ticket result.0 self.old.core }
         ensures connect { self.new.connect ≡ self.old.connect }

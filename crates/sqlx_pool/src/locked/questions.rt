@@ -1,6 +1,6 @@
 //! What the value under the lock is asked without a change, and its connect options.
 
-ghost use Rattle.std.specs.Prelude.{◌≡◌, ℕ, ◌+◌, ◌++◌, List, not, length, IfOk};
+ghost use Rattle.std.specs.Prelude.{◌≡◌, ◌≤◌, ℕ, ◌+◌, ◌++◌, List, not, length, IfOk};
 ghost use Rattle.std.specs.List.{list_any};
 ghost use Rattle.sqlx_log.specs.Marks.{is_shut, is_open, idle_of};
 ghost use Rattle.sqlx_log.specs.EventTable.{closes, size_at};
@@ -61,17 +61,21 @@ impl<C: Depth, O, H: Ledger, L: Loans> Locked<C, O, H, L> {
         self.core.must_close(created, now)
     }
 
-    /// How many connections there are or may be.
+    /// How many connections there are or may be: at most the maximum.
     pub fn size(&self) -> u32
-        ensures { result ≡ size_at self.now.core.places self.now.marks }
+        ensures marks { result ≡ size_at self.now.core.places self.now.marks }
+        ensures most { result ≤ L.max }
     {
+        self.core.bounds();
         self.core.size()
     }
 
-    /// How many connections are idle.
+    /// How many connections are idle: at most the maximum.
     pub fn num_idle(&self) -> usize
-        ensures { result ≡ length (idle_of self.now.marks) }
+        ensures marks { result ≡ length (idle_of self.now.marks) }
+        ensures most { result ≤ L.max }
     {
+        self.core.bounds();
         self.core.num_idle()
     }
 

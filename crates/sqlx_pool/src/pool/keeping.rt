@@ -26,15 +26,20 @@ impl<C: Depth, O, H: Ledger, L: Loans> Locked<C, O, H, L> {
     }
 }
 
-// Closes idle connections, and tells how many.
-fn close_all<C: Drop, O, X: Outside<C, O>>(idle: VecDeque<Idle<C>>, out: &mut X) -> usize
-    ensures { result ≡ length idle.items }
+// Closes idle connections, hard or gently, and tells how many.
+pub(super) fn close_all<C: Drop, O, X: Outside<C, O>>(
+    check: Check,
+    idle: VecDeque<Idle<C>>,
+    out: &mut X,
+) -> usize
+    ensures count { result ≡ length idle.items }
+    ensures counts { (X.faults out.old ≤ X.faults out.new) × (X.refusals out.old ≤ X.refusals out.new) }
 {
     let mut idle = idle;
     let count = idle.len();
     for _ in 0..count {
         if let Some(closed) = idle.pop_front() {
-            out.close(closed.lent.raw);
+            checks::close_by::<C, O, X>(check, closed.lent.raw, out);
         }
     }
     count
@@ -53,6 +58,7 @@ impl<C: Depth + Drop, O: Drop, H: Ledger, L: Loans> PoolOf<C, O, H, L> {
     ) -> Check
         ensures flat { IfPassed result (C.levels raw.new ≡ 0) }
         ensures closes { closes ≡ true → is_pass result ≡ false }
+        ensures counts { (X.faults out.old ≤ X.faults out.new) × (X.refusals out.old ≤ X.refusals out.new) }
     {
         if closes {
             return Check::Close;
@@ -72,9 +78,11 @@ impl<C: Depth + Drop, O: Drop, H: Ledger, L: Loans> PoolOf<C, O, H, L> {
 
     /// Closes the pool: from now on it serves no ticket and keeps no connection. The idle connections are closed; their
     /// number comes back. A second close gives 0.
-    pub fn close<R: Wait, X: Outside<C, O>>(&self, rt: &R, out: &mut X) -> usize {
+    pub fn close<R: Wait, X: Outside<C, O>>(&self, rt: &R, out: &mut X) -> usize
+        ensures counts { (X.faults out.old ≤ X.faults out.new) × (X.refusals out.old ≤ X.refusals out.new) }
+    {
         let idle = self.shared.locked.lock(rt).close();
-        close_all::<C, O, X>(idle, out)
+        close_all::<C, O, X>(Check::Close, idle, out)
     }
 
     /// Closes the idle connections that rest for longer than the idle limit or are older than the lifetime, at most as
@@ -85,18 +93,24 @@ impl<C: Depth + Drop, O: Drop, H: Ledger, L: Loans> PoolOf<C, O, H, L> {
         alloc: Global,
         now: Moment,
         out: &mut X,
-    ) -> (u32, Openings) {
+    ) -> (u32, Openings)
+        ensures most { (result.0 ≤ self.now.shared.value.options.max_connections) × (result.1.opened ≤ self.now.shared.value.options.max_connections) }
+        ensures counts { (X.faults out.old ≤ X.faults out.new) × (X.refusals out.old ≤ X.refusals out.new) }
+    {
         let reaped = self.reap_all::<R, X>(rt, now, out);
         (reaped, self.keep_minimum::<R, X>(rt, alloc, now, out))
     }
 
     // Closes what is to be reaped.
-    fn reap_all<R: Wait, X: Outside<C, O>>(&self, rt: &R, now: Moment, out: &mut X) -> u32 {
+    fn reap_all<R: Wait, X: Outside<C, O>>(&self, rt: &R, now: Moment, out: &mut X) -> u32
+        ensures most { result ≤ self.now.shared.value.options.max_connections }
+        ensures counts { (X.faults out.old ≤ X.faults out.new) × (X.refusals out.old ≤ X.refusals out.new) }
+    {
         let max = self.shared.options.get_max_connections();
         for reaped in 0..max {
             let idle = self.shared.locked.lock(rt).reap(now);
             match idle {
-                Some(idle) => out.close(idle.lent.raw),
+                Some(idle) => checks::close_by::<C, O, X>(Check::Close, idle.lent.raw, out),
                 None => return reaped,
             }
         }
@@ -111,7 +125,10 @@ impl<C: Depth + Drop, O: Drop, H: Ledger, L: Loans> PoolOf<C, O, H, L> {
         alloc: Global,
         now: Moment,
         out: &mut X,
-    ) -> Openings {
+    ) -> Openings
+        ensures most { result.opened ≤ self.now.shared.value.options.max_connections }
+        ensures counts { (X.faults out.old ≤ X.faults out.new) × (X.refusals out.old ≤ X.refusals out.new) }
+    {
         if ended {
             self.keep_minimum::<R, X>(rt, alloc, now, out)
         } else {
@@ -131,7 +148,10 @@ impl<C: Depth + Drop, O: Drop, H: Ledger, L: Loans> PoolOf<C, O, H, L> {
         alloc: Global,
         now: Moment,
         out: &mut X,
-    ) -> Openings {
+    ) -> Openings
+        ensures most { result.opened ≤ self.now.shared.value.options.max_connections }
+        ensures counts { (X.faults out.old ≤ X.faults out.new) × (X.refusals out.old ≤ X.refusals out.new) }
+    {
         let max = self.shared.options.get_max_connections();
         for opened in 0..max {
             match self.open_one::<R, X>(rt, alloc, now, out) {
@@ -163,7 +183,9 @@ impl<C: Depth + Drop, O: Drop, H: Ledger, L: Loans> PoolOf<C, O, H, L> {
         alloc: Global,
         now: Moment,
         out: &mut X,
-    ) -> Filled {
+    ) -> Filled
+        ensures counts { (X.faults out.old ≤ X.faults out.new) × (X.refusals out.old ≤ X.refusals out.new) }
+    {
         let place = self.shared.locked.lock(rt).minimum_place(alloc);
         match place {
             Ok(true) => self.fill_place::<R, X>(rt, alloc, now, out),
@@ -179,7 +201,9 @@ impl<C: Depth + Drop, O: Drop, H: Ledger, L: Loans> PoolOf<C, O, H, L> {
         alloc: Global,
         now: Moment,
         out: &mut X,
-    ) -> Filled {
+    ) -> Filled
+        ensures counts { (X.faults out.old ≤ X.faults out.new) × (X.refusals out.old ≤ X.refusals out.new) }
+    {
         match self.open::<R, X>(rt, alloc, out) {
             Opening::Opened(raw) => self.keep_new::<R, X>(rt, now, raw, out),
             Opening::Rejected | Opening::Transient => {
@@ -207,12 +231,13 @@ impl<C: Depth + Drop, O: Drop, H: Ledger, L: Loans> PoolOf<C, O, H, L> {
         out: &mut X,
     ) -> Filled
         requires { C.levels raw ≡ 0 }
+        ensures counts { (X.faults out.old ≤ X.faults out.new) × (X.refusals out.old ≤ X.refusals out.new) }
     {
         let back = self.shared.locked.lock(rt).minimum_done(now, Some(raw));
         match back {
             None => Filled::Opened,
             Some(raw) => {
-                out.close(raw);
+                checks::close_by::<C, O, X>(Check::Close, raw, out);
                 Filled::Full
             }
         }

@@ -156,7 +156,7 @@ impl<C: Depth + Drop, O: Drop, H: Ledger, L: Loans> PoolOf<C, O, H, L> {
     }
 
     // Opens a connection, where the poll wants one.
-    pub(crate) fn connect<R: Wait, X: Outside<C, O>>(
+    pub(crate) fn open_wanted<R: Wait, X: Outside<C, O>>(
         &self,
         rt: &R,
         alloc: Global,

@@ -15,7 +15,6 @@ ghost use Rattle.sqlx_pool_core.specs.PollSteps.{phase_for, may_cancel, cancel_m
 ghost use Rattle.sqlx_pool_core.specs.Edits.{at_moment, asked};
 
 use super::{Member, NUMBERS};
-use crate::lists;
 use crate::steps::Lent;
 use crate::ticket::{Held, Phase, Ticket};
 use sqlx_text::{Error, Moment};
@@ -105,7 +104,7 @@ impl<C> Member<C> {
     pub fn may_pass(&self) -> bool
         ensures { result ≡ may_pass self.now.closed (waiting self.now.tickets) (free self.now) }
     {
-        !self.closed && lists::waiting_of(&self.tickets) < self.num_free() as usize
+        !self.closed && self.tickets.waiting() < self.num_free() as usize
     }
 
     /// Whether a connection would be lent past the line, where that lets one pass.

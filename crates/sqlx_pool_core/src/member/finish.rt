@@ -15,7 +15,6 @@ ghost use Rattle.sqlx_pool_core.specs.PollSteps.{phase_for, accepted_raw, opened
 ghost use Rattle.sqlx_pool_core.specs.Edits.{at_moment, ended, tested_so_far, to_connect, to_back_off, with_ticket, lent_to, opened};
 
 use super::Member;
-use crate::lists;
 use crate::steps::{AfterConnect, AfterTest, Idle, Lent, Tried, Verdict};
 use crate::ticket::{Held, Phase, Ticket};
 use sqlx_text::Moment;
@@ -76,7 +75,7 @@ impl<C> Member<C> {
     pub(super) fn end_ticket(&mut self, number: u64)
         ensures { self.new ≡ ended number self.old }
     {
-        lists::end_ticket(&mut self.tickets, number);
+        self.tickets.end(number);
     }
 
     // Lends the connection that is under test for a ticket, and ends the ticket.
@@ -91,7 +90,7 @@ impl<C> Member<C> {
             client,
             created,
         });
-        lists::end_ticket(&mut self.tickets, found.number);
+        self.tickets.end(found.number);
     }
 
     // The connection that was under test for a ticket is gone: the ticket connects.
@@ -101,7 +100,7 @@ impl<C> Member<C> {
         ensures { self.new ≡ record self.old { tickets = with_ticket found.number to_connect self.old.tickets } }
     {
         let phase = Phase::Connecting;
-        lists::put_ticket(&mut self.tickets, Ticket { phase, ..found });
+        self.tickets.put(Ticket { phase, ..found });
     }
 
     // The connection that was under test for a ticket is gone: the first idle one is tested.
@@ -121,7 +120,7 @@ impl<C> Member<C> {
             created: idle.lent.created,
             before,
         };
-        lists::put_ticket(&mut self.tickets, Ticket { phase, ..found });
+        self.tickets.put(Ticket { phase, ..found });
         idle
     }
 
@@ -192,7 +191,7 @@ impl<C> Member<C> {
             client: found.client,
             created: moment,
         });
-        lists::end_ticket(&mut self.tickets, found.number);
+        self.tickets.end(found.number);
         self.next_conn += 1;
         self.last = moment;
         Lent {
@@ -216,7 +215,7 @@ impl<C> Member<C> {
             last_wait: Some(wait),
             ..found
         };
-        lists::put_ticket(&mut self.tickets, ticket);
+        self.tickets.put(ticket);
         self.last = moment;
         until
     }

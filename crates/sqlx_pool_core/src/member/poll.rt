@@ -16,7 +16,6 @@ ghost use Rattle.sqlx_pool_core.specs.Edits.{at_moment, ended, to_try};
 ghost use Rattle.sqlx_pool_core.specs.declared.steps.Start.TheVariants as start;
 
 use super::{Member, NUMBERS};
-use crate::lists;
 use crate::steps::{Idle, Start};
 use crate::ticket::{Phase, Ticket};
 use sqlx_log::Turn;
@@ -51,7 +50,8 @@ impl<C> Member<C> {
     pub fn is_first(&self, ticket: u64) -> bool
         ensures { result ≡ is_first_in_line ticket self.now }
     {
-        lists::before_of(&self.tickets, ticket) < self.num_free() as usize
+        self.tickets
+            .are_fewer_before(ticket, self.num_free() as usize)
     }
 
     // What the poll of a ticket comes to at a moment, entitled or not.
@@ -82,14 +82,14 @@ impl<C> Member<C> {
         ensures client { IfSome result (λ x. x.client ≡ client) }
         ensures sound { IsSound self.now }
     {
-        lists::ticket_for(&self.tickets, client, number)
+        self.tickets.find(client, number)
     }
 
     // Ends a ticket at a moment.
     pub(super) fn end_at(&mut self, number: u64, moment: Moment)
         ensures { self.new ≡ at_moment moment.0 (ended number self.old) }
     {
-        lists::end_ticket(&mut self.tickets, number);
+        self.tickets.end(number);
         self.last = moment;
     }
 
@@ -162,7 +162,7 @@ impl<C> Member<C> {
             last_wait: None,
             ..found
         };
-        lists::put_ticket(&mut self.tickets, ticket);
+        self.tickets.put(ticket);
         self.last = moment;
         idle
     }
@@ -174,7 +174,7 @@ impl<C> Member<C> {
         requires found { ticket_of found.client found.number self.old.tickets ≡ Some found }
         ensures becomes { self.new ≡ started found.number moment.0 start.Connect self.old }
     {
-        lists::put_ticket(&mut self.tickets, trying(found, moment));
+        self.tickets.put(trying(found, moment));
         self.last = moment;
     }
 }

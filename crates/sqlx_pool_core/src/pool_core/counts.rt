@@ -9,7 +9,6 @@ ghost use Rattle.sqlx_log.specs.Answers.{owns, lent_past_at, waits_if};
 ghost use Rattle.sqlx_pool_core.specs.StandsFor.{StandsFor};
 ghost use Rattle.sqlx_pool_core.specs.Core.{loan_of, waiting, free};
 ghost use Rattle.sqlx_pool_core.specs.PollSteps.{phase_for, is_in_line, try_lent};
-ghost use Rattle.sqlx_pool_core.specs.Sound.{IsSound};
 
 use super::PoolCore;
 use crate::steps::Numbers;
@@ -19,7 +18,6 @@ impl<C> PoolCore<C> {
     pub fn owns(&self, client: u32, id: u64) -> bool
         ensures marks { (marks : List Mark) → StandsFor self.now marks → result ≡ owns client (owner_of id marks) }
         ensures owns { result ≡ is_some (loan_of client id self.now.held) }
-        ensures sound { IsSound self.now }
     {
         self.pool.sound();
         self.pool.owns(client, id)

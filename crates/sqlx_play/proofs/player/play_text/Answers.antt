@@ -1,4 +1,5 @@
-use Rattle.std.proofs.Common.{sym, ap, subst, ◌∙◌, Some}
+use Rattle.std.proofs.Common.{◌≤◌, sym, ap, subst, ◌∙◌, Some}
+use Rattle.sqlx_script.specs.declared.pool_line.PoolLine.{PoolLine}
 use Rattle.sqlx_pool_core.specs.Core.{Core}
 use Rattle.mem_store.specs.Store.{Store, Link}
 use Rattle.sqlx_play.specs.Plays.{Plays}
@@ -30,4 +31,4 @@ returns-clause-ok g c =
     let is = script_is c.args.text.now c.cut_line.result.0.now c.cut_line.result.1.now c.in_ok-stage.stage.pool c.cut_line.ensures.line (sym c.read_pool_line.ensures.says ∙ c.in-Some.is ∙ ap Some (sym c.in_ok-stage.ensures.pool)) in
     subst (λ (core : Core Link). Plays c.args.text.now (g.K.Sink.written c.args.sink.now) (g.K.Sink.written c.write_line.new.sink) core c.played_on.result.store) (sym c.played_on.ensures.core)
     (subst (λ (store : Store). Plays c.args.text.now (g.K.Sink.written c.args.sink.now) (g.K.Sink.written c.write_line.new.sink) c.play_lines.new.stage.core store) (sym c.played_on.ensures.store)
-    (plays_text c.args.text.now c.cut_line.result.1.now _ _ _ _ _ _ c.requires is c.play_lines.ensures.pool c.in_default-play_lines.ensures.ok c.report.ensures c.in_default-write_line.ensures.ok))
+    (plays_text c.args.text.now c.cut_line.result.1.now _ _ _ _ _ _ c.requires is (subst (λ (p : PoolLine). 1 ≤ p.tries) (sym c.in_ok-stage.ensures.pool) c.in-Some.ensures.tries.0) c.play_lines.ensures.pool c.in_default-play_lines.ensures.ok c.report.ensures c.in_default-write_line.ensures.ok))

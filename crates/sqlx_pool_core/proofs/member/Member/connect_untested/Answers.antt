@@ -5,10 +5,10 @@ use Rattle.sqlx_pool_core.proofs.member.Member.connect_untested.Goals as goal
 
 pub invariant_of-self : goal.invariant_of-self
 invariant_of-self g c =
-    let both = going-on-still _ _ c.args.found (to_connect c.args.found) to_connect c.put_ticket.new.tickets.items c.self.view_is c.self.invariant.0 c.requires.out refl refl (λ k. refl) c.put_ticket.ensures c.requires.found in
+    let both = going-on-still _ _ c.args.found (to_connect c.args.found) to_connect c.put.new.self c.self.view_is c.self.invariant.0 c.requires.out refl refl (λ k. refl) c.put.ensures c.requires.found in
     (both.0, c.self.invariant.1)
 
 pub returns : goal.returns
 returns g c =
-    let both = going-on-still _ _ c.args.found (to_connect c.args.found) to_connect c.put_ticket.new.tickets.items c.self.view_is c.self.invariant.0 c.requires.out refl refl (λ k. refl) c.put_ticket.ensures c.requires.found in
+    let both = going-on-still _ _ c.args.found (to_connect c.args.found) to_connect c.put.new.self c.self.view_is c.self.invariant.0 c.requires.out refl refl (λ k. refl) c.put.ensures c.requires.found in
     both.1

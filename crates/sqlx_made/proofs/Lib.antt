@@ -1,0 +1,8 @@
+pub mod Decimals
+pub mod WordsLemmas
+pub mod LineReads
+pub mod BlocksLemmas
+pub mod Valid
+pub mod ScriptLemmas
+pub mod ReplyLines
+mod Worked

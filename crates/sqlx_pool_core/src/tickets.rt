@@ -1,0 +1,191 @@
+//! The tickets that haven't ended, by their numbers: none of them is found, changed or ended by a look at the others.
+ghost use Rattle.std.specs.Prelude.{◌≡◌, ◌==◌, ◌*◌, ◌^◌, ◌<◌, ◌≤◌, nat_lt, true, if◌then◌else◌, [], ◌∷◌, ◌++◌, length, All, OnOk, OnErr};
+ghost use Rattle.sqlx_pool_core.specs.Core.{waiting, gone, ticket_of, has_gone, is_out, waits};
+ghost use Rattle.sqlx_pool_core.specs.Moves.{testing, left_to_test, all_left_to_test};
+ghost use Rattle.sqlx_pool_core.specs.OwnTurn.{before};
+ghost use Rattle.sqlx_pool_core.specs.Edits.{without_ticket, with_ticket};
+
+use crate::ticket::{Phase, Ticket};
+use sqlx_text::OutOfMemory;
+use std::alloc::Global;
+use std::collections::BTreeMap;
+use std::marker::Model;
+
+// No memory holds more tickets.
+const MOST: usize = 1 << 57;
+
+/// The tickets that haven't ended, in the order of asking.
+#[derive(Drop)]
+pub struct Tickets {
+    by_number: BTreeMap<u64, Ticket>,
+    // How many have left the line.
+    gone: usize,
+}
+
+impl Model for Tickets {
+    ghost use Rattle.std.specs.Prelude.{List};
+    ghost use Rattle.std.specs.BTreeMap.{values};
+    ghost use Rattle.sqlx_pool_core.specs.declared.ticket.Ticket.{Ticket};
+    ghost use Rattle.sqlx_pool_core.specs.Tickets.{AreKept};
+
+    ghost Value = { List Ticket };
+
+    ghost view = { λ s. values s.by_number };
+
+    ghost invariant = { λ s. AreKept s.by_number.entries s.gone };
+}
+
+impl Phase {
+    // The ticket has left the line.
+    fn is_out(&self) -> bool
+        ensures { result ≡ is_out self.now }
+    {
+        !matches!(self, Phase::Waiting)
+    }
+}
+
+// How many idle connections more may be tested for a ticket.
+fn tests_left(ticket: &Ticket, tries: u32) -> u32
+    ensures left { result ≡ left_to_test tries ticket.now }
+    ensures few { result ≤ tries }
+{
+    match ticket.phase {
+        Phase::Waiting => tries.saturating_sub(1),
+        Phase::Testing { before, .. } => tries.saturating_sub(before).saturating_sub(1),
+        _ => 0,
+    }
+}
+
+// One for a ticket that has left the line, none for one that waits.
+fn one_if_gone(ticket: &Ticket) -> usize
+    ensures { result ≡ (if has_gone ticket.now then 1 else 0) }
+{
+    if ticket.phase.is_out() { 1 } else { 0 }
+}
+
+impl Tickets {
+    /// No tickets.
+    pub fn new(alloc: Global) -> Tickets
+        ensures { result ≡ [] }
+    {
+        Tickets {
+            by_number: BTreeMap::new(alloc),
+            gone: 0,
+        }
+    }
+
+    /// How many there are.
+    pub fn len(&self) -> usize
+        ensures count { result ≡ length self.now }
+        ensures few { result ≤ 2 ^ 57 }
+    {
+        self.by_number.len()
+    }
+
+    /// There is none.
+    pub fn is_empty(&self) -> bool
+        ensures { result ≡ (length self.now == 0) }
+    {
+        self.len() == 0
+    }
+
+    /// How many have left the line.
+    pub fn gone(&self) -> usize
+        ensures count { result ≡ gone self.now }
+        ensures few { result ≤ length self.now }
+    {
+        self.gone
+    }
+
+    /// How many wait.
+    pub fn waiting(&self) -> usize
+        ensures { result ≡ waiting self.now }
+    {
+        self.len() - self.gone()
+    }
+
+    /// How many have a connection under test.
+    pub fn testing(&self) -> usize
+        ensures { result ≡ testing self.now }
+    {
+        self.by_number
+            .values()
+            .filter(|x| matches!(x.phase, Phase::Testing { .. }))
+            .count()
+    }
+
+    /// How many idle connections more may be tested for all tickets.
+    pub fn left_to_test(&self, tries: u32) -> usize
+        requires { tries ≤ 16 }
+        ensures left { result ≡ all_left_to_test tries self.now }
+        ensures few { result ≤ length self.now * 16 }
+    {
+        self.by_number
+            .values()
+            .map(|x| tests_left(x, tries) as usize)
+            .sum()
+    }
+
+    /// How many waiting tickets were asked before this one.
+    pub fn before(&self, number: u64) -> usize
+        ensures { result ≡ before number self.now }
+    {
+        self.by_number
+            .values()
+            .take_while(|x| number != x.number)
+            .filter(|x| !x.phase.is_out())
+            .count()
+    }
+
+    /// Fewer waiting tickets than the limit were asked before this one.
+    pub fn are_fewer_before(&self, number: u64, limit: usize) -> bool
+        ensures { result ≡ nat_lt (before number self.now) limit }
+    {
+        self.waiting() < limit || (0 < limit && self.before(number) < limit)
+    }
+
+    /// This client's ticket of this number.
+    pub fn find(&self, client: u32, number: u64) -> Option<Ticket>
+        ensures { result ≡ ticket_of client number self.now }
+    {
+        let found = self.by_number.get(&number).copied()?;
+        if found.client == client {
+            Some(found)
+        } else {
+            None
+        }
+    }
+
+    /// Ends a ticket.
+    pub fn end(&mut self, number: u64)
+        ensures { self.new ≡ without_ticket number self.old }
+    {
+        if let Some(ended) = self.by_number.remove(&number) {
+            self.gone -= one_if_gone(&ended);
+        }
+    }
+
+    /// Puts a ticket in the place of the one of its number.
+    pub fn put(&mut self, ticket: Ticket)
+        ensures { self.new ≡ with_ticket ticket.number (λ _. ticket) self.old }
+    {
+        if let Some(place) = self.by_number.get_mut(&ticket.number) {
+            self.gone -= one_if_gone(place);
+            *place = ticket;
+            self.gone += one_if_gone(&ticket);
+        }
+    }
+
+    /// A ticket is asked, and stands behind all others.
+    pub fn push(&mut self, ticket: Ticket) -> Result<(), OutOfMemory>
+        requires waits { waits ticket ≡ true }
+        requires last { All (λ x. x.number < ticket.number) self.old }
+        ensures ok { OnOk result (self.new ≡ self.old ++ ticket ∷ []) }
+        ensures err { OnErr result (self.new ≡ self.old) }
+    {
+        if self.len() == MOST || self.by_number.insert(ticket.number, ticket).is_err() {
+            return Err(OutOfMemory);
+        }
+        Ok(())
+    }
+}

@@ -1,0 +1,74 @@
+//! The made script by the words of the command line.
+use sqlx_play::{PlayError, SureSink, SureSource, run};
+use std::alloc::Global;
+
+// Runs the program with these words and an empty source.
+fn run_words(alloc: Global, words: &[&str], sink: &mut SureSink) -> Result<(), PlayError> {
+    let mut all = Vec::new(alloc);
+    for word in words {
+        if all.push(String::from_str(alloc, word)?).is_err() {
+            return Err(PlayError::OutOfMemory);
+        }
+    }
+    let mut source = SureSource::new(Vec::new(alloc));
+    run(alloc, &all, &mut source, sink)
+}
+
+#[test]
+fn made_scripts_are_summarized(rt: HostRuntime) -> Result<(), PlayError> {
+    let alloc = rt.alloc();
+    for (lines, seed, summary) in [
+        (
+            "1",
+            "0",
+            "lines 1\nready 0\nkept 0\nclosed 0\nheld 0 idle 0 leaked 0 waiting 0\n",
+        ),
+        (
+            "4",
+            "1",
+            "lines 4\nready 1\nkept 0\nclosed 0\nheld 1 idle 0 leaked 0 waiting 0\n",
+        ),
+        (
+            "10000",
+            "7",
+            "lines 10000\nready 1429\nkept 1077\nclosed 351\nheld 1 idle 0 leaked 0 waiting 0\n",
+        ),
+    ] {
+        let mut sink = SureSink::new(alloc);
+        let answer = run_words(alloc, &["make", lines, seed], &mut sink);
+        assert!(rt; answer.is_ok(), "make {lines} {seed}");
+        assert!(rt; sink.written() == summary.as_bytes(), "make {lines} {seed}");
+    }
+    Ok(())
+}
+
+#[test]
+fn other_words_are_a_wrong_use(rt: HostRuntime) -> Result<(), PlayError> {
+    let alloc = rt.alloc();
+    for words in [
+        ["make", "10001", "1"],
+        ["make", "0", "1"],
+        ["make", "4", "2147483648"],
+        ["make", "04", "1"],
+        ["make", "4", "-1"],
+        ["makes", "4", "1"],
+        ["", "4", "1"],
+    ] {
+        let mut sink = SureSink::new(alloc);
+        let answer = run_words(alloc, &words, &mut sink);
+        assert!(rt;
+            answer == Err(PlayError::Usage),
+            "{} {} {}",
+            words[0],
+            words[1],
+            words[2]
+        );
+        assert!(rt; sink.written().is_empty());
+    }
+    let mut sink = SureSink::new(alloc);
+    assert!(rt; run_words(alloc, &["make"], &mut sink) == Err(PlayError::Usage));
+    assert!(rt; run_words(alloc, &["make", "4"], &mut sink) == Err(PlayError::Usage));
+    assert!(rt; run_words(alloc, &["make", "4", "1", "1"], &mut sink) == Err(PlayError::Usage));
+    assert!(rt; sink.written().is_empty());
+    Ok(())
+}
