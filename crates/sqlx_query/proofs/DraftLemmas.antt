@@ -2,7 +2,8 @@
 use Rattle.std.proofs.Common.{◌≡◌, ℕ, ◌≤◌, Bool, true, false, List, [], ◌∷◌, ◌++◌, length, take, refl, sym, ap, ◌∙◌, subst, arith}
 use Rattle.std.proofs.lemmas.List.{append-nil, append_assoc, length-append, take-append-le}
 use Rattle.sqlx_traits.specs.Arguments.{AddsOne}
-use Rattle.sqlx_query.specs.Builder.{Piece, Text, Bound, Draft, arguments_of, with_piece, with_pieces, AddsOneEach, Extends, Gains, cut_to, entry, tuple, later_tuples, tuples_of, WritesEach}
+use Rattle.sqlx_query.specs.Builder.{Piece, Text, Bound, Draft, arguments_of, with_piece, with_pieces, AddsOneEach, Extends, Gains, cut_to, entry, opening, tuple, tuples_from, tuples_of}
+use Rattle.sqlx_query.specs.Tuples.{WritesEach}
 
 -- pieces behind pieces
 pub with_pieces-append : {L : Type 0} (d : Draft L) (ps qs : List (Piece L)) → with_pieces d (ps ++ qs) ≡ with_pieces (with_pieces d ps) qs
@@ -93,53 +94,69 @@ module _ {L : Type 0} (count : L → ℕ) (first : ℕ → L → L) where
       let arguments : first (count d.arguments) e.arguments ≡ d.arguments = x.arguments (count d.arguments) (omega arith) ∙ first_of_all (count d.arguments) d.arguments (omega arith) in
       same_draft x.initial (text_back d e x) arguments x.built
 
--- tuples that follow others, and one more
-later-push : {L : Type 0} (pss : List (List (Piece L))) (ps : List (Piece L)) → later_tuples (pss ++ ps ∷ []) ≡ later_tuples pss ++ tuple true ps
-later-push [] ps = append-nil (tuple true ps)
-later-push (qs ∷ pss) ps = ap (λ x. tuple true qs ++ x) (later-push pss ps) ∙ sym (append_assoc (tuple true qs) (later_tuples pss) (tuple true ps))
+-- whether there is a list of tuples, or were some before it
+abbrev pub or_any : {A : Type 0} → Bool → List A → Bool
+or_any later [] = later
+or_any later (x ∷ xs) = true
 
--- whether there is a list of tuples
-abbrev pub has_any : {A : Type 0} → List A → Bool
-has_any [] = false
-has_any (x ∷ xs) = true
+any_later : {A : Type 0} (xs : List A) → or_any true xs ≡ true
+any_later [] = refl
+any_later (x ∷ xs) = refl
+
+any_push : {A : Type 0} (xs : List A) (x : A) → true ≡ or_any false (xs ++ x ∷ [])
+any_push [] x = refl
+any_push (y ∷ xs) x = refl
 
 -- tuples, and one more
-pub tuples_of-push : {L : Type 0} (pss : List (List (Piece L))) (ps : List (Piece L)) → tuples_of (pss ++ ps ∷ []) ≡ tuples_of pss ++ tuple (has_any pss) ps
-tuples_of-push [] ps = append-nil (tuple false ps)
-tuples_of-push (qs ∷ pss) ps = ap (λ x. tuple false qs ++ x) (later-push pss ps) ∙ sym (append_assoc (tuple false qs) (later_tuples pss) (tuple true ps))
+pub tuples_from-push : {L : Type 0} (later : Bool) (pss : List (List (Piece L))) (ps : List (Piece L))
+    → tuples_from later (pss ++ ps ∷ []) ≡ tuples_from later pss ++ tuple (or_any later pss) ps
+tuples_from-push later [] ps = append-nil (tuple later ps)
+tuples_from-push later (qs ∷ pss) ps =
+    ap (λ x. tuple later qs ++ x) (tuples_from-push true pss ps ∙ ap (λ b. tuples_from true pss ++ tuple b ps) (any_later pss))
+    ∙ sym (append_assoc (tuple later qs) (tuples_from true pss) (tuple true ps))
 
 -- one more call of the writer
-pub writes_each-push : {W T P : Type 0} (writes : W → T → P → W → Type 0) (w mid last : W) (xs : List T) (ps : List P) (x : T) (p : P)
-    → WritesEach writes w xs ps mid → writes mid x p last → WritesEach writes w (xs ++ x ∷ []) (ps ++ p ∷ []) last
-writes_each-push writes w mid last [] [] x p a b = (last, subst (λ s. writes s x p last) (sym a) b, refl)
-writes_each-push writes w mid last [] (q ∷ ps) x p a b = absurd a
-writes_each-push writes w mid last (y ∷ xs) [] x p a b = absurd a
-writes_each-push writes w mid last (y ∷ xs) (q ∷ ps) x p a b = (a.0, a.1, writes_each-push writes a.0 mid last xs ps x p a.2 b)
+pub writes_each-push : {W T L : Type 0} (writes : W → T → Draft L → List (Piece L) → W → Type 0) (later : Bool) (w mid last : W) (before : Draft L)
+    (xs : List T) (pss : List (List (Piece L))) (x : T) (ps : List (Piece L))
+    → WritesEach writes later w before xs pss mid → writes mid x (with_pieces (with_pieces before (tuples_from later pss)) (opening (or_any later pss))) ps last
+    → WritesEach writes later w before (xs ++ x ∷ []) (pss ++ ps ∷ []) last
+writes_each-push writes later w mid last before [] [] x ps a b = (last, subst (λ s. writes s x (with_pieces before (opening later)) ps last) (sym a) b, refl)
+writes_each-push writes later w mid last before [] (qs ∷ pss) x ps a b = absurd a
+writes_each-push writes later w mid last before (y ∷ xs) [] x ps a b = absurd a
+writes_each-push {L = L} writes later w mid last before (y ∷ xs) (qs ∷ pss) x ps a b =
+    let next : Draft L = with_pieces before (tuple later qs) in
+    let At : Draft L → Type 0 = λ d. writes mid x (with_pieces d (opening true)) ps last in
+    let Behind : Bool → Type 0 = λ c. writes mid x (with_pieces (with_pieces next (tuples_from true pss)) (opening c)) ps last in
+    let wrote : At (with_pieces next (tuples_from true pss)) = subst At (with_pieces-append before (tuple later qs) (tuples_from true pss)) b in
+    (a.0, a.1, writes_each-push writes true a.0 mid last next xs pss x ps a.2 (subst Behind (sym (any_later pss)) wrote))
 
 -- the tuples of the items so far stand behind the draft, and whether there are any is known
-abbrev pub SoFar : {L W T : Type 0} → (L → ℕ) → (ℕ → L → L) → (W → T → List (Piece L) → W → Type 0) → W → Draft L → List T → Bool → W → Draft L → Type 0
+abbrev pub SoFar : {L W T : Type 0} → (L → ℕ) → (ℕ → L → L) → (W → T → Draft L → List (Piece L) → W → Type 0) → W → Draft L → List T → Bool → W → Draft L → Type 0
 SoFar {L} count first writes w before items later last now =
-    (written : List (List (Piece L))) × (later ≡ has_any written) × WritesEach writes w items written last × Gains count first before (tuples_of written) now
+    (written : List (List (Piece L))) × (later ≡ or_any false written) × WritesEach writes false w before items written last × Gains count first before (tuples_of written) now
 
-has_any-push : {A : Type 0} (xs : List A) (x : A) → true ≡ has_any (xs ++ x ∷ [])
-has_any-push [] x = refl
-has_any-push (y ∷ xs) x = refl
-
-module _ {L W T : Type 0} (count : L → ℕ) (first : ℕ → L → L) (writes : W → T → List (Piece L) → W → Type 0) (w : W) (before : Draft L) where
+module _ {L W T : Type 0} (count : L → ℕ) (first : ℕ → L → L) (writes : W → T → Draft L → List (Piece L) → W → Type 0) (w : W) (before : Draft L) where
   -- no tuples
   pub so_far_none : SoFar count first writes w before [] false w before
   so_far_none = ([], refl, refl, (tt, refl))
 
   -- one tuple more
   pub so_far_more : (items : List T) (later : Bool) (mid last : W) (now next : Draft L) (x : T) (ps : List (Piece L))
-      → SoFar count first writes w before items later mid now → writes mid x ps last → Gains count first now (tuple later ps) next
+      → SoFar count first writes w before items later mid now → writes mid x (with_pieces now (opening later)) ps last → Gains count first now (tuple later ps) next
       → SoFar count first writes w before (items ++ x ∷ []) true last next
   so_far_more items later mid last now next x ps so wrote gained =
       let written : List (List (Piece L)) = so.0 in
       let G : List (Piece L) → Type 0 = λ qs. Gains count first before qs next in
       let H : Bool → Type 0 = λ b. G (tuples_of written ++ tuple b ps) in
+      let At : Draft L → Type 0 = λ d. writes mid x (with_pieces d (opening later)) ps last in
+      let Behind : Bool → Type 0 = λ b. writes mid x (with_pieces (with_pieces before (tuples_of written)) (opening b)) ps last in
       let all : G (tuples_of written ++ tuple later ps) = gains_then count first before now next (tuples_of written) (tuple later ps) so.3 gained in
-      (written ++ ps ∷ [], has_any-push written ps, writes_each-push writes w mid last items written x ps so.2 wrote, subst G (sym (tuples_of-push written ps)) (subst H so.1 all))
+      let here : Behind (or_any false written) = subst Behind so.1 (subst At so.3.1 wrote) in (
+        written ++ ps ∷ [],
+        any_push written ps,
+        writes_each-push writes false w mid last before items written x ps so.2 here,
+        subst G (sym (tuples_from-push false written ps)) (subst H so.1 all),
+      )
 
   -- what is so far there is more
   pub so_far_extends : (items : List T) (later : Bool) (mid : W) (now : Draft L) → SoFar count first writes w before items later mid now → Extends count first before now

@@ -1,6 +1,5 @@
 -- Statements that are built piece by piece.
 use Rattle.std.specs.Prelude.{◌≡◌, ℕ, ◌+◌, ◌≤◌, Bool, true, false, List, [], ◌∷◌, ◌++◌, codes, take}
-use Rattle.sqlx_text.specs.declared.fault.Fault.{Fault}
 use Rattle.sqlx_traits.specs.Arguments.{AddsOne}
 
 -- a piece of a statement: a text, or a bound value, as its placeholder and what it makes of the arguments
@@ -78,25 +77,22 @@ abbrev pub entry : {L : Type 0} → Bool → List ℕ → Piece L → List (Piec
 entry true separator p = Text separator ∷ p ∷ []
 entry false separator p = p ∷ []
 
+-- the opening parenthesis of a tuple, with the separator before it unless it is the first
+abbrev pub opening : {L : Type 0} → Bool → List (Piece L)
+opening later = entry later (codes ", ") (Text (codes "("))
+
 -- a tuple: its pieces in parentheses, with the separator before it unless it is the first
 abbrev pub tuple : {L : Type 0} → Bool → List (Piece L) → List (Piece L)
-tuple later ps = entry later (codes ", ") (Text (codes "(")) ++ (ps ++ Text (codes ")") ∷ [])
+tuple later ps = opening later ++ (ps ++ Text (codes ")") ∷ [])
 
--- the tuples that follow others
-abbrev pub later_tuples : {L : Type 0} → List (List (Piece L)) → List (Piece L)
-later_tuples [] = []
-later_tuples (ps ∷ pss) = tuple true ps ++ later_tuples pss
+-- tuples, with the separator before each but the first, and before that too where others come before them
+abbrev pub tuples_from : {L : Type 0} → Bool → List (List (Piece L)) → List (Piece L)
+tuples_from later [] = []
+tuples_from later (ps ∷ pss) = tuple later ps ++ tuples_from true pss
 
 -- the tuples, in parentheses, with the separator between them
 abbrev pub tuples_of : {L : Type 0} → List (List (Piece L)) → List (Piece L)
-tuples_of [] = []
-tuples_of (ps ∷ pss) = tuple false ps ++ later_tuples pss
-
--- the writer may write these pieces for the items, one call for each, and be the last one then
-abbrev pub WritesEach : {W T P : Type 0} → (W → T → P → W → Type 0) → W → List T → List P → W → Type 0
-WritesEach writes w [] [] last = w ≡ last
-WritesEach {W} writes w (x ∷ xs) (p ∷ ps) last = (next : W) × writes w x p next × WritesEach writes next xs ps last
-WritesEach writes w xs ps last = ⊥
+tuples_of pss = tuples_from false pss
 
 -- the second draft is the first with the pieces behind it, each bound value of which adds one argument
 abbrev pub Gains : {L : Type 0} → (L → ℕ) → (ℕ → L → L) → Draft L → List (Piece L) → Draft L → Type 0
@@ -110,16 +106,10 @@ alone p = p ∷ []
 abbrev pub GainsBound : {L : Type 0} → (ℕ → List ℕ) → (L → ℕ) → (ℕ → L → L) → (Piece L → List (Piece L)) → (L → L) → Draft L → Draft L → Type 0
 GainsBound placeholder count first around adds before now = Gains count first before (around (Bound (placeholder (count now.arguments)) adds)) now
 
--- the second draft is the first with the tuples that the writer may write for the drained items, and what stands around them
-abbrev pub GainsTuples : {L W T : Type 0} → (L → ℕ) → (ℕ → L → L) → (List T → Type 0) → (W → T → List (Piece L) → W → Type 0) → W
-    → (List (Piece L) → List (Piece L)) → Draft L → Draft L → Type 0
-GainsTuples {L} {W} {T} count first drained writes w around before now =
-    (items : List T) × (written : List (List (Piece L))) × (last : W)
-    × drained items × WritesEach writes w items written last × Gains count first before (around (tuples_of written)) now
-
--- a writer, after some of the tuples, may refuse one with the fault
-abbrev pub RefusesTuple : {W T : Type 0} → (W → T → Fault → Type 0) → Fault → Type 0
-RefusesTuple {W} {T} refuses fault = (w : W) × (item : T) × refuses w item fault
+-- the second draft is the first with some pieces behind it
+pub record Appends {L : Type 0} (count : L → ℕ) (first : ℕ → L → L) (before now : Draft L) : Type 0 where
+  pub pieces : List (Piece L)
+  pub gains : Gains count first before pieces now
 
 -- a draft that gains pieces has one argument more for each placeholder among them
 abbrev pub CountsPlaceholders : {L : Type 0} → (L → ℕ) → (ℕ → L → L) → Type 0

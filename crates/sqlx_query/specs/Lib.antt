@@ -3,3 +3,4 @@ pub mod Binding
 pub mod Mapping
 pub mod Growing
 pub mod Builder
+pub mod Tuples

@@ -23,9 +23,9 @@ use std::mem;
 /// Once a query was made of it, only `reset`, `sql`, `into_string` and `into_sql` may be called.
 #[derive(Drop)]
 pub struct QueryBuilder<DB: Database> {
-    text: GrowingText,
-    arguments: DB::Arguments,
-    built: bool,
+    pub(crate) text: GrowingText,
+    pub(crate) arguments: DB::Arguments,
+    pub(crate) built: bool,
 }
 
 impl<DB: Database> Model for QueryBuilder<DB> {

@@ -5,9 +5,9 @@ mod builder;
 mod calls;
 mod growing_text;
 mod placeholders;
-mod push_tuple;
 mod separated;
 mod statements;
+mod tuple_row;
 mod tuples;
 mod types;
 
@@ -17,13 +17,13 @@ pub use calls::{
     query_scalar_with_result, query_with, query_with_result, raw_sql,
 };
 pub use placeholders::placeholders_are_arguments;
-pub use push_tuple::PushTuple;
 pub use separated::Separated;
 pub use sqlx_from_row::{FromColumn, FromRow};
 pub use statements::{
     StatementQuery, query_statement, query_statement_as, query_statement_as_with,
     query_statement_scalar, query_statement_scalar_with, query_statement_with,
 };
+pub use tuple_row::TupleRow;
 pub use types::map::Map;
 pub use types::map_stream::{MapManyStream, MapStream};
 pub use types::mapper::{Each, Mapped, Mapper, TryEach};

@@ -1,33 +1,38 @@
-//! Lists of tuples in parentheses, for `VALUES` and `IN`, written by a `PushTuple`.
-ghost use Rattle.std.specs.Prelude.{◌≡◌, ◌∷◌, ◌++◌, [], Bool, IfErr, IfOk, List, OnErr, OnOk, codes};
+//! Lists of tuples in parentheses, for `VALUES` and `IN`, each written by a closure.
+ghost use Rattle.std.specs.Prelude.{◌≡◌, [], Bool, IfErr, IfOk, OnErr, OnOk, codes};
 ghost use Rattle.std.specs.Iterator.{Drains, IsFinite};
 ghost use Rattle.sqlx_query.specs.Binding.{OrWantOfMemory};
-ghost use Rattle.sqlx_query.specs.Builder.{Extends, Gains, GainsTuples, Piece, RefusesTuple, entry, tuple, with_pieces};
+ghost use Rattle.sqlx_query.specs.Builder.{Appends, Extends, Gains, GainsBound, Piece, entry, opening, with_pieces};
+ghost use Rattle.sqlx_query.specs.Tuples.{GainsRows, OnlyAppends, RefusesTuple, WritesRow, WritesTuple, WritesTuples, behind};
 
-use crate::{PushTuple, QueryBuilder, Separated};
+use crate::growing_text::GrowingText;
+use crate::tuple_row::RowParts;
+use crate::{QueryBuilder, Separated, TupleRow};
 use sqlx_text::{Fault, OutOfMemory};
-use sqlx_traits::{ArgumentList, Arguments, Database};
+use sqlx_traits::{ArgumentList, Arguments, Database, Encode, SqlType};
 use std::alloc::Global;
+use std::mem;
 
 impl<DB: Database> QueryBuilder<DB> {
     /// Appends `VALUES ` and the tuples in parentheses, with `, ` between them, and gives the builder back.
     /// [`QueryBuilder::try_push_values`] says what a refusal leaves.
     ///
     /// Over no tuples it appends `VALUES ` alone.
-    pub fn push_values<T: Drop, I: Iterator<Item = T> + Drop, F: PushTuple<DB, T> + Drop>(
-        &mut self,
-        alloc: Global,
-        tuples: I,
-        push_tuple: F,
-    ) -> Result<&mut Self, Fault>
+    pub fn push_values<
+        T: Drop,
+        I: Iterator<Item = T> + Drop,
+        F: FnMut(&mut TupleRow<DB>, T) -> Result<(), Fault> + Drop,
+    >(&mut self, alloc: Global, tuples: I, push_tuple: F) -> Result<&mut Self, Fault>
         requires unbuilt { self.old.built ≡ Bool.false }
+        requires callable { F.IsAlwaysCallable push_tuple }
+        requires works { OnlyAppends DB.ArgumentBuffer.count DB.ArgumentBuffer.first DB.Arguments.buffered (λ r. r.now.parts) F.step }
         requires can { I.can_next tuples }
         requires ends { IsFinite (I.remaining tuples) }
         ensures same { IfOk result (λ b. b.ghost_name ≡ self.entry.ghost_name) }
-        ensures ok { IfOk result (λ b. GainsTuples DB.ArgumentBuffer.count DB.ArgumentBuffer.first (Drains I.next_gives tuples) F.writes push_tuple
-            (λ list. Piece.Text (codes "VALUES ") ∷ list) self.old b.now) }
+        ensures ok { IfOk result (λ b. GainsRows DB.ArgumentBuffer.count DB.ArgumentBuffer.first DB.Arguments.buffered (λ r. r.now.parts) F.step
+            (Drains I.next_gives tuples) push_tuple (codes "VALUES ") [] self.old b.now) }
         ensures unbuilt { IfOk result (λ b. b.now.built ≡ Bool.false) }
-        ensures refused { IfErr result (OrWantOfMemory (RefusesTuple F.refuses)) }
+        ensures refused { IfErr result (OrWantOfMemory (RefusesTuple F.step)) }
     {
         match self.try_push_values(alloc, tuples, push_tuple) {
             Ok(()) => Ok(self),
@@ -38,46 +43,41 @@ impl<DB: Database> QueryBuilder<DB> {
     /// Appends `VALUES ` and the tuples in parentheses, with `, ` between them. A refusal leaves the builder as it was.
     ///
     /// Over no tuples it appends `VALUES ` alone.
-    pub fn try_push_values<T: Drop, I: Iterator<Item = T> + Drop, F: PushTuple<DB, T> + Drop>(
-        &mut self,
-        alloc: Global,
-        tuples: I,
-        push_tuple: F,
-    ) -> Result<(), Fault>
+    pub fn try_push_values<
+        T: Drop,
+        I: Iterator<Item = T> + Drop,
+        F: FnMut(&mut TupleRow<DB>, T) -> Result<(), Fault> + Drop,
+    >(&mut self, alloc: Global, tuples: I, push_tuple: F) -> Result<(), Fault>
         requires unbuilt { self.old.built ≡ Bool.false }
+        requires callable { F.IsAlwaysCallable push_tuple }
+        requires works { OnlyAppends DB.ArgumentBuffer.count DB.ArgumentBuffer.first DB.Arguments.buffered (λ r. r.now.parts) F.step }
         requires can { I.can_next tuples }
         requires ends { IsFinite (I.remaining tuples) }
-        ensures ok { OnOk result (GainsTuples DB.ArgumentBuffer.count DB.ArgumentBuffer.first (Drains I.next_gives tuples) F.writes push_tuple
-            (λ list. Piece.Text (codes "VALUES ") ∷ list) self.old self.new) }
+        ensures ok { OnOk result (GainsRows DB.ArgumentBuffer.count DB.ArgumentBuffer.first DB.Arguments.buffered (λ r. r.now.parts) F.step
+            (Drains I.next_gives tuples) push_tuple (codes "VALUES ") [] self.old self.new) }
         ensures err { OnErr result (self.new ≡ self.old) }
-        ensures refused { IfErr result (OrWantOfMemory (RefusesTuple F.refuses)) }
+        ensures refused { IfErr result (OrWantOfMemory (RefusesTuple F.step)) }
     {
-        let mark = self.mark();
-        match self.write_values(alloc, tuples, push_tuple) {
-            Ok(()) => Ok(()),
-            Err(fault) => {
-                self.cut_back(mark);
-                Err(fault)
-            }
-        }
+        self.push_framed(alloc, tuples, push_tuple, "VALUES ", "")
     }
 
     /// Appends the tuples in parentheses, with `, ` between them, and ` (` and `) ` around all, and gives the builder back.
     /// [`QueryBuilder::try_push_tuples`] says what a refusal leaves.
-    pub fn push_tuples<T: Drop, I: Iterator<Item = T> + Drop, F: PushTuple<DB, T> + Drop>(
-        &mut self,
-        alloc: Global,
-        tuples: I,
-        push_tuple: F,
-    ) -> Result<&mut Self, Fault>
+    pub fn push_tuples<
+        T: Drop,
+        I: Iterator<Item = T> + Drop,
+        F: FnMut(&mut TupleRow<DB>, T) -> Result<(), Fault> + Drop,
+    >(&mut self, alloc: Global, tuples: I, push_tuple: F) -> Result<&mut Self, Fault>
         requires unbuilt { self.old.built ≡ Bool.false }
+        requires callable { F.IsAlwaysCallable push_tuple }
+        requires works { OnlyAppends DB.ArgumentBuffer.count DB.ArgumentBuffer.first DB.Arguments.buffered (λ r. r.now.parts) F.step }
         requires can { I.can_next tuples }
         requires ends { IsFinite (I.remaining tuples) }
         ensures same { IfOk result (λ b. b.ghost_name ≡ self.entry.ghost_name) }
-        ensures ok { IfOk result (λ b. GainsTuples DB.ArgumentBuffer.count DB.ArgumentBuffer.first (Drains I.next_gives tuples) F.writes push_tuple
-            (λ list. Piece.Text (codes " (") ∷ (list ++ Piece.Text (codes ") ") ∷ [])) self.old b.now) }
+        ensures ok { IfOk result (λ b. GainsRows DB.ArgumentBuffer.count DB.ArgumentBuffer.first DB.Arguments.buffered (λ r. r.now.parts) F.step
+            (Drains I.next_gives tuples) push_tuple (codes " (") (codes ") ") self.old b.now) }
         ensures unbuilt { IfOk result (λ b. b.now.built ≡ Bool.false) }
-        ensures refused { IfErr result (OrWantOfMemory (RefusesTuple F.refuses)) }
+        ensures refused { IfErr result (OrWantOfMemory (RefusesTuple F.step)) }
     {
         match self.try_push_tuples(alloc, tuples, push_tuple) {
             Ok(()) => Ok(self),
@@ -86,22 +86,48 @@ impl<DB: Database> QueryBuilder<DB> {
     }
 
     /// Appends the tuples in parentheses, with `, ` between them, and ` (` and `) ` around all. A refusal leaves the builder as it was.
-    pub fn try_push_tuples<T: Drop, I: Iterator<Item = T> + Drop, F: PushTuple<DB, T> + Drop>(
+    pub fn try_push_tuples<
+        T: Drop,
+        I: Iterator<Item = T> + Drop,
+        F: FnMut(&mut TupleRow<DB>, T) -> Result<(), Fault> + Drop,
+    >(&mut self, alloc: Global, tuples: I, push_tuple: F) -> Result<(), Fault>
+        requires unbuilt { self.old.built ≡ Bool.false }
+        requires callable { F.IsAlwaysCallable push_tuple }
+        requires works { OnlyAppends DB.ArgumentBuffer.count DB.ArgumentBuffer.first DB.Arguments.buffered (λ r. r.now.parts) F.step }
+        requires can { I.can_next tuples }
+        requires ends { IsFinite (I.remaining tuples) }
+        ensures ok { OnOk result (GainsRows DB.ArgumentBuffer.count DB.ArgumentBuffer.first DB.Arguments.buffered (λ r. r.now.parts) F.step
+            (Drains I.next_gives tuples) push_tuple (codes " (") (codes ") ") self.old self.new) }
+        ensures err { OnErr result (self.new ≡ self.old) }
+        ensures refused { IfErr result (OrWantOfMemory (RefusesTuple F.step)) }
+    {
+        self.push_framed(alloc, tuples, push_tuple, " (", ") ")
+    }
+
+    // Appends a text, the tuples, and another text.
+    fn push_framed<
+        T: Drop,
+        I: Iterator<Item = T> + Drop,
+        F: FnMut(&mut TupleRow<DB>, T) -> Result<(), Fault> + Drop,
+    >(
         &mut self,
         alloc: Global,
         tuples: I,
         push_tuple: F,
+        head: &str,
+        tail: &str,
     ) -> Result<(), Fault>
-        requires unbuilt { self.old.built ≡ Bool.false }
+        requires callable { F.IsAlwaysCallable push_tuple }
+        requires works { OnlyAppends DB.ArgumentBuffer.count DB.ArgumentBuffer.first DB.Arguments.buffered (λ r. r.now.parts) F.step }
         requires can { I.can_next tuples }
         requires ends { IsFinite (I.remaining tuples) }
-        ensures ok { OnOk result (GainsTuples DB.ArgumentBuffer.count DB.ArgumentBuffer.first (Drains I.next_gives tuples) F.writes push_tuple
-            (λ list. Piece.Text (codes " (") ∷ (list ++ Piece.Text (codes ") ") ∷ [])) self.old self.new) }
+        ensures ok { OnOk result (GainsRows DB.ArgumentBuffer.count DB.ArgumentBuffer.first DB.Arguments.buffered (λ r. r.now.parts) F.step
+            (Drains I.next_gives tuples) push_tuple head.now tail.now self.old self.new) }
         ensures err { OnErr result (self.new ≡ self.old) }
-        ensures refused { IfErr result (OrWantOfMemory (RefusesTuple F.refuses)) }
+        ensures refused { IfErr result (OrWantOfMemory (RefusesTuple F.step)) }
     {
         let mark = self.mark();
-        match self.write_group(alloc, tuples, push_tuple) {
+        match self.write_framed(alloc, tuples, push_tuple, head, tail) {
             Ok(()) => Ok(()),
             Err(fault) => {
                 self.cut_back(mark);
@@ -111,55 +137,46 @@ impl<DB: Database> QueryBuilder<DB> {
     }
 
     // Refused, it may have written a part, as those below.
-    fn write_values<T: Drop, I: Iterator<Item = T> + Drop, F: PushTuple<DB, T> + Drop>(
+    fn write_framed<
+        T: Drop,
+        I: Iterator<Item = T> + Drop,
+        F: FnMut(&mut TupleRow<DB>, T) -> Result<(), Fault> + Drop,
+    >(
         &mut self,
         alloc: Global,
         tuples: I,
         push_tuple: F,
+        head: &str,
+        tail: &str,
     ) -> Result<(), Fault>
+        requires callable { F.IsAlwaysCallable push_tuple }
+        requires works { OnlyAppends DB.ArgumentBuffer.count DB.ArgumentBuffer.first DB.Arguments.buffered (λ r. r.now.parts) F.step }
         requires can { I.can_next tuples }
         requires ends { IsFinite (I.remaining tuples) }
         ensures appends { Extends DB.ArgumentBuffer.count DB.ArgumentBuffer.first self.old self.new }
-        ensures ok { OnOk result (GainsTuples DB.ArgumentBuffer.count DB.ArgumentBuffer.first (Drains I.next_gives tuples) F.writes push_tuple
-            (λ list. Piece.Text (codes "VALUES ") ∷ list) self.old self.new) }
-        ensures refused { IfErr result (OrWantOfMemory (RefusesTuple F.refuses)) }
+        ensures ok { OnOk result (GainsRows DB.ArgumentBuffer.count DB.ArgumentBuffer.first DB.Arguments.buffered (λ r. r.now.parts) F.step
+            (Drains I.next_gives tuples) push_tuple head.now tail.now self.old self.new) }
+        ensures refused { IfErr result (OrWantOfMemory (RefusesTuple F.step)) }
     {
-        self.append("VALUES ")?;
+        self.append(head)?;
         self.write_tuples(alloc, tuples, push_tuple)?;
+        self.append(tail)?;
         Ok(())
     }
 
-    fn write_group<T: Drop, I: Iterator<Item = T> + Drop, F: PushTuple<DB, T> + Drop>(
-        &mut self,
-        alloc: Global,
-        tuples: I,
-        push_tuple: F,
-    ) -> Result<(), Fault>
+    fn write_tuples<
+        T: Drop,
+        I: Iterator<Item = T> + Drop,
+        F: FnMut(&mut TupleRow<DB>, T) -> Result<(), Fault> + Drop,
+    >(&mut self, alloc: Global, tuples: I, mut push_tuple: F) -> Result<(), Fault>
+        requires callable { F.IsAlwaysCallable push_tuple }
+        requires works { OnlyAppends DB.ArgumentBuffer.count DB.ArgumentBuffer.first DB.Arguments.buffered (λ r. r.now.parts) F.step }
         requires can { I.can_next tuples }
         requires ends { IsFinite (I.remaining tuples) }
         ensures appends { Extends DB.ArgumentBuffer.count DB.ArgumentBuffer.first self.old self.new }
-        ensures ok { OnOk result (GainsTuples DB.ArgumentBuffer.count DB.ArgumentBuffer.first (Drains I.next_gives tuples) F.writes push_tuple
-            (λ list. Piece.Text (codes " (") ∷ (list ++ Piece.Text (codes ") ") ∷ [])) self.old self.new) }
-        ensures refused { IfErr result (OrWantOfMemory (RefusesTuple F.refuses)) }
-    {
-        self.append(" (")?;
-        self.write_tuples(alloc, tuples, push_tuple)?;
-        self.append(") ")?;
-        Ok(())
-    }
-
-    fn write_tuples<T: Drop, I: Iterator<Item = T> + Drop, F: PushTuple<DB, T> + Drop>(
-        &mut self,
-        alloc: Global,
-        tuples: I,
-        mut push_tuple: F,
-    ) -> Result<(), Fault>
-        requires can { I.can_next tuples }
-        requires ends { IsFinite (I.remaining tuples) }
-        ensures appends { Extends DB.ArgumentBuffer.count DB.ArgumentBuffer.first self.old self.new }
-        ensures ok { OnOk result (GainsTuples DB.ArgumentBuffer.count DB.ArgumentBuffer.first (Drains I.next_gives tuples) F.writes push_tuple
-            (λ list. list) self.old self.new) }
-        ensures refused { IfErr result (OrWantOfMemory (RefusesTuple F.refuses)) }
+        ensures ok { OnOk result (WritesTuples DB.ArgumentBuffer.count DB.ArgumentBuffer.first DB.Arguments.buffered (λ r. r.now.parts) F.step
+            (Drains I.next_gives tuples) push_tuple self.old self.new) }
+        ensures refused { IfErr result (OrWantOfMemory (RefusesTuple F.step)) }
     {
         let mut later = false;
         for item in tuples {
@@ -169,18 +186,20 @@ impl<DB: Database> QueryBuilder<DB> {
         Ok(())
     }
 
-    fn write_tuple<T: Drop, F: PushTuple<DB, T>>(
+    fn write_tuple<T: Drop, F: FnMut(&mut TupleRow<DB>, T) -> Result<(), Fault>>(
         &mut self,
         alloc: Global,
         later: bool,
         push_tuple: &mut F,
         item: T,
     ) -> Result<(), Fault>
+        requires callable { F.IsAlwaysCallable push_tuple.old }
+        requires works { OnlyAppends DB.ArgumentBuffer.count DB.ArgumentBuffer.first DB.Arguments.buffered (λ r. r.now.parts) F.step }
+        ensures again { F.IsAlwaysCallable push_tuple.new }
         ensures appends { Extends DB.ArgumentBuffer.count DB.ArgumentBuffer.first self.old self.new }
-        ensures ok { OnOk result ((pieces : List (Piece DB.ArgumentBuffer))
-            × F.writes push_tuple.old item pieces push_tuple.new
-            × Gains DB.ArgumentBuffer.count DB.ArgumentBuffer.first self.old (tuple later pieces) self.new) }
-        ensures refused { IfErr result (OrWantOfMemory (F.refuses push_tuple.old item)) }
+        ensures ok { OnOk result (WritesTuple DB.ArgumentBuffer.count DB.ArgumentBuffer.first DB.Arguments.buffered (λ r. r.now.parts) F.step
+            later push_tuple.old item push_tuple.new self.old self.new) }
+        ensures refused { IfErr result (OrWantOfMemory (RefusesTuple F.step)) }
     {
         self.open_tuple(alloc, later)?;
         self.fill_tuple(alloc, push_tuple, item)?;
@@ -188,36 +207,102 @@ impl<DB: Database> QueryBuilder<DB> {
         Ok(())
     }
 
-    fn open_tuple(&mut self, alloc: Global, later: bool) -> Result<(), OutOfMemory>
-        ensures ok { OnOk result (self.new ≡ with_pieces self.old (entry later (codes ", ") (Piece.Text (codes "(")))) }
+    // A text as an entry of a list, which has entries already or none.
+    pub(crate) fn push_entry(
+        &mut self,
+        alloc: Global,
+        has_piece: bool,
+        sql: &str,
+    ) -> Result<(), OutOfMemory>
+        ensures ok { OnOk result (Gains DB.ArgumentBuffer.count DB.ArgumentBuffer.first self.old (entry has_piece (codes ", ") (Piece.Text sql.now)) self.new) }
         ensures err { OnErr result (self.new ≡ self.old) }
     {
-        let mut tuples = Separated {
+        let mut entries = Separated {
             builder: self,
             separator: ", ",
-            has_piece: later,
+            has_piece,
         };
-        tuples.push(alloc, "(")
+        entries.push(alloc, sql)
+    }
+
+    // A bound value as an entry of a list.
+    pub(crate) fn bind_entry<'t, T: Encode<'t, DB> + SqlType<DB> + Drop>(
+        &mut self,
+        alloc: Global,
+        has_piece: bool,
+        value: T,
+    ) -> Result<(), Fault>
+        ensures ok { OnOk result (GainsBound DB.Arguments.placeholder DB.ArgumentBuffer.count DB.ArgumentBuffer.first
+            (entry has_piece (codes ", ")) (T.encoded value) self.old self.new) }
+        ensures err { OnErr result (self.new ≡ self.old) }
+        ensures refused { IfErr result (OrWantOfMemory (T.refuses value)) }
+    {
+        let mut entries = Separated {
+            builder: self,
+            separator: ", ",
+            has_piece,
+        };
+        entries.push_bind(alloc, value)
+    }
+
+    fn open_tuple(&mut self, alloc: Global, later: bool) -> Result<(), OutOfMemory>
+        ensures ok { OnOk result (self.new ≡ with_pieces self.old (opening later)) }
+        ensures err { OnErr result (self.new ≡ self.old) }
+    {
+        self.push_entry(alloc, later, "(")
     }
 
     // What stands between the parentheses.
-    fn fill_tuple<T, F: PushTuple<DB, T>>(
+    #[tactic(auto, using(crate::proofs::RowLemmas::row_written, crate::proofs::RowLemmas::row_refused))]
+    fn fill_tuple<T, F: FnMut(&mut TupleRow<DB>, T) -> Result<(), Fault>>(
         &mut self,
         alloc: Global,
         push_tuple: &mut F,
         item: T,
     ) -> Result<(), Fault>
-        ensures appends { Extends DB.ArgumentBuffer.count DB.ArgumentBuffer.first self.old self.new }
-        ensures ok { OnOk result ((pieces : List (Piece DB.ArgumentBuffer))
-            × F.writes push_tuple.old item pieces push_tuple.new
-            × Gains DB.ArgumentBuffer.count DB.ArgumentBuffer.first self.old pieces self.new) }
-        ensures refused { IfErr result (F.refuses push_tuple.old item) }
+        requires callable { F.IsAlwaysCallable push_tuple.old }
+        requires works { OnlyAppends DB.ArgumentBuffer.count DB.ArgumentBuffer.first DB.Arguments.buffered (λ r. r.now.parts) F.step }
+        ensures again { F.IsAlwaysCallable push_tuple.new }
+        ensures appends { Appends DB.ArgumentBuffer.count DB.ArgumentBuffer.first self.old self.new }
+        ensures ok { OnOk result (WritesRow DB.ArgumentBuffer.count DB.ArgumentBuffer.first DB.Arguments.buffered (λ r. r.now.parts) F.step
+            push_tuple.old item push_tuple.new self.old self.new) }
+        ensures refused { IfErr result (RefusesTuple F.step) }
     {
-        let mut row = Separated {
-            builder: self,
-            separator: ", ",
-            has_piece: false,
-        };
-        push_tuple.push_tuple(alloc, &mut row, item)
+        let mut row = self.take_row(alloc);
+        let answer = push_tuple(&mut row, item);
+        self.put_row(row);
+        match answer {
+            Ok(()) => Ok(()),
+            Err(fault) => Err(fault),
+        }
+    }
+
+    // A row that continues the builder; until it is put back, the builder has nothing.
+    fn take_row(&mut self, alloc: Global) -> TupleRow<DB>
+        ensures taken { behind DB.Arguments.buffered result.parts ≡ self.old }
+        ensures list { result.parts.has_piece ≡ Bool.false }
+    {
+        TupleRow {
+            parts: RowParts {
+                text: mem::replace(&mut self.text, GrowingText::new(String::new(alloc))),
+                arguments: mem::replace(&mut self.arguments, DB::Arguments::new(alloc)),
+                built: self.built,
+                has_piece: false,
+            },
+        }
+    }
+
+    fn put_row(&mut self, row: TupleRow<DB>)
+        ensures put { self.new ≡ behind DB.Arguments.buffered row.parts }
+    {
+        let RowParts {
+            text,
+            arguments,
+            built,
+            has_piece: _,
+        } = row.parts;
+        self.text = text;
+        self.arguments = arguments;
+        self.built = built;
     }
 }

@@ -10,12 +10,22 @@ use tests_database::Toy;
 use tests_database::answers::shown;
 use url::Url;
 
+fn parsed(alloc: Global, url: &str) -> Result<Url, Error> {
+    match Url::parse(alloc, url) {
+        Ok(url) => Ok(url),
+        Err(_) => Err(Error::RowNotFound),
+    }
+}
+
+// Whether a URL has the scheme `mem`.
+fn expected(alloc: Global, url: &str) -> Result<(), Error> {
+    let url = parsed(alloc, url)?;
+    expect_scheme(alloc, &url, "mem")
+}
+
 // The place of the driver for a URL, of three drivers.
 fn found(alloc: Global, url: &str) -> Result<usize, Error> {
-    let url = match Url::parse(alloc, url) {
-        Ok(url) => url,
-        Err(_) => return Err(Error::RowNotFound),
-    };
+    let url = parsed(alloc, url)?;
     let list = [
         AnyDriver::without_migrate::<Toy>(),
         AnyDriver {
@@ -45,6 +55,17 @@ fn finds_drivers(rt: HostRuntime) -> Result<(), Fail> {
     ] {
         let place = shown(alloc, found(alloc, url))?;
         says(&rt, Ok(place), want)?;
+    }
+    Ok(())
+}
+
+#[test]
+fn expects_a_scheme(rt: HostRuntime) -> Result<(), Fail> {
+    let alloc = rt.alloc();
+    let none = "error with configuration: no driver found for URL scheme \"pg\"";
+    for (url, want) in [("mem:x", "()"), ("pg:x", none)] {
+        let answer = shown(alloc, expected(alloc, url))?;
+        says(&rt, Ok(answer), want)?;
     }
     Ok(())
 }

@@ -100,6 +100,26 @@ fn described(alloc: Global, column: &AnyColumn) -> Result<String, OutOfMemory> {
     Ok(text?)
 }
 
+// The table and the column that an origin tells, of a copy of it.
+fn table_of(alloc: Global, origin: &ColumnOrigin) -> Result<String, Error> {
+    let copy = origin.try_clone(alloc)?;
+    match copy.table_column() {
+        Some(column) => Ok(format!(in alloc; "{} {}", column.table, column.name)?),
+        None => Ok("none".to_string(alloc)?),
+    }
+}
+
+#[test]
+fn origins_tell_their_tables(rt: HostRuntime) -> Result<(), Fail> {
+    let alloc = rt.alloc();
+    let table = ColumnOrigin::Table(TableColumn {
+        table: UStr::from_static("notes"),
+        name: UStr::from_static("day"),
+    });
+    says(&rt, table_of(alloc, &table), "notes day")?;
+    says(&rt, table_of(alloc, &ColumnOrigin::Expression), "none")
+}
+
 // The column at an index of a row.
 fn in_row<I: ColumnIndex<AnyRow> + Drop>(
     alloc: Global,

@@ -3,8 +3,8 @@ ghost use Rattle.std.specs.Prelude.{◌≡◌, Bool, IfOk};
 
 use crate::calls::{numbers, ran, ran_read};
 use crate::says::says;
-use sqlx_query::{PushTuple, QueryBuilder, Separated, placeholders_are_arguments};
-use sqlx_text::{Error, Fault, OutOfMemory};
+use sqlx_query::{QueryBuilder, placeholders_are_arguments};
+use sqlx_text::{Error, OutOfMemory};
 use std::alloc::Global;
 use std::test::*;
 use tests_database::Toy;
@@ -77,55 +77,6 @@ fn pushes_pieces(rt: HostRuntime) -> Result<(), Fail> {
     )
 }
 
-// Binds both numbers of each pair.
-#[derive(Drop)]
-struct Pairs;
-
-impl PushTuple<Toy, (i64, i64)> for Pairs {
-    ghost use Rattle.std.specs.Prelude.{⊤};
-    ghost use Rattle.sqlx_traits.specs.Arguments.{IsWantOfMemory};
-
-    ghost writes = { λ _ _ _ _. ⊤ };
-
-    ghost refuses = { λ _ _. IsWantOfMemory };
-
-    fn push_tuple(
-        &mut self,
-        alloc: Global,
-        row: &mut Separated<'_, Toy>,
-        tuple: (i64, i64),
-    ) -> Result<(), Fault> {
-        row.push_bind(alloc, tuple.0)?;
-        row.push_bind(alloc, tuple.1)?;
-        Ok(())
-    }
-}
-
-// Binds the first number of each pair, and then a value that can't be bound.
-#[derive(Drop)]
-struct HalfPairs;
-
-impl PushTuple<Toy, (i64, i64)> for HalfPairs {
-    ghost use Rattle.std.specs.Prelude.{◌≡◌, ◌⊎◌, ⊤};
-    ghost use Rattle.sqlx_text.specs.declared.fault.Fault.TheVariants.{OutOfRange};
-    ghost use Rattle.sqlx_traits.specs.Arguments.{IsWantOfMemory};
-
-    ghost writes = { λ _ _ _ _. ⊤ };
-
-    ghost refuses = { λ _ _ fault. (fault ≡ OutOfRange) ⊎ IsWantOfMemory fault };
-
-    fn push_tuple(
-        &mut self,
-        alloc: Global,
-        row: &mut Separated<'_, Toy>,
-        tuple: (i64, i64),
-    ) -> Result<(), Fault> {
-        row.push_bind(alloc, tuple.0)?;
-        row.push_bind(alloc, true)?;
-        Ok(())
-    }
-}
-
 // So many of two pairs.
 fn two_pairs(alloc: Global, count: usize) -> Result<Vec<(i64, i64)>, OutOfMemory> {
     let mut pairs = vec![in alloc; (1, 2), (3, 4)]?;
@@ -133,17 +84,29 @@ fn two_pairs(alloc: Global, count: usize) -> Result<Vec<(i64, i64)>, OutOfMemory
     Ok(pairs)
 }
 
+#[tactic(auto, using(sqlx_query::proofs::RowLemmas::appends_then))]
 fn values(alloc: Global, count: usize) -> Result<String, Error> {
     let pairs = two_pairs(alloc, count)?;
     let mut builder = started(alloc, "INSERT $1 ")?;
-    builder.push_values(alloc, pairs.into_iter(), Pairs)?;
+    builder.push_values(alloc, pairs.into_iter(), |row, pair| {
+        row.push_bind(alloc, pair.0)?;
+        row.push_bind(alloc, pair.1)?;
+        Ok(())
+    })?;
     run(alloc, &mut builder)
 }
 
+#[tactic(auto, using(sqlx_query::proofs::RowLemmas::appends_then))]
 fn tuples(alloc: Global, count: usize) -> Result<String, Error> {
     let pairs = two_pairs(alloc, count)?;
     let mut builder = started(alloc, "SELECT $1 IN")?;
-    builder.push_tuples(alloc, pairs.into_iter(), Pairs)?;
+    builder.push_tuples(alloc, pairs.into_iter(), |row, pair| {
+        row.push(alloc, "-")?;
+        row.push_bind_unseparated(alloc, pair.0)?;
+        row.push_unseparated(alloc, "%")?;
+        row.push_bind(alloc, pair.1)?;
+        Ok(())
+    })?;
     run(alloc, &mut builder)
 }
 
@@ -163,7 +126,7 @@ fn pushes_tuples(rt: HostRuntime) -> Result<(), Fail> {
     says(
         &rt,
         tuples(alloc, 2),
-        "SELECT $1 IN (($2, $3), ($4, $5))  kept|9|1|2|3|4: ToyQueryResult(2)",
+        "SELECT $1 IN ((-$2%, $3), (-$4%, $5))  kept|9|1|2|3|4: ToyQueryResult(2)",
     )?;
     says(
         &rt,
@@ -179,24 +142,30 @@ fn refused_value(alloc: Global) -> Result<String, Error> {
     Ok(format!(in alloc; "{answer}; {asked}")?)
 }
 
+#[tactic(auto, using(sqlx_query::proofs::RowLemmas::appends_then))]
 fn refused_values(alloc: Global) -> Result<String, Error> {
     let pairs = two_pairs(alloc, 2)?;
     let mut builder = started(alloc, "SELECT $1")?;
-    let answer = taken(
-        alloc,
-        builder.try_push_values(alloc, pairs.into_iter(), HalfPairs),
-    )?;
+    let pushed = builder.try_push_values(alloc, pairs.into_iter(), |row, pair| {
+        row.push_bind(alloc, pair.0)?;
+        row.push_bind(alloc, true)?;
+        Ok(())
+    });
+    let answer = taken(alloc, pushed)?;
     let asked = run(alloc, &mut builder)?;
     Ok(format!(in alloc; "{answer}; {asked}")?)
 }
 
+#[tactic(auto, using(sqlx_query::proofs::RowLemmas::appends_then))]
 fn refused_tuples(alloc: Global) -> Result<String, Error> {
     let pairs = two_pairs(alloc, 2)?;
     let mut builder = started(alloc, "SELECT $1")?;
-    let answer = taken(
-        alloc,
-        builder.try_push_tuples(alloc, pairs.into_iter(), HalfPairs),
-    )?;
+    let pushed = builder.try_push_tuples(alloc, pairs.into_iter(), |row, pair| {
+        row.push_bind(alloc, pair.0)?;
+        row.push_bind(alloc, true)?;
+        Ok(())
+    });
+    let answer = taken(alloc, pushed)?;
     let asked = run(alloc, &mut builder)?;
     Ok(format!(in alloc; "{answer}; {asked}")?)
 }

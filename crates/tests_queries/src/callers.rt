@@ -7,7 +7,7 @@ ghost use Rattle.sqlx_traits.specs.StepList.{Ran, first_of, one_or, rows_of};
 use crate::calls::asked;
 use crate::says::says;
 use sqlx_query::{QueryBuilder, query};
-use sqlx_text::{Error, Fault};
+use sqlx_text::{Error, Fault, OutOfMemory};
 use sqlx_traits::{
     ArgumentList, Arguments, Database, Encode, Executor, HasStatementCache, IntoArguments, SqlType,
 };
@@ -51,6 +51,27 @@ pub fn of_day<'t, DB: Database, T: Encode<'t, DB> + SqlType<DB> + Drop>(
     Ok(())
 }
 
+/// Adds notes, each a tuple of a day and a text.
+#[tactic(auto, using(sqlx_query::proofs::RowLemmas::appends_then))]
+pub fn with_notes<'t, DB, D>(
+    alloc: Global,
+    insert: &mut QueryBuilder<DB>,
+    notes: Vec<(D, &'t str)>,
+) -> Result<(), Fault>
+where
+    DB: Database,
+    D: Encode<'t, DB> + SqlType<DB> + Drop,
+    &'t str: Encode<'t, DB> + SqlType<DB>,
+    requires { insert.old.built ≡ Bool.false }
+    ensures open { OnOk result (insert.new.built ≡ Bool.false) }
+{
+    insert.push_values(alloc, notes.into_iter(), |row, note| {
+        row.push_bind(alloc, note.0)?;
+        row.push_bind(alloc, note.1)
+    })?;
+    Ok(())
+}
+
 fn article(alloc: Global) -> Result<String, Error> {
     let mut conn = ToyConnection::new(alloc, "t")?;
     let row = first_article::<Toy, ToyConnection, &str>(alloc, &mut conn, "x");
@@ -64,6 +85,17 @@ fn notes(alloc: Global) -> Result<String, Error> {
     Ok(notes.into_string())
 }
 
+fn two_notes(alloc: Global) -> Result<Vec<(i64, &'static str)>, OutOfMemory> {
+    Ok(vec![in alloc; (1, "x"), (2, "y")]?)
+}
+
+fn inserted(alloc: Global) -> Result<String, Error> {
+    let mut insert: QueryBuilder<Toy> = QueryBuilder::new(alloc, "INSERT ".to_string(alloc)?);
+    let notes = two_notes(alloc)?;
+    with_notes::<Toy, i64>(alloc, &mut insert, notes)?;
+    Ok(insert.into_string())
+}
+
 #[test]
 fn callers_run(rt: HostRuntime) -> Result<(), Fail> {
     let alloc = rt.alloc();
@@ -72,5 +104,6 @@ fn callers_run(rt: HostRuntime) -> Result<(), Fail> {
         article(alloc),
         "SELECT title FROM articles WHERE author = ?|x: text",
     )?;
-    says(&rt, notes(alloc), "SELECT WHERE day = $1 LIMIT 1")
+    says(&rt, notes(alloc), "SELECT WHERE day = $1 LIMIT 1")?;
+    says(&rt, inserted(alloc), "INSERT VALUES ($1, $2), ($3, $4)")
 }

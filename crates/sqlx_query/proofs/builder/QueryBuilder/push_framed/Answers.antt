@@ -1,5 +1,5 @@
 use Rattle.sqlx_query.proofs.DraftLemmas.{text_back, text_longer}
-use Rattle.sqlx_query.proofs.builder.QueryBuilder.try_push_tuples.Goals as goal
+use Rattle.sqlx_query.proofs.builder.QueryBuilder.push_framed.Goals as goal
 
 pub cut_back-requires-clause-initial : goal.cut_back-requires-clause-initial
 cut_back-requires-clause-initial g c =
