@@ -1,10 +1,12 @@
 //! Statements that are built piece by piece, with the numbered placeholders of the toy database, and what is asked of them.
-ghost use Rattle.std.specs.Prelude.{◌≡◌, Bool, IfOk};
+ghost use Rattle.std.specs.Prelude.{◌≡◌, Bool, IfOk, length, take};
+ghost use Rattle.sqlx_query.specs.Builder.{Appends};
+ghost use Rattle.sqlx_query.specs.Tuples.{behind};
 
 use crate::calls::{numbers, ran, ran_read};
 use crate::says::says;
 use sqlx_query::{QueryBuilder, placeholders_are_arguments};
-use sqlx_text::{Error, OutOfMemory};
+use sqlx_text::{Error, Fault, OutOfMemory};
 use std::alloc::Global;
 use std::test::*;
 use tests_database::Toy;
@@ -88,11 +90,17 @@ fn two_pairs(alloc: Global, count: usize) -> Result<Vec<(i64, i64)>, OutOfMemory
 fn values(alloc: Global, count: usize) -> Result<String, Error> {
     let pairs = two_pairs(alloc, count)?;
     let mut builder = started(alloc, "INSERT $1 ")?;
-    builder.push_values(alloc, pairs.into_iter(), |row, pair| {
-        row.push_bind(alloc, pair.0)?;
-        row.push_bind(alloc, pair.1)?;
-        Ok(())
-    })?;
+    builder.push_values(
+        alloc,
+        pairs.into_iter(),
+        |row, pair| -> Result<(), Fault>
+            ensures { Appends length take (behind (λ args. args.list) row.old.parts) (behind (λ args. args.list) row.new.parts) }
+        {
+            row.push_bind(alloc, pair.0)?;
+            row.push_bind(alloc, pair.1)?;
+            Ok(())
+        },
+    )?;
     run(alloc, &mut builder)
 }
 
@@ -100,13 +108,19 @@ fn values(alloc: Global, count: usize) -> Result<String, Error> {
 fn tuples(alloc: Global, count: usize) -> Result<String, Error> {
     let pairs = two_pairs(alloc, count)?;
     let mut builder = started(alloc, "SELECT $1 IN")?;
-    builder.push_tuples(alloc, pairs.into_iter(), |row, pair| {
-        row.push(alloc, "-")?;
-        row.push_bind_unseparated(alloc, pair.0)?;
-        row.push_unseparated(alloc, "%")?;
-        row.push_bind(alloc, pair.1)?;
-        Ok(())
-    })?;
+    builder.push_tuples(
+        alloc,
+        pairs.into_iter(),
+        |row, pair| -> Result<(), Fault>
+            ensures { Appends length take (behind (λ args. args.list) row.old.parts) (behind (λ args. args.list) row.new.parts) }
+        {
+            row.push(alloc, "-")?;
+            row.push_bind_unseparated(alloc, pair.0)?;
+            row.push_unseparated(alloc, "%")?;
+            row.push_bind(alloc, pair.1)?;
+            Ok(())
+        },
+    )?;
     run(alloc, &mut builder)
 }
 
@@ -146,11 +160,17 @@ fn refused_value(alloc: Global) -> Result<String, Error> {
 fn refused_values(alloc: Global) -> Result<String, Error> {
     let pairs = two_pairs(alloc, 2)?;
     let mut builder = started(alloc, "SELECT $1")?;
-    let pushed = builder.try_push_values(alloc, pairs.into_iter(), |row, pair| {
-        row.push_bind(alloc, pair.0)?;
-        row.push_bind(alloc, true)?;
-        Ok(())
-    });
+    let pushed = builder.try_push_values(
+        alloc,
+        pairs.into_iter(),
+        |row, pair| -> Result<(), Fault>
+            ensures { Appends length take (behind (λ args. args.list) row.old.parts) (behind (λ args. args.list) row.new.parts) }
+        {
+            row.push_bind(alloc, pair.0)?;
+            row.push_bind(alloc, true)?;
+            Ok(())
+        },
+    );
     let answer = taken(alloc, pushed)?;
     let asked = run(alloc, &mut builder)?;
     Ok(format!(in alloc; "{answer}; {asked}")?)
@@ -160,11 +180,17 @@ fn refused_values(alloc: Global) -> Result<String, Error> {
 fn refused_tuples(alloc: Global) -> Result<String, Error> {
     let pairs = two_pairs(alloc, 2)?;
     let mut builder = started(alloc, "SELECT $1")?;
-    let pushed = builder.try_push_tuples(alloc, pairs.into_iter(), |row, pair| {
-        row.push_bind(alloc, pair.0)?;
-        row.push_bind(alloc, true)?;
-        Ok(())
-    });
+    let pushed = builder.try_push_tuples(
+        alloc,
+        pairs.into_iter(),
+        |row, pair| -> Result<(), Fault>
+            ensures { Appends length take (behind (λ args. args.list) row.old.parts) (behind (λ args. args.list) row.new.parts) }
+        {
+            row.push_bind(alloc, pair.0)?;
+            row.push_bind(alloc, true)?;
+            Ok(())
+        },
+    );
     let answer = taken(alloc, pushed)?;
     let asked = run(alloc, &mut builder)?;
     Ok(format!(in alloc; "{answer}; {asked}")?)

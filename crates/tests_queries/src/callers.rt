@@ -1,6 +1,8 @@
 //! Callers as a user writes them, with their contracts; each is called once.
 ghost use Rattle.std.specs.Prelude.{◌≡◌, ◌⊎◌, Bool, IfErr, OnOk, codes, false};
+ghost use Rattle.sqlx_query.specs.Builder.{Appends};
 ghost use Rattle.sqlx_query.specs.Query.{Asked, handed_over};
+ghost use Rattle.sqlx_query.specs.Tuples.{behind};
 ghost use Rattle.sqlx_text.specs.declared.error.Error.{Error};
 ghost use Rattle.sqlx_traits.specs.StepList.{Ran, first_of, one_or, rows_of};
 
@@ -65,10 +67,17 @@ where
     requires { insert.old.built ≡ Bool.false }
     ensures open { OnOk result (insert.new.built ≡ Bool.false) }
 {
-    insert.push_values(alloc, notes.into_iter(), |row, note| {
-        row.push_bind(alloc, note.0)?;
-        row.push_bind(alloc, note.1)
-    })?;
+    insert.push_values(
+        alloc,
+        notes.into_iter(),
+        |row, note| -> Result<(), Fault>
+            ensures { Appends DB.ArgumentBuffer.count DB.ArgumentBuffer.first
+                (behind DB.Arguments.buffered row.old.parts) (behind DB.Arguments.buffered row.new.parts) }
+        {
+            row.push_bind(alloc, note.0)?;
+            row.push_bind(alloc, note.1)
+        },
+    )?;
     Ok(())
 }
 
