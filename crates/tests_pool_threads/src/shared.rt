@@ -9,7 +9,7 @@ use sqlx_any::{Any, AnyConnectOptions, AnyConnection, AnyConnectionBackend, Conn
 use sqlx_pool::*;
 use sqlx_query::{query, query_scalar};
 use sqlx_text::{Error, Moment};
-use sqlx_tx::{Borrowed, Hold, Transaction, calls};
+use sqlx_tx::Hold;
 use std::alloc::Global;
 use std::marker::Brand;
 use std::process::Abort;
@@ -125,58 +125,7 @@ fn lent_for<H: Ledger, L: Loans, R: Wait + Copy + Drop>(
     }
 }
 
-// Writes a key in a level, and commits it or rolls it back; what holds the connection comes back.
-fn ended<B: AnyConnectionBackend, P: Hold<Any<B>>>(
-    alloc: Global,
-    level: Transaction<Any<B>, P>,
-    keeps: bool,
-) -> (P, Result<(), Error>)
-    requires { 0 < B.levels (P.held level).backend }
-{
-    let mut level = level;
-    let written = puts(alloc, level.as_mut(), 2, 7);
-    if !calls::is_in_transaction::<Any<B>>(level.as_ref()) {
-        drop(written);
-        return (level.into_holder(), Err(Error::BeginFailed));
-    }
-    match written {
-        Ok(_) if keeps => level.commit(alloc),
-        Ok(_) => level.rollback(alloc),
-        Err(error) => (level.give_up(), Err(error)),
-    }
-}
-
-// Begins on an idle connection, writes a key, and commits or rolls back; the connection goes back.
-fn in_a_level<H: Ledger, L: Loans, R: Wait + Copy + Drop>(
-    rt: &R,
-    alloc: Global,
-    pool: &Connections<R, H, L>,
-    keeps: bool,
-    out: &mut Store<'_, R>,
-    tally: &mut Tally<L>,
-) -> Result<bool, Error>
-    requires { 0 < tally.old.parts }
-    ensures { tally.new.parts ≡ tally.old.parts }
-{
-    match PoolBegin::<SharedMem<R>, H, L>::try_begin(pool, rt, alloc, Moment(0), 1, tally) {
-        Ok(Some(level)) => {
-            let (conn, done) = ended(alloc, level, keeps);
-            conn.return_to_pool::<R, Store<'_, R>>(rt, alloc, Moment(0), out);
-            done?;
-            Ok(true)
-        }
-        Ok(None) => Ok(false),
-        Err(refused) => {
-            let BeginRefusedOf { error, connection } = refused;
-            if let Some(conn) = connection {
-                conn.return_to_pool::<R, Store<'_, R>>(rt, alloc, Moment(0), out);
-            }
-            Err(error)
-        }
-    }
-}
-
-// A key is written by one loan and read by the next; a level on an idle connection is rolled back, then committed.
+// A key is written by one loan and read by the next; one that nobody wrote isn't there.
 fn queries<H: Ledger, L: Loans, R: Wait + Abort + Copy + Drop>(
     rt: &R,
     alloc: Global,
@@ -192,81 +141,8 @@ fn queries<H: Ledger, L: Loans, R: Wait + Abort + Copy + Drop>(
         lent_for(rt, alloc, pool, Work::Get(1), out, tally)?,
         Some(5)
     );
-    assert!(rt;
-        in_a_level(rt, alloc, pool, false, out, tally)?,
-        "one is idle"
-    );
     assert_eq!(rt; lent_for(rt, alloc, pool, Work::Get(2), out, tally)?, None);
-    assert!(rt;
-        in_a_level(rt, alloc, pool, true, out, tally)?,
-        "one is idle"
-    );
-    assert_eq!(rt;
-        lent_for(rt, alloc, pool, Work::Get(2), out, tally)?,
-        Some(7)
-    );
     Ok(())
-}
-
-// Begins on what is acquired, and gives the level up: whether it began.
-fn begins_on<'c, B: AnyConnectionBackend, A: Acquire<Any<B>, Holder = Borrowed<'c, Any<B>>>>(
-    alloc: Global,
-    from: A,
-) -> bool
-where
-    AnyConnection<B>: 'c,
-{
-    match from.begin(alloc) {
-        Ok(level) => {
-            let Borrowed(_conn) = level.give_up();
-            true
-        }
-        Err((error, holder)) => {
-            drop(error);
-            if let Some(Borrowed(_conn)) = holder {}
-            false
-        }
-    }
-}
-
-// A connection that was lent begins levels: borrowed by itself, and as one that may be a pool's. It comes back.
-fn levels_of<H: Ledger, L: Loans, R: Wait + Copy + Drop>(
-    alloc: Global,
-    conn: PoolConnection<SharedMem<R>, H, L>,
-) -> (Option<PoolConnection<SharedMem<R>, H, L>>, bool) {
-    let mut conn = conn;
-    let begun = begins_on::<SharedMemConnection<R>, _>(alloc, &mut conn);
-    let mut maybe: MaybePoolConnection<'_, SharedMem<R>, H, L> =
-        MaybePoolConnectionOf::PoolConnection(conn);
-    let borrowed = Borrowed(Hold::<SharedMem<R>>::conn_mut(&mut maybe));
-    let again = begins_on::<SharedMemConnection<R>, _>(alloc, borrowed);
-    match maybe {
-        MaybePoolConnectionOf::PoolConnection(conn) => (Some(conn), begun && again),
-        MaybePoolConnectionOf::Connection(_) => (None, false),
-    }
-}
-
-// Levels on an idle connection, which goes back: whether they were begun.
-fn levels<H: Ledger, L: Loans, R: Wait + Copy + Drop>(
-    rt: &R,
-    alloc: Global,
-    pool: &Connections<R, H, L>,
-    out: &mut Store<'_, R>,
-    tally: &mut Tally<L>,
-) -> Result<bool, Error>
-    requires { 0 < tally.old.parts }
-    ensures { tally.new.parts ≡ tally.old.parts }
-{
-    match pool.try_acquire(rt, alloc, Moment(0), 1, tally)? {
-        Some(conn) => {
-            let (back, begun) = levels_of(alloc, conn);
-            if let Some(conn) = back {
-                conn.return_to_pool::<R, Store<'_, R>>(rt, alloc, Moment(0), out);
-            }
-            Ok(begun)
-        }
-        None => Ok(false),
-    }
 }
 
 // A pool over a new store, by the options of a URL.
@@ -287,12 +163,8 @@ fn pool_of_a_store<H: Ledger, L: Loans, R: Wait + Abort + Copy + Drop>(
     assert_eq!(rt; pool.size(&rt), 0);
     queries(&rt, alloc, &pool, &mut out, &mut tally)?;
     assert!(rt;
-        levels(&rt, alloc, &pool, &mut out, &mut tally)?,
-        "levels on what is lent"
-    );
-    assert!(rt;
-        pool.num_idle(&rt) == 1 && tally.loans() == 7,
-        "one connection, seven loans"
+        pool.num_idle(&rt) == 1 && tally.loans() == 3,
+        "one connection, three loans"
     );
     Ok(())
 }
