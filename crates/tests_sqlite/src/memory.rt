@@ -62,7 +62,10 @@ fn a_level_that_is_given_up(rt: HostRuntime) -> Result<(), Fail> {
     begin_twice(rt.alloc(), &mut conn)?;
     conn.ping()?;
     assert_eq!(rt; gets(rt.alloc(), &mut conn, 1)?, Some(5));
-    assert_eq!(rt; AnyTransactionManager::<Backend>::get_transaction_depth(&conn), 1);
+    assert_eq!(rt;
+        AnyTransactionManager::<Backend>::get_transaction_depth(&conn),
+        1
+    );
     AnyTransactionManager::<Backend>::rollback(rt.alloc(), &mut conn)?;
     assert_eq!(rt; gets(rt.alloc(), &mut conn, 1)?, None);
     Ok(())
