@@ -1,6 +1,5 @@
 //! Which Rust types read a value of `Any` of each kind, and what they read.
 
-use crate::present::Present;
 use crate::says::says;
 use sqlx_any::*;
 use sqlx_text::{Error, OutOfMemory};
@@ -197,39 +196,4 @@ fn finds_columns(rt: HostRuntime) -> Result<(), Fail> {
         at::<&str>(alloc, &row, "z"),
         "no column found for name: z",
     )
-}
-
-// A value at a position by each call that needs to know that it can be read; `None` where there is none.
-fn known(alloc: Global, row: &AnyRow, at: usize) -> Result<Option<[Present; 4]>, OutOfMemory> {
-    match row.try_get_raw(alloc, at) {
-        Ok(value) => {
-            let first = row.get::<Present, usize>(alloc, at)?;
-            let second = row.get_unchecked::<Present, usize>(alloc, at)?;
-            let third = value.decode::<Present>(alloc)?;
-            let fourth = value.decode_unchecked::<Present>(alloc)?;
-            Ok(Some([first, second, third, fourth]))
-        }
-        Err(error) => {
-            drop(error);
-            Ok(None)
-        }
-    }
-}
-
-// A truth value, which is known to be read as one.
-fn flag(alloc: Global) -> Result<bool, OutOfMemory> {
-    let value = AnyValue {
-        kind: AnyValueKind::Bool(true),
-    };
-    value.decode::<bool>(alloc)
-}
-
-#[test]
-fn reads_what_is_known_to_be_there(rt: HostRuntime) -> Result<(), Fail> {
-    let alloc = rt.alloc();
-    let row = cells::pair(alloc)?;
-    let there = (known(alloc, &row, 1)?, known(alloc, &row, 2)?);
-    assert_eq!(rt; there, (Some([Present; 4]), None));
-    assert_eq!(rt; flag(alloc)?, true);
-    Ok(())
 }
