@@ -10,6 +10,7 @@ use Rattle.sqlx_script.specs.declared.reply.Reply.TheVariants as reply
 use Rattle.mem_store.specs.Store.{Link}
 use Rattle.sqlx_play.specs.ScriptOutside.{refused_by}
 
+-- the reply to a connect that was refused for good; none where memory was wanting
 abbrev pub refusal_reply : Option ConnectAnswer → Option Reply
 refusal_reply (Some ConnectIo) = Some reply.Io
 refusal_reply (Some ConnectDatabase) = Some reply.DatabaseRefused
@@ -26,6 +27,7 @@ reply_of (polled.Backoff until) = Some (reply.Backoff until)
 reply_of (polled.Ready lent) = Some (reply.Ready lent.id)
 reply_of (polled.Refused error) = refusal_reply (refused_by error)
 
+-- the connections that clients own after a poll: the one that is lent stands last
 abbrev pub owned_after : Polled Link → List (Lent Link) → List (Lent Link)
 owned_after (polled.Ready lent) owned = owned ++ lent ∷ []
 owned_after other owned = owned
