@@ -11,7 +11,7 @@ use Rattle.sqlx_pool_core.specs.declared.steps.Idle.{Idle}
 use Rattle.sqlx_log.specs.Marks.{tickets_of, idle_of}
 use Rattle.sqlx_log.specs.Counts.{asked_in}
 use Rattle.sqlx_pool_core.specs.Core.{Core, resting, asking, ticket_of, waiting, free}
-use Rattle.sqlx_pool_core.specs.Edits.{at_moment, ended, lent_to, took}
+use Rattle.sqlx_pool_core.specs.Edits.{at_moment, core_without_ticket, lent_to, core_without_first}
 use Rattle.sqlx_log.specs.EventTable.{may_pass}
 use Rattle.sqlx_pool_core.specs.PollSteps.{phase_for, may_cancel, try_lent}
 use Rattle.sqlx_pool_core.specs.Makes.{Makes}
@@ -58,7 +58,7 @@ module _ (stage : Stage) (pairs : Pairs) (pair : Event × Reply) (s : StageStand
       }))
 
   -- a ticket ends
-  pub ends-standing : (core : Core Link) (t last : ℕ) → core ≡ at_moment last (ended t stage.core) → added stage.pool (marks_of stage.pool pairs) pair ≡ mark.Ended t ∷ []
+  pub ends-standing : (core : Core Link) (t last : ℕ) → core ≡ at_moment last (core_without_ticket t stage.core) → added stage.pool (marks_of stage.pool pairs) pair ≡ mark.Ended t ∷ []
       → Makes stage.core.options.max_connections (marks_of stage.pool pairs) (mark.Ended t ∷ []) core → StageStands (record stage { core = core }) (pairs ++ pair ∷ [])
   ends-standing core t last becomes is makes =
       stage-after stage (record stage { core = core }) pairs pair s (record {
@@ -92,7 +92,7 @@ cancel-reply stage pairs k t b s is =
     by (Some x) found = ap (λ (b : Bool). cond b reply.Cancelled reply.NotHeld) (cancel_at pairs x x.phase (tried-of k t pairs stage.core.tickets x s.tried found))
 
 -- the stage after a cancel
-pub cancelled-stands : (stage : Stage) (core : Core Link) (pairs : Pairs) (moment : Moment) (k t : ℕ) → StageStands stage pairs → core ≡ ended t stage.core
+pub cancelled-stands : (stage : Stage) (core : Core Link) (pairs : Pairs) (moment : Moment) (k t : ℕ) → StageStands stage pairs → core ≡ core_without_ticket t stage.core
     → Makes stage.core.options.max_connections (marks_of stage.pool pairs) (mark.Ended t ∷ []) core
     → StageStands (record stage { core = core }) (pairs ++ (record { moment = moment; step = Cancel k t }, reply.Cancelled) ∷ [])
 cancelled-stands stage core pairs moment k t s becomes makes =
@@ -152,7 +152,7 @@ unlent-stands stage core pairs moment k s becomes =
     stays-standing stage pairs pair s (λ u. tries_of-push u pairs pair) refl core becomes refl
 
 pub lent-stands : (stage new : Stage) (pairs : Pairs) (moment : Moment) (k last : ℕ) (lent : Lent Link) → StageStands stage pairs → FirstIdle stage.core lent
-    → new.core ≡ at_moment last (lent_to k lent.id lent.created (took stage.core)) → new.out.store ≡ stage.out.store → new.lent.items ≡ stage.lent.items ++ lent ∷ [] → new.pool ≡ stage.pool
+    → new.core ≡ at_moment last (lent_to k lent.id lent.created (core_without_first stage.core)) → new.out.store ≡ stage.out.store → new.lent.items ≡ stage.lent.items ++ lent ∷ [] → new.pool ≡ stage.pool
     → Makes stage.core.options.max_connections (marks_of stage.pool pairs) (mark.Taken lent.id ∷ mark.Lent k lent.id ∷ []) new.core
     → StageStands new (pairs ++ (record { moment = moment; step = Try k }, reply.Ready lent.id) ∷ [])
 lent-stands stage new pairs moment k last lent s first becomes store owned pool makes =
@@ -164,8 +164,8 @@ lent-stands stage new pairs moment k last lent s first becomes store owned pool 
       tried = subst (λ (c : Core Link). All (IsTried (pairs ++ pair ∷ [])) c.tickets) (sym becomes) (tried-same pairs pair stage.core.tickets (λ u. tries_of-push u pairs pair) s.tried);
       untried = λ u h. tries_of-push u pairs pair ∙ s.untried u (subst (λ (n : ℕ). n ≤ u) (ap (λ (c : Core Link). c.next_ticket) becomes) h);
       links = links-as core new.core stage.out.store new.out.store (stage.lent.items ++ lent ∷ []) new.lent.items (history_of stage.pool pairs) becomes store owned
-          (subst (λ (l : Lent Link). LinksStand (at_moment last (lent_to k l.id l.created (took stage.core))) stage.out.store (stage.lent.items ++ l ∷ []) (history_of stage.pool pairs)) (sym first.is)
-          (links-same _ (at_moment last (lent_to k first.i.lent.id first.i.lent.created (took stage.core))) stage.out.store _ (history_of stage.pool pairs)
+          (subst (λ (l : Lent Link). LinksStand (at_moment last (lent_to k l.id l.created (core_without_first stage.core))) stage.out.store (stage.lent.items ++ l ∷ []) (history_of stage.pool pairs)) (sym first.is)
+          (links-same _ (at_moment last (lent_to k first.i.lent.id first.i.lent.created (core_without_first stage.core))) stage.out.store _ (history_of stage.pool pairs)
           (links-lent stage.core stage.out.store stage.lent.items (history_of stage.pool pairs) s.links first.i first.rest first.idle k first.i.lent.created) refl refl refl));
     })
   where
@@ -173,11 +173,11 @@ lent-stands stage new pairs moment k last lent s first becomes store owned pool 
     pair = (record { moment = moment; step = Try k }, reply.Ready lent.id)
 
     core : Core Link
-    core = at_moment last (lent_to k lent.id lent.created (took stage.core))
+    core = at_moment last (lent_to k lent.id lent.created (core_without_first stage.core))
 
 -- it stands whatever the reply is
 pub tried-stands : (stage new : Stage) (pairs : Pairs) (moment : Moment) (k last : ℕ) (lent : Lent Link) (r : Reply) → StageStands stage pairs → FirstIdle stage.core lent → r ≡ reply.Ready lent.id
-    → new.core ≡ at_moment last (lent_to k lent.id lent.created (took stage.core)) → new.out.store ≡ stage.out.store → new.lent.items ≡ stage.lent.items ++ lent ∷ [] → new.pool ≡ stage.pool
+    → new.core ≡ at_moment last (lent_to k lent.id lent.created (core_without_first stage.core)) → new.out.store ≡ stage.out.store → new.lent.items ≡ stage.lent.items ++ lent ∷ [] → new.pool ≡ stage.pool
     → Makes stage.core.options.max_connections (marks_of stage.pool pairs) (mark.Taken lent.id ∷ mark.Lent k lent.id ∷ []) new.core
     → StageStands new (pairs ++ (record { moment = moment; step = Try k }, r) ∷ [])
 tried-stands stage new pairs moment k last lent r s first is becomes store owned pool makes =

@@ -3,12 +3,12 @@ use Rattle.std.proofs.Common.{◌≡◌, ℕ, ◌+◌, ◌≤◌, ◌==◌, Bool
 use Rattle.sqlx_text.specs.declared.moment.Moment.{Moment}
 use Rattle.sqlx_log.specs.declared.mark.Mark.{Mark}
 use Rattle.sqlx_log.specs.declared.mark.Mark.TheVariants as mark
-use Rattle.sqlx_pool_core.specs.declared.ticket.Held.{Held}
+use Rattle.sqlx_pool_core.specs.declared.ticket.OwnedConn.{OwnedConn}
 use Rattle.sqlx_pool_core.specs.declared.steps.Idle.{Idle}
 use Rattle.sqlx_pool_core.specs.declared.steps.Lent.{Lent}
 use Rattle.sqlx_pool_core.specs.Core.{Core, resting}
 use Rattle.sqlx_pool_core.specs.Edits.{without_idle}
-use Rattle.sqlx_pool_core.specs.KeepingSteps.{close_marks, close_answer, closed_from, closed_idle}
+use Rattle.sqlx_pool_core.specs.MaintenanceSteps.{close_marks, close_answer, closed_from, closed_idle}
 use Rattle.sqlx_pool_core.specs.Makes.{Makes}
 use Rattle.sqlx_log.specs.Marks.{idle_of, is_open}
 use Rattle.sqlx_pool_core.specs.Sound.{IsSound, rests, holds}
@@ -35,7 +35,7 @@ use Rattle.sqlx_rules.specs.Pairs.{Pairs}
 -- ---- the links
 
 -- each connection is owned or rests, and that once
-abbrev IsApart : List Held → List (Idle Link) → Type 0
+abbrev IsApart : List OwnedConn → List (Idle Link) → Type 0
 IsApart held idle = (c : ℕ) → count_by (holds c) held + count_by (rests c) idle ≤ 1
 
 links-all_unrest : (core : Core Link) (store : Store) (lent : List (Lent Link)) (past : History) (idle : List (Idle Link)) → LinksStand core store lent past → core.idle ≡ idle → IsApart core.held idle

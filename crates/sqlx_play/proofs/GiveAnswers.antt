@@ -3,7 +3,7 @@ use Rattle.std.proofs.Common.{◌≡◌, ℕ, ◌==◌, ◌&&◌, ◌||◌, Bool
 use Rattle.std.proofs.lemmas.Bool.{eqb-true, and_parts}
 use Rattle.sqlx_log.specs.declared.mark.Mark.{Mark}
 use Rattle.sqlx_pool_core.specs.declared.options.PoolOptions.{PoolOptions}
-use Rattle.sqlx_pool_core.specs.declared.ticket.Held.{Held}
+use Rattle.sqlx_pool_core.specs.declared.ticket.OwnedConn.{OwnedConn}
 use Rattle.sqlx_pool_core.specs.declared.steps.Lent.{Lent}
 use Rattle.sqlx_pool_core.specs.declared.steps.Given.{Given}
 use Rattle.sqlx_pool_core.specs.declared.steps.Given.TheVariants as given
@@ -40,8 +40,8 @@ use Rattle.sqlx_play.proofs.Owners.{owner-stands, none_held}
 -- ---- what the core's word says
 
 -- the loan of a connection that came back, and whether it may rest
-pub record Loaned (o : Option Held) (options : PoolOptions) (shut : Bool) (m : ℕ) (accepted rests : Bool) : Type 0 where
-  pub loan : Held
+pub record Loaned (o : Option OwnedConn) (options : PoolOptions) (shut : Bool) (m : ℕ) (accepted rests : Bool) : Type 0 where
+  pub loan : OwnedConn
   pub is : o ≡ Some loan
   pub told : (accepted && not (closes (limits_of options) shut loan.created.0 m)) ≡ rests
 
@@ -49,7 +49,7 @@ module _ (options : PoolOptions) (shut : Bool) (m : ℕ) (accepted : Bool) (lent
   answer_by : Bool → Given Link
   answer_by b = cond b given.Kept (given.Closed lent.raw)
 
-  pub told-kept : (o : Option Held) → given.Kept ≡ give_answer options shut m accepted o lent → Loaned o options shut m accepted true
+  pub told-kept : (o : Option OwnedConn) → given.Kept ≡ give_answer options shut m accepted o lent → Loaned o options shut m accepted true
   told-kept None e = absurd (cc)
   told-kept (Some h) e = record { loan = h; is = refl; told = by (accepted && not (closes (limits_of options) shut h.created.0 m)) e }
     where
@@ -57,7 +57,7 @@ module _ (options : PoolOptions) (shut : Bool) (m : ℕ) (accepted : Bool) (lent
       by true k = refl
       by false k = absurd (cc)
 
-  pub told-closed : (raw : Link) (o : Option Held) → given.Closed raw ≡ give_answer options shut m accepted o lent → Loaned o options shut m accepted false × (raw ≡ lent.raw)
+  pub told-closed : (raw : Link) (o : Option OwnedConn) → given.Closed raw ≡ give_answer options shut m accepted o lent → Loaned o options shut m accepted false × (raw ≡ lent.raw)
   told-closed raw None e = absurd (cc)
   told-closed raw (Some h) e = let parts = by (accepted && not (closes (limits_of options) shut h.created.0 m)) e in (record { loan = h; is = refl; told = parts.0 }, parts.1)
     where
@@ -65,7 +65,7 @@ module _ (options : PoolOptions) (shut : Bool) (m : ℕ) (accepted : Bool) (lent
       by true k = absurd (cc)
       by false k = (refl, cc)
 
-  pub told-not_held : (raw : Link) (o : Option Held) → given.NotHeld raw ≡ give_answer options shut m accepted o lent → (o ≡ None) × (raw ≡ lent.raw)
+  pub told-not_held : (raw : Link) (o : Option OwnedConn) → given.NotHeld raw ≡ give_answer options shut m accepted o lent → (o ≡ None) × (raw ≡ lent.raw)
   told-not_held raw None e = (refl, cc)
   told-not_held raw (Some h) e = absurd (by (accepted && not (closes (limits_of options) shut h.created.0 m)) e)
     where
@@ -97,18 +97,18 @@ module _ (pool : PoolLine) (core : Core Link) (marks : List Mark) (past : Histor
       ap (λ (k : bracket.Link). k.depth) linked ∙ (savepoints_read_alike past s.accepted).depths l.id ∙ ap (λ (n : ℕ). depth n past) (sym same)
 
   -- it is kept where the core keeps it
-  pub kept-told : (k m : ℕ) (answers : GiveAnswers) (h : Held) (l : Lent Link) → IsSetUp pool core.options → StandsFor core marks → loan_of k c core.held ≡ Some h
+  pub kept-told : (k m : ℕ) (answers : GiveAnswers) (h : OwnedConn) (l : Lent Link) → IsSetUp pool core.options → StandsFor core marks → loan_of k c core.held ≡ Some h
       → find (is_lent c) lents ≡ Some l → LinksStand core store lents past
       → is_kept pool answers marks past m c ≡ (lets_rest pool answers l.raw.depth && not (closes (limits_of core.options) core.shut h.created.0 m))
   kept-told k m answers h l set_up s loaned found links =
       let both = and_parts (c == h.conn) (k == h.client) (found_passes (is_held_by k c) core.held h loaned) in
       let mine : c ≡ h.conn = eqb-true c h.conn both.0 in
-      let born : opened_at c marks ≡ Some h.created.0 = ap (λ (n : ℕ). opened_at n marks) mine ∙ found_All (is_held_by k c) (λ (x : Held). IsBorn marks x.conn x.created.0) core.held h loaned s.held_born in
+      let born : opened_at c marks ≡ Some h.created.0 = ap (λ (n : ℕ). opened_at n marks) mine ∙ found_All (is_held_by k c) (λ (x : OwnedConn). IsBorn marks x.conn x.created.0) core.held h loaned s.held_born in
       let limits = limits-set_up pool core.options set_up in
       (λ i. not (sym s.shut i || is_old_since (limits i) (born i) m) && (not pool.after_release || accepts answers.after_release) && (sym (depth-told l found links) i == 0) && answers.ping)
       ∙ turned (closes (limits_of core.options) core.shut h.created.0 m) (not pool.after_release || accepts answers.after_release) (l.raw.depth == 0) answers.ping
 
-  pub word-told : (sound : IsSound core) (k m : ℕ) (answers : GiveAnswers) (h : Held) (l : Lent Link) (rests : Bool) → IsSetUp pool core.options → StandsFor core marks → loan_of k c core.held ≡ Some h
+  pub word-told : (sound : IsSound core) (k m : ℕ) (answers : GiveAnswers) (h : OwnedConn) (l : Lent Link) (rests : Bool) → IsSetUp pool core.options → StandsFor core marks → loan_of k c core.held ≡ Some h
       → find (is_lent c) lents ≡ Some l → LinksStand core store lents past → (lets_rest pool answers l.raw.depth && not (closes (limits_of core.options) core.shut h.created.0 m)) ≡ rests
       → cond rests word.Kept word.Closed ≡ returned pool answers m k c marks past
   word-told sound k m answers h l rests set_up s loaned found links told =

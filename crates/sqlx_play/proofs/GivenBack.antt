@@ -3,14 +3,14 @@ use Rattle.std.proofs.Common.{◌≡◌, ℕ, ◌+◌, ◌≤◌, ◌==◌, max,
 use Rattle.std.proofs.lemmas.Bool.{eqb-true, eqb-false, ne_eqb}
 use Rattle.sqlx_text.specs.declared.error.Error.{Error}
 use Rattle.sqlx_pool_core.specs.declared.outside.PoolConnectionMetadata.{PoolConnectionMetadata}
-use Rattle.sqlx_pool_core.specs.declared.probe.Check.{Check}
-use Rattle.sqlx_pool_core.specs.declared.probe.Check.TheVariants as check
+use Rattle.sqlx_pool_core.specs.declared.idle_check.Check.{Check}
+use Rattle.sqlx_pool_core.specs.declared.idle_check.Check.TheVariants as check
 use Rattle.sqlx_pool_core.specs.declared.steps.Given.{Given}
 use Rattle.sqlx_pool_core.specs.declared.steps.Given.TheVariants as given
 use Rattle.sqlx_pool_core.specs.declared.steps.Lent.{Lent}
 use Rattle.sqlx_pool_core.specs.declared.steps.Returned.{Returned}
 use Rattle.sqlx_pool_core.specs.declared.steps.Returned.TheVariants as word
-use Rattle.sqlx_pool_core.specs.declared.ticket.Held.{Held}
+use Rattle.sqlx_pool_core.specs.declared.ticket.OwnedConn.{OwnedConn}
 use Rattle.sqlx_pool_core.specs.Chain.{check_by}
 use Rattle.sqlx_pool_core.specs.Core.{Core, loan_of}
 use Rattle.sqlx_pool_core.specs.Giving.{is_pass, returned_by, back_meta, Releases, PingsIf, Returns, Ends, TestsIf, Gives, GivesBack}
@@ -18,7 +18,7 @@ use Rattle.sqlx_pool_core.specs.Limits.{limits_of}
 use Rattle.sqlx_pool_core.specs.Logs.{Logs}
 use Rattle.sqlx_pool_core.specs.Outside.{says_yes}
 use Rattle.sqlx_pool_core.specs.StandsFor.{StandsFor}
-use Rattle.sqlx_pool_core.specs.ReturnSteps.{give_answer, give_marks, gave}
+use Rattle.sqlx_pool_core.specs.ReturnSteps.{give_answer, give_marks, core_after_give}
 use Rattle.sqlx_pool_core.proofs.Fair.{makes-nothing}
 use Rattle.sqlx_log.specs.EventTable.{closes}
 use Rattle.sqlx_script.specs.declared.answers.GiveAnswers.{GiveAnswers}
@@ -131,7 +131,7 @@ pub record Came (k m : ℕ) (answers : GiveAnswers) (l : Lent Link) (core new : 
   pub made : Given Link
   pub answer : made ≡ give_answer core.options core.shut m (may_rest core.options.after_release answers l.raw.depth) (loan_of k l.id core.held) l
   pub word : result ≡ returned_by made
-  pub becomes : new ≡ gave (loan_of k l.id core.held) l m made core
+  pub becomes : new ≡ core_after_give (loan_of k l.id core.held) l m made core
   pub makes : Logs core (give_marks l.id m made) new
   pub store : out.store ≡ given_store made old.store
 
@@ -162,7 +162,7 @@ module _ (k m : ℕ) (answers : GiveAnswers) (l : Lent Link) (core new : Core Li
       let r = returned-so hook meta answers l.raw now c old between letters left t in
       (r.0, ap (λ (b : Bool). b && true) r.1)
 
-  owned : (h : Held) → loan_of k l.id core.held ≡ Some h → Gives {O = Unit {0}} Does depth_of h m l core new old out result → Came k m answers l core new old out result
+  owned : (h : OwnedConn) → loan_of k l.id core.held ≡ Some h → Gives {O = Unit {0}} Does depth_of h m l core new old out result → Came k m answers l core new old out result
   owned h is g =
       let t = tested-so (closes (limits_of core.options) core.shut h.created.0 m) core.options.after_release (back_meta m h.created.0) g.now g.check g.between g.tests in
       let same : record l { raw = g.now } ≡ l = ap (λ (raw : Link). record l { raw = raw }) t.0.link in
@@ -171,20 +171,20 @@ module _ (k m : ℕ) (answers : GiveAnswers) (l : Lent Link) (core new : Core Li
         answer = g.step
             ∙ ap (give_answer core.options core.shut m (is_pass g.check) (Some h)) same
             ∙ ap (λ (b : Bool). if b then given.Kept else given.Closed l.raw) t.1
-            ∙ ap (λ (o : Option Held). give_answer core.options core.shut m (may_rest core.options.after_release answers l.raw.depth) o l) (sym is);
+            ∙ ap (λ (o : Option OwnedConn). give_answer core.options core.shut m (may_rest core.options.after_release answers l.raw.depth) o l) (sym is);
         word = g.answer;
-        becomes = g.becomes ∙ (λ i. gave (sym is i) (same i) m g.after core);
+        becomes = g.becomes ∙ (λ i. core_after_give (sym is i) (same i) m g.after core);
         makes = g.makes;
         store = ends-so g.check g.after g.between out g.ends ∙ ap (given_store g.after) t.0.store;
       }
 
-  pub came : (o : Option Held) → loan_of k l.id core.held ≡ o → GivesBack {O = Unit {0}} Does depth_of o m l core new old out result → Came k m answers l core new old out result
+  pub came : (o : Option OwnedConn) → loan_of k l.id core.held ≡ o → GivesBack {O = Unit {0}} Does depth_of o m l core new old out result → Came k m answers l core new old out result
   came (Some h) is g = owned h is g
   came None is g = record {
     made = given.NotHeld l.raw;
-    answer = ap (λ (o : Option Held). give_answer core.options core.shut m (may_rest core.options.after_release answers l.raw.depth) o l) (sym is);
+    answer = ap (λ (o : Option OwnedConn). give_answer core.options core.shut m (may_rest core.options.after_release answers l.raw.depth) o l) (sym is);
     word = g.0;
-    becomes = g.1 ∙ ap (λ (o : Option Held). gave o l m (given.NotHeld l.raw) core) (sym is);
+    becomes = g.1 ∙ ap (λ (o : Option OwnedConn). core_after_give o l m (given.NotHeld l.raw) core) (sym is);
     makes = λ marks s. makes-nothing core.options.max_connections marks new (subst (λ (c : Core Link). StandsFor c marks) (sym g.1) s);
     store = ap (λ (o : ScriptOutside). o.store) g.2;
   }
@@ -219,18 +219,18 @@ came-runs k m answers l core new old out result w = ap (λ (s : Store). s.runs) 
 self : (n : ℕ) → n ≤ n
 self n = omega arith
 
-gave-last : (o : Option Held) (l : Lent Link) (m : ℕ) (made : Given Link) (core : Core Link) → core.last ≤ m → (gave o l m made core).last ≤ m
+gave-last : (o : Option OwnedConn) (l : Lent Link) (m : ℕ) (made : Given Link) (core : Core Link) → core.last ≤ m → (core_after_give o l m made core).last ≤ m
 gave-last o l m given.Kept core h = self m
 gave-last o l m (given.Closed raw) core h = self m
 gave-last o l m (given.NotHeld raw) core h = h
 
-gave-ticket : (o : Option Held) (l : Lent Link) (m : ℕ) (made : Given Link) (core : Core Link) → (gave o l m made core).next_ticket ≡ core.next_ticket
+gave-ticket : (o : Option OwnedConn) (l : Lent Link) (m : ℕ) (made : Given Link) (core : Core Link) → (core_after_give o l m made core).next_ticket ≡ core.next_ticket
 gave-ticket None l m given.Kept core = refl
 gave-ticket (Some h) l m given.Kept core = refl
 gave-ticket o l m (given.Closed raw) core = refl
 gave-ticket o l m (given.NotHeld raw) core = refl
 
-gave-conn : (o : Option Held) (l : Lent Link) (m : ℕ) (made : Given Link) (core : Core Link) → (gave o l m made core).next_conn ≡ core.next_conn
+gave-conn : (o : Option OwnedConn) (l : Lent Link) (m : ℕ) (made : Given Link) (core : Core Link) → (core_after_give o l m made core).next_conn ≡ core.next_conn
 gave-conn None l m given.Kept core = refl
 gave-conn (Some h) l m given.Kept core = refl
 gave-conn o l m (given.Closed raw) core = refl

@@ -9,11 +9,11 @@ use Rattle.sqlx_pool_core.specs.declared.steps.Given.{Given}
 use Rattle.sqlx_pool_core.specs.declared.steps.Given.TheVariants as given
 use Rattle.sqlx_pool_core.specs.Core.{Core, loan_of}
 use Rattle.sqlx_pool_core.specs.Sound.{IsSound}
-use Rattle.sqlx_pool_core.specs.Edits.{at_moment, unlent, kept}
+use Rattle.sqlx_pool_core.specs.Edits.{at_moment, core_without_loan, kept}
 use Rattle.sqlx_log.specs.EventTable.{closes}
 use Rattle.sqlx_pool_core.specs.Limits.{limits_of}
-use Rattle.sqlx_pool_core.specs.ReturnSteps.{give_answer, give_marks, gave}
-use Rattle.sqlx_pool_core.specs.KeepingSteps.{without_first}
+use Rattle.sqlx_pool_core.specs.ReturnSteps.{give_answer, give_marks, core_after_give}
+use Rattle.sqlx_pool_core.specs.MaintenanceSteps.{without_first}
 use Rattle.sqlx_pool_core.specs.Makes.{Makes}
 use Rattle.sqlx_pool_core.proofs.Fair.{makes-nothing}
 use Rattle.sqlx_pool_core.specs.StandsFor.{StandsFor}
@@ -77,7 +77,7 @@ module _ (old : Stage) (answers : GiveAnswers) (m k c : ℕ) (sound : IsSound ol
 
     module _ (made : Given Link) (at_m : ℕ) (moment : at_m ≡ m)
         (makes : (marks : List Mark) → StandsFor old.core marks → Makes old.core.options.max_connections marks (give_marks l.id at_m made) core)
-        (becomes : core ≡ gave (loan_of k l.id old.core.held) l at_m made old.core) where
+        (becomes : core ≡ core_after_give (loan_of k l.id old.core.held) l at_m made old.core) where
       makes_here : (marks : List Mark) → StandsFor old.core marks → Makes old.core.options.max_connections marks (give_marks c m made) core
       makes_here marks s = subst (λ (x : List Mark). Makes old.core.options.max_connections marks x core) (λ i. give_marks (same_conn i) (moment i) made) (makes marks s)
 
@@ -85,7 +85,7 @@ module _ (old : Stage) (answers : GiveAnswers) (m k c : ℕ) (sound : IsSound ol
     pub returns-kept : (new : Stage) (at_m : ℕ) → at_m ≡ m → new.pool ≡ old.pool → new.core ≡ core → new.out.store ≡ old.out.store → new.lent.items ≡ without_first (is_lent c) old.lent.items
         → given.Kept ≡ give_answer old.core.options old.core.shut at_m (lets_rest old.pool answers l.raw.depth) (loan_of k l.id old.core.held) l
         → ((marks : List Mark) → StandsFor old.core marks → Makes old.core.options.max_connections marks (give_marks {C = Link} l.id at_m given.Kept) core)
-        → core ≡ gave (loan_of k l.id old.core.held) l at_m given.Kept old.core
+        → core ≡ core_after_give (loan_of k l.id old.core.held) l at_m given.Kept old.core
         → GivesBack old new answers m k c word.Kept
     returns-kept new at_m moment pool core_is store rest answer makes becomes marks past at =
         let loaned : Loaned (loan_of k l.id old.core.held) old.core.options old.core.shut m (lets_rest old.pool answers l.raw.depth) true
@@ -93,7 +93,7 @@ module _ (old : Stage) (answers : GiveAnswers) (m k c : ℕ) (sound : IsSound ol
         (answer ∙ ap (λ (n : ℕ). give_answer old.core.options old.core.shut n (lets_rest old.pool answers l.raw.depth) (loan_of k l.id old.core.held) l) moment) in
         let h = loaned.loan in
         let loan_c : loan_of k c old.core.held ≡ Some h = ap (λ (n : ℕ). loan_of k n old.core.held) (sym same_conn) ∙ loaned.is in
-        let is : new.core ≡ at_moment m (kept (record l { created = h.created }) m (unlent l.id old.core)) = core_is ∙ becomes ∙ (λ i. gave (loaned.is i) l (moment i) given.Kept old.core) in
+        let is : new.core ≡ at_moment m (kept (record l { created = h.created }) m (core_without_loan l.id old.core)) = core_is ∙ becomes ∙ (λ i. core_after_give (loaned.is i) l (moment i) given.Kept old.core) in
         let may = and_parts (lets_rest old.pool answers l.raw.depth) (not (closes (limits_of old.core.options) old.core.shut h.created.0 m)) loaned.told in
         let flat : l.raw.depth ≡ 0 = eqb-true l.raw.depth 0 (and_parts (l.raw.depth == 0) answers.ping (and_parts (not old.pool.after_release || accepts answers.after_release) ((l.raw.depth == 0) && answers.ping) may.0).1).0 in (
           word-told old.pool old.core marks past old.lent.items old.out.store c sound k m answers h l true at.set_up at.stands loan_c found at.links loaned.told,
@@ -106,7 +106,7 @@ module _ (old : Stage) (answers : GiveAnswers) (m k c : ℕ) (sound : IsSound ol
             next = ap (λ (x : Core Link). x.next_ticket) is;
             links = subst (λ (x : Store). LinksStand new.core x new.lent.items past) (sym store)
                 (subst (λ (x : List (Lent Link)). LinksStand new.core old.out.store x past) (sym (without_is new.lent.items past at.links rest))
-                (links-same (kept (record l { created = h.created }) m (unlent l.id old.core)) new.core old.out.store (without_lent l.id old.lent.items) past
+                (links-same (kept (record l { created = h.created }) m (core_without_loan l.id old.core)) new.core old.out.store (without_lent l.id old.lent.items) past
                 (links-kept old.core old.out.store old.lent.items past l at.links h.created m found_own (held-once old.core sound l.id) flat)
                 (ap (λ (x : Core Link). x.held) is) (ap (λ (x : Core Link). x.idle) is) (ap (λ (x : Core Link). x.next_conn) is)));
           },
@@ -116,7 +116,7 @@ module _ (old : Stage) (answers : GiveAnswers) (m k c : ℕ) (sound : IsSound ol
     pub returns-closed : (new : Stage) (at_m : ℕ) (raw : Link) → at_m ≡ m → new.pool ≡ old.pool → new.core ≡ core → new.out.store ≡ closed_in raw.depth old.out.store → new.lent.items ≡ without_first (is_lent c) old.lent.items
         → given.Closed raw ≡ give_answer old.core.options old.core.shut at_m (lets_rest old.pool answers l.raw.depth) (loan_of k l.id old.core.held) l
         → ((marks : List Mark) → StandsFor old.core marks → Makes old.core.options.max_connections marks (give_marks l.id at_m (given.Closed raw)) core)
-        → core ≡ gave (loan_of k l.id old.core.held) l at_m (given.Closed raw) old.core
+        → core ≡ core_after_give (loan_of k l.id old.core.held) l at_m (given.Closed raw) old.core
         → GivesBack old new answers m k c word.Closed
     returns-closed new at_m raw moment pool core_is store rest answer makes becomes marks past at =
         let told = told-closed old.core.options old.core.shut m (lets_rest old.pool answers l.raw.depth) l raw (loan_of k l.id old.core.held)
@@ -124,7 +124,7 @@ module _ (old : Stage) (answers : GiveAnswers) (m k c : ℕ) (sound : IsSound ol
         let loaned = told.0 in
         let h = loaned.loan in
         let loan_c : loan_of k c old.core.held ≡ Some h = ap (λ (n : ℕ). loan_of k n old.core.held) (sym same_conn) ∙ loaned.is in
-        let is : new.core ≡ at_moment m (unlent l.id old.core) = core_is ∙ becomes ∙ (λ i. gave (loaned.is i) l (moment i) (given.Closed raw) old.core) in
+        let is : new.core ≡ at_moment m (core_without_loan l.id old.core) = core_is ∙ becomes ∙ (λ i. core_after_give (loaned.is i) l (moment i) (given.Closed raw) old.core) in
         let owned = loan-found old.core sound k l.id h loaned.is in (
           word-told old.pool old.core marks past old.lent.items old.out.store c sound k m answers h l false at.set_up at.stands loan_c found at.links loaned.told,
           record {
@@ -137,7 +137,7 @@ module _ (old : Stage) (answers : GiveAnswers) (m k c : ℕ) (sound : IsSound ol
             links = subst (λ (n : ℕ). LinksStand new.core new.out.store new.lent.items (leaves n ∷ past)) same_conn
                 (subst (λ (x : Store). LinksStand new.core x new.lent.items (leaves l.id ∷ past)) (sym (store ∙ ap (λ (x : Link). closed_in x.depth old.out.store) told.1))
                 (subst (λ (x : List (Lent Link)). LinksStand new.core (closed_in l.raw.depth old.out.store) x (leaves l.id ∷ past)) (sym (without_is new.lent.items past at.links rest))
-                (links-same (unlent l.id old.core) new.core (closed_in l.raw.depth old.out.store) (without_lent l.id old.lent.items) (leaves l.id ∷ past)
+                (links-same (core_without_loan l.id old.core) new.core (closed_in l.raw.depth old.out.store) (without_lent l.id old.lent.items) (leaves l.id ∷ past)
                 (links-leave old.core old.out.store old.lent.items past l at.links found_own (held-once old.core sound l.id) owned.restless)
                 (ap (λ (x : Core Link). x.held) is) (ap (λ (x : Core Link). x.idle) is) (ap (λ (x : Core Link). x.next_conn) is))));
           },
@@ -147,7 +147,7 @@ module _ (old : Stage) (answers : GiveAnswers) (m k c : ℕ) (sound : IsSound ol
     pub returns-not_held : (new : Stage) (at_m : ℕ) (raw : Link) → new.pool ≡ old.pool → new.core ≡ core → new.out.store ≡ old.out.store
         → (i : ℕ) → i < length old.lent.items → l ≡ get_or old.lent.items i l → new.lent.items ≡ insert (remove old.lent.items i) i (record { id = c; created = l.created; raw = raw })
         → given.NotHeld raw ≡ give_answer old.core.options old.core.shut at_m (lets_rest old.pool answers l.raw.depth) (loan_of k l.id old.core.held) l
-        → core ≡ gave (loan_of k l.id old.core.held) l at_m (given.NotHeld raw) old.core
+        → core ≡ core_after_give (loan_of k l.id old.core.held) l at_m (given.NotHeld raw) old.core
         → GivesBack old new answers m k c word.NotHeld
     returns-not_held new at_m raw pool core_is store i below value put answer becomes marks past at =
         let told = told-not_held old.core.options old.core.shut at_m (lets_rest old.pool answers l.raw.depth) l raw (loan_of k l.id old.core.held) answer in

@@ -1,9 +1,9 @@
 -- A link that is taken out of a list, and put back.
 use Rattle.std.proofs.Common.{◌≡◌, ℕ, zero, suc, ◌+◌, ◌≤◌, ◌<◌, Bool, true, false, cond, not, ltb, List, [], ◌∷◌, ◌++◌, length, filter, find, count_by, get_or, set, slice_index_or, Option, Some, None, refl, sym, ap, subst, ◌∙◌, arith}
 use Rattle.std.specs.List.{position_or_len, remove, insert}
-use Rattle.sqlx_pool_core.specs.KeepingSteps.{without_first}
+use Rattle.sqlx_pool_core.specs.MaintenanceSteps.{without_first}
 use Rattle.sqlx_log.proofs.ListFacts.{count_by-cons, filter_none}
-use Rattle.sqlx_pool_core.proofs.KeepingCode.{first-taken, none-taken}
+use Rattle.sqlx_pool_core.proofs.MaintenanceCode.{first-taken, none-taken}
 
 module _ {X : Type 0} (p : X → Bool) where
   -- at which place the first that passes stands

@@ -3,10 +3,10 @@ use Rattle.std.proofs.Common.{◌≡◌, ℕ, zero, suc, ◌≤◌, nat_lt, ◌=
 use Rattle.std.specs.List.{list_any}
 use Rattle.sqlx_pool_core.specs.declared.steps.Lent.{Lent}
 use Rattle.sqlx_pool_core.specs.declared.steps.Idle.{Idle}
-use Rattle.sqlx_pool_core.specs.declared.ticket.Held.{Held}
+use Rattle.sqlx_pool_core.specs.declared.ticket.OwnedConn.{OwnedConn}
 use Rattle.sqlx_pool_core.specs.Core.{Core}
 use Rattle.sqlx_pool_core.specs.Sound.{holds, rests}
-use Rattle.sqlx_pool_core.specs.Edits.{without_loan, without_idle, unlent}
+use Rattle.sqlx_pool_core.specs.Edits.{without_loan, without_idle, core_without_loan}
 use Rattle.sqlx_log.proofs.ListFacts.{filter-map, count_by-map, All-filter_if, All-passing, number_comm, found_All}
 use Rattle.mem_store.specs.Store.{Store, Link, closed_at, level_mark}
 use Rattle.sqlx_brackets.specs.Changes.{leaves, History}
@@ -47,15 +47,15 @@ any_link P past c d new old = elim (d == c) as (λ (b : Bool). ((b ≡ false) �
   | false ↦ λ h. h refl
 ] old
 
-pub lent-counted : (core : Core Link) (lent : List (Lent Link)) (c : ℕ) → map (λ (l : Lent Link). l.id) lent ≡ map (λ (h : Held). h.conn) core.held → count_by (is_lent c) lent ≡ count_by (holds c) core.held
+pub lent-counted : (core : Core Link) (lent : List (Lent Link)) (c : ℕ) → map (λ (l : Lent Link). l.id) lent ≡ map (λ (h : OwnedConn). h.conn) core.held → count_by (is_lent c) lent ≡ count_by (holds c) core.held
 lent-counted core lent c owned =
-    sym (count_by-map (λ (l : Lent Link). l.id) (λ (n : ℕ). c == n) lent) ∙ ap (count_by (λ (n : ℕ). c == n)) owned ∙ count_by-map (λ (h : Held). h.conn) (λ (n : ℕ). c == n) core.held
+    sym (count_by-map (λ (l : Lent Link). l.id) (λ (n : ℕ). c == n) lent) ∙ ap (count_by (λ (n : ℕ). c == n)) owned ∙ count_by-map (λ (h : OwnedConn). h.conn) (λ (n : ℕ). c == n) core.held
 
 -- the owned ones, without one
-pub owned-without : (core : Core Link) (lent : List (Lent Link)) (c : ℕ) → map (λ (l : Lent Link). l.id) lent ≡ map (λ (h : Held). h.conn) core.held
-    → map (λ (l : Lent Link). l.id) (without_lent c lent) ≡ map (λ (h : Held). h.conn) (without_loan c core.held)
+pub owned-without : (core : Core Link) (lent : List (Lent Link)) (c : ℕ) → map (λ (l : Lent Link). l.id) lent ≡ map (λ (h : OwnedConn). h.conn) core.held
+    → map (λ (l : Lent Link). l.id) (without_lent c lent) ≡ map (λ (h : OwnedConn). h.conn) (without_loan c core.held)
 owned-without core lent c owned =
-    sym (filter-map (λ (l : Lent Link). l.id) (λ (n : ℕ). not (c == n)) lent) ∙ ap (filter (λ (n : ℕ). not (c == n))) owned ∙ filter-map (λ (h : Held). h.conn) (λ (n : ℕ). not (c == n)) core.held
+    sym (filter-map (λ (l : Lent Link). l.id) (λ (n : ℕ). not (c == n)) lent) ∙ ap (filter (λ (n : ℕ). not (c == n))) owned ∙ filter-map (λ (h : OwnedConn). h.conn) (λ (n : ℕ). not (c == n)) core.held
 
 -- ---- a connection that a client owns leaves
 
@@ -65,7 +65,7 @@ module _ (core : Core Link) (store : Store) (lent : List (Lent Link)) (past : Hi
 
   -- the link is closed in the store
   pub links-leave : find (is_lent l.id) lent ≡ Some l → count_by (holds l.id) core.held ≤ 1 → count_by (rests l.id) core.idle ≡ 0
-      → LinksStand (unlent l.id core) (closed_in l.raw.depth store) (without_lent l.id lent) (leaves l.id ∷ past)
+      → LinksStand (core_without_loan l.id core) (closed_in l.raw.depth store) (without_lent l.id lent) (leaves l.id ∷ past)
   links-leave found held_once restless =
       let one : count_by (is_lent l.id) lent ≤ 1 = let same = lent-counted core lent l.id s.owned in omega (arith, same, held_once) in
       record {
@@ -77,7 +77,7 @@ module _ (core : Core Link) (store : Store) (lent : List (Lent Link)) (past : Hi
         idle_links = All-passing (λ (i : Idle Link). IsRestingLink (linked_after past) i.lent.id i.lent.raw) (λ (i : Idle Link). IsRestingLink (linked_after (leaves l.id ∷ past)) i.lent.id i.lent.raw) (rests l.id)
             (λ i other is. record { is = is.is ∙ sym (other_link past l.id i.lent.id (turn l.id i.lent.id other)); rests = is.rests }) core.idle restless s.idle_links;
         unopened = λ d h. any_link (λ (k : bracket.Link). k ≡ new_link) past l.id d refl (λ other. s.unopened d h);
-        unlent = λ d none. any_link (λ (k : bracket.Link). k.depth ≡ 0) past l.id d refl (λ other. s.unlent d (unlent_still d found one other none));
+        core_without_loan = λ d none. any_link (λ (k : bracket.Link). k.depth ≡ 0) past l.id d refl (λ other. s.unlent d (unlent_still d found one other none));
         open_links = let out = count-out (is_lent l.id) is_lent_in_level lent l found one in let all = s.open_links in omega (arith, all, out, level_counts l);
       }
 
@@ -101,6 +101,6 @@ module _ (core : Core Link) (store : Store) (lent : List (Lent Link)) (past : Hi
         idle_links = All-filter_if (λ (j : Idle Link). IsRestingLink (linked_after past) j.lent.id j.lent.raw) (λ (j : Idle Link). IsRestingLink (linked_after (leaves c ∷ past)) j.lent.id j.lent.raw) (λ (j : Idle Link). not (rests c j))
             (λ j other is. record { is = is.is ∙ sym (other_link past c j.lent.id (turn c j.lent.id other)); rests = is.rests }) core.idle s.idle_links;
         unopened = λ d h. any_link (λ (k : bracket.Link). k ≡ new_link) past c d refl (λ other. s.unopened d h);
-        unlent = λ d none'. any_link (λ (k : bracket.Link). k.depth ≡ 0) past c d refl (λ other. s.unlent d none');
+        core_without_loan = λ d none'. any_link (λ (k : bracket.Link). k.depth ≡ 0) past c d refl (λ other. s.unlent d none');
         open_links = let all = s.open_links in let flat = at_rest found in omega (arith, all, flat);
       }

@@ -8,7 +8,7 @@ use Rattle.sqlx_pool_core.specs.declared.steps.Lent.{Lent}
 use Rattle.sqlx_pool_core.specs.declared.steps.Idle.{Idle}
 use Rattle.sqlx_pool_core.specs.Core.{Core}
 use Rattle.sqlx_pool_core.specs.Sound.{holds}
-use Rattle.sqlx_pool_core.specs.Edits.{unlent, kept, opened}
+use Rattle.sqlx_pool_core.specs.Edits.{core_without_loan, kept, opened}
 use Rattle.sqlx_log.proofs.ListFacts.{found_All}
 use Rattle.mem_store.specs.Store.{Store, Link, new_link, connected}
 use Rattle.sqlx_brackets.specs.Changes.{History}
@@ -33,7 +33,7 @@ module _ (core : Core Link) (store : Store) (lent : List (Lent Link)) (past : Hi
   kept_unlent d found one flat false e none = s.unlent d (any-out (is_lent l.id) (is_lent d) lent l found one ∙ (λ i. none i || e i))
 
   pub links-kept : (created : Moment) (m : ℕ) → find (is_lent l.id) lent ≡ Some l → count_by (holds l.id) core.held ≤ 1 → l.raw.depth ≡ 0
-      → LinksStand (kept (record l { created = created }) m (unlent l.id core)) store (without_lent l.id lent) past
+      → LinksStand (kept (record l { created = created }) m (core_without_loan l.id core)) store (without_lent l.id lent) past
   links-kept created m found held_once flat =
       let one : count_by (is_lent l.id) lent ≤ 1 = let same = lent-counted core lent l.id s.owned in omega (arith, same, held_once) in
       let i : Idle Link = record { lent = record l { created = created }; since = record { 0 = m } } in
@@ -44,7 +44,7 @@ module _ (core : Core Link) (store : Store) (lent : List (Lent Link)) (past : Hi
         lent_links = All-filter (λ (x : Lent Link). not (is_lent l.id x)) (λ (x : Lent Link). IsLinkOf (linked_after past) x.id x.raw) lent s.lent_links;
         idle_links = All-push (λ (j : Idle Link). IsRestingLink (linked_after past) j.lent.id j.lent.raw) core.idle i s.idle_links (record { is = is_linked found; rests = flat });
         unopened = s.unopened;
-        unlent = λ d none. kept_unlent d found one flat (d == l.id) refl none;
+        core_without_loan = λ d none. kept_unlent d found one flat (d == l.id) refl none;
         open_links = let out = count-out (is_lent l.id) is_lent_in_level lent l found one in let all = s.open_links in let mark = level_counts l in omega (arith, all, out, mark, flat);
       }
 
@@ -61,6 +61,6 @@ module _ (core : Core Link) (store : Store) (lent : List (Lent Link)) (past : Hi
         lent_links = s.lent_links;
         idle_links = All-push (λ (j : Idle Link). IsRestingLink (linked_after past) j.lent.id j.lent.raw) core.idle i s.idle_links (record { is = sym (s.unopened core.next_conn (omega arith)); rests = refl });
         unopened = λ d h. s.unopened d (omega (arith, h));
-        unlent = s.unlent;
+        core_without_loan = s.unlent;
         open_links = s.open_links;
       }

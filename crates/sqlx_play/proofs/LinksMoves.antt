@@ -5,9 +5,9 @@ use Rattle.std.specs.List.{list_any}
 use Rattle.sqlx_text.specs.declared.Moment.{Moment}
 use Rattle.sqlx_pool_core.specs.declared.steps.Lent.{Lent}
 use Rattle.sqlx_pool_core.specs.declared.steps.Idle.{Idle}
-use Rattle.sqlx_pool_core.specs.declared.ticket.Held.{Held}
+use Rattle.sqlx_pool_core.specs.declared.ticket.OwnedConn.{OwnedConn}
 use Rattle.sqlx_pool_core.specs.Core.{Core}
-use Rattle.sqlx_pool_core.specs.Edits.{lent_to, took, opened}
+use Rattle.sqlx_pool_core.specs.Edits.{lent_to, core_without_first, opened}
 use Rattle.sqlx_pool_core.specs.Sound.{holds, rests}
 use Rattle.sqlx_log.proofs.ListFacts.{number_comm, same_number, list_any-push, count_by-push, count_by-cons, count_by-map, map-push, All-passing}
 use Rattle.mem_store.specs.Store.{Store, Link, connected, closed_at}
@@ -35,7 +35,7 @@ module _ (core : Core Link) (store : Store) (lent : List (Lent Link)) (history :
   links-opened k created = record {
     accepted = s.accepted;
     rows = s.rows;
-    owned = map-push (λ (l : Lent Link). l.id) lent new ∙ ap (λ (ids : List ℕ). ids ++ core.next_conn ∷ []) s.owned ∙ sym (map-push (λ (h : Held). h.conn) core.held (record { conn = core.next_conn; client = k; created = created }));
+    owned = map-push (λ (l : Lent Link). l.id) lent new ∙ ap (λ (ids : List ℕ). ids ++ core.next_conn ∷ []) s.owned ∙ sym (map-push (λ (h : OwnedConn). h.conn) core.held (record { conn = core.next_conn; client = k; created = created }));
     lent_links = All-push (λ (l : Lent Link). IsLinkOf (linked_after history) l.id l.raw) lent new s.lent_links (sym (s.unopened core.next_conn (omega arith)));
     idle_links = s.idle_links;
     unopened = λ c h. s.unopened c (omega (arith, h));
@@ -73,11 +73,11 @@ module _ (core : Core Link) (store : Store) (lent : List (Lent Link)) (history :
 
     -- it is lent
     pub links-lent : (k : ℕ) (created : Moment)
-        → LinksStand (lent_to k i.lent.id created (took core)) store (lent ++ record { id = i.lent.id; created = created; raw = i.lent.raw } ∷ []) history
+        → LinksStand (lent_to k i.lent.id created (core_without_first core)) store (lent ++ record { id = i.lent.id; created = created; raw = i.lent.raw } ∷ []) history
     links-lent k created = record {
       accepted = s.accepted;
       rows = s.rows;
-      owned = map-push (λ (l : Lent Link). l.id) lent new ∙ ap (λ (ids : List ℕ). ids ++ i.lent.id ∷ []) s.owned ∙ sym (map-push (λ (h : Held). h.conn) core.held (record { conn = i.lent.id; client = k; created = created }));
+      owned = map-push (λ (l : Lent Link). l.id) lent new ∙ ap (λ (ids : List ℕ). ids ++ i.lent.id ∷ []) s.owned ∙ sym (map-push (λ (h : OwnedConn). h.conn) core.held (record { conn = i.lent.id; client = k; created = created }));
       lent_links = All-push (λ (l : Lent Link). IsLinkOf (linked_after history) l.id l.raw) lent new s.lent_links first_link.is;
       idle_links = All-same (λ (x : Idle Link). IsRestingLink (linked_after history) x.lent.id x.lent.raw) (drop 1 core.idle) rest others rest_links;
       unopened = s.unopened;
@@ -89,7 +89,7 @@ module _ (core : Core Link) (store : Store) (lent : List (Lent Link)) (history :
         new = record { id = i.lent.id; created = created; raw = i.lent.raw }
 
     -- it is closed, where each connection is owned or idle at most once
-    pub links-closed : ((c : ℕ) → count_by (holds c) core.held + count_by (rests c) core.idle ≤ 1) → LinksStand (took core) (closed_at i.lent.raw.depth store) lent (leaves i.lent.id ∷ history)
+    pub links-closed : ((c : ℕ) → count_by (holds c) core.held + count_by (rests c) core.idle ≤ 1) → LinksStand (core_without_first core) (closed_at i.lent.raw.depth store) lent (leaves i.lent.id ∷ history)
     links-closed alone = record {
       accepted = (tt, s.accepted);
       rows = s.rows;
@@ -113,7 +113,7 @@ module _ (core : Core Link) (store : Store) (lent : List (Lent Link)) (history :
         unowned = let all = whole in let one = alone i.lent.id in omega (arith, all, one)
 
         no_lent : count_by (λ (l : Lent Link). i.lent.id == l.id) lent ≡ 0
-        no_lent = sym (count_by-map (λ (l : Lent Link). l.id) (λ (c : ℕ). i.lent.id == c) lent) ∙ ap (count_by (λ (c : ℕ). i.lent.id == c)) s.owned ∙ count_by-map (λ (h : Held). h.conn) (λ (c : ℕ). i.lent.id == c) core.held ∙ unowned
+        no_lent = sym (count_by-map (λ (l : Lent Link). l.id) (λ (c : ℕ). i.lent.id == c) lent) ∙ ap (count_by (λ (c : ℕ). i.lent.id == c)) s.owned ∙ count_by-map (λ (h : OwnedConn). h.conn) (λ (c : ℕ). i.lent.id == c) core.held ∙ unowned
 
         no_rest : count_by (rests i.lent.id) rest ≡ 0
         no_rest = let all = whole in let one = alone i.lent.id in omega (arith, all, one)

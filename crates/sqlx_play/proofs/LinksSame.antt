@@ -3,7 +3,7 @@ use Rattle.std.proofs.Common.{◌≡◌, ℕ, ◌≤◌, List, [], map, refl, sy
 use Rattle.std.proofs.lemmas.List.Elements.{All-nil, All-same}
 use Rattle.sqlx_pool_core.specs.declared.steps.Lent.{Lent}
 use Rattle.sqlx_pool_core.specs.declared.steps.Idle.{Idle}
-use Rattle.sqlx_pool_core.specs.declared.ticket.Held.{Held}
+use Rattle.sqlx_pool_core.specs.declared.ticket.OwnedConn.{OwnedConn}
 use Rattle.sqlx_pool_core.specs.Core.{Core}
 use Rattle.mem_store.specs.Store.{Store, Link, new_store}
 use Rattle.sqlx_brackets.specs.Changes.{History}
@@ -15,7 +15,7 @@ pub links-same : (core new : Core Link) (store : Store) (lent : List (Lent Link)
 links-same core new store lent history s held idle next = record {
   accepted = s.accepted;
   rows = s.rows;
-  owned = s.owned ∙ ap (λ (l : List Held). map (λ (h : Held). h.conn) l) (sym held);
+  owned = s.owned ∙ ap (λ (l : List OwnedConn). map (λ (h : OwnedConn). h.conn) l) (sym held);
   lent_links = s.lent_links;
   idle_links = All-same (λ (i : Idle Link). IsRestingLink (linked_after history) i.lent.id i.lent.raw) new.idle core.idle idle s.idle_links;
   unopened = λ c h. s.unopened c (subst (λ (n : ℕ). n ≤ c) next h);
@@ -28,7 +28,7 @@ pub links-none : (core : Core Link) (lent : List (Lent Link)) → core.held ≡ 
 links-none core lent held idle none = subst (λ (l : List (Lent Link)). LinksStand core new_store l []) (sym none) (record {
   accepted = tt;
   rows = refl;
-  owned = ap (λ (l : List Held). map (λ (h : Held). h.conn) l) (sym held);
+  owned = ap (λ (l : List OwnedConn). map (λ (h : OwnedConn). h.conn) l) (sym held);
   lent_links = All-nil _;
   idle_links = All-same (λ (i : Idle Link). IsRestingLink (linked_after []) i.lent.id i.lent.raw) core.idle [] idle (All-nil _);
   unopened = λ c h. refl;

@@ -2,13 +2,13 @@
 use Rattle.std.proofs.Common.{◌≡◌, ℕ, ◌+◌, ◌≤◌, Bool, true, false, cond, List, [], ◌∷◌, find, count_by, is_some, Option, Some, None, refl, sym, ap, subst, ◌∙◌, arith}
 use Rattle.std.proofs.lemmas.Bool.{eqb-true}
 use Rattle.sqlx_log.specs.declared.mark.Mark.{Mark}
-use Rattle.sqlx_pool_core.specs.declared.ticket.Held.{Held}
+use Rattle.sqlx_pool_core.specs.declared.ticket.OwnedConn.{OwnedConn}
 use Rattle.sqlx_pool_core.specs.declared.steps.Lent.{Lent}
 use Rattle.sqlx_pool_core.specs.Core.{Core, loan_of}
 use Rattle.sqlx_pool_core.specs.Sound.{IsSound, rests}
-use Rattle.sqlx_pool_core.specs.Edits.{unlent, without_loan}
+use Rattle.sqlx_pool_core.specs.Edits.{core_without_loan, without_loan}
 use Rattle.sqlx_pool_core.specs.ReturnSteps.{leaked}
-use Rattle.sqlx_pool_core.specs.KeepingSteps.{without_first}
+use Rattle.sqlx_pool_core.specs.MaintenanceSteps.{without_first}
 use Rattle.sqlx_pool_core.specs.Makes.{Makes}
 use Rattle.sqlx_pool_core.specs.StandsFor.{StandsFor}
 use Rattle.sqlx_log.proofs.ListFacts.{found_passes, count_by-cons}
@@ -52,11 +52,11 @@ found-counted {X} p (w ∷ xs) h = by (λ k. found-counted p xs k) (p w) refl (l
         let f = rest (omega (arith, k, zero)) in record { it = f.it; is = ap (λ (b : Bool). cond b (Some w) (find p xs)) is ∙ f.is }
 
 -- a loan that is there
-record Loan (o : Option Held) : Type 0 where
-  pub it : Held
+record Loan (o : Option OwnedConn) : Type 0 where
+  pub it : OwnedConn
   pub is : o ≡ Some it
 
-some_loan : (o : Option Held) → is_some o ≡ true → Loan o
+some_loan : (o : Option OwnedConn) → is_some o ≡ true → Loan o
 some_loan None e = absurd (cc)
 some_loan (Some h) e = record { it = h; is = refl }
 
@@ -94,13 +94,13 @@ module _ (old : Stage) (x : Mark) (k c : ℕ) (sound : IsSound old.core) where
           links = subst (λ (n : ℕ). LinksStand new.core new.out.store new.lent.items (leaves n ∷ past)) conn
               (subst (λ (y : Store). LinksStand new.core y new.lent.items (leaves l.id ∷ past)) (sym (store l found.is))
               (subst (λ (y : List (Lent Link)). LinksStand new.core (closed_in l.raw.depth old.out.store) y (leaves l.id ∷ past)) (sym lent)
-              (links-same (unlent l.id old.core) new.core (closed_in l.raw.depth old.out.store) (without_lent l.id old.lent.items) (leaves l.id ∷ past)
+              (links-same (core_without_loan l.id old.core) new.core (closed_in l.raw.depth old.out.store) (without_lent l.id old.lent.items) (leaves l.id ∷ past)
               (links-leave old.core old.out.store old.lent.items past l at.links own (held-once old.core sound l.id) restless)
               (ends.held ∙ ap (λ (n : ℕ). without_loan n old.core.held) (sym conn)) ends.idle ends.next_conn)));
         },
       )
 
-pub ends-loan : (old new : Core Link) (c : ℕ) → new ≡ unlent c old → EndsLoan old new c
+pub ends-loan : (old new : Core Link) (c : ℕ) → new ≡ core_without_loan c old → EndsLoan old new c
 ends-loan old new c e = record {
   held = ap (λ (x : Core Link). x.held) e;
   idle = ap (λ (x : Core Link). x.idle) e;

@@ -7,10 +7,10 @@ use Rattle.sqlx_pool_core.specs.Core.{Core, size}
 use Rattle.sqlx_pool_core.specs.Makes.{Makes}
 use Rattle.sqlx_pool_core.specs.StandsFor.{StandsFor}
 use Rattle.sqlx_pool_core.specs.Edits.{at_moment}
-use Rattle.sqlx_pool_core.specs.KeepingSteps.{has_place, placed, placed_back, done_at}
+use Rattle.sqlx_pool_core.specs.MaintenanceSteps.{has_place, placed, placed_back, done_at}
 use Rattle.sqlx_pool_core.specs.Outside.{is_transient}
-use Rattle.sqlx_pool_core.specs.declared.probe.Opening.{Opening}
-use Rattle.sqlx_pool_core.specs.declared.probe.Opening.TheVariants as opening
+use Rattle.sqlx_pool_core.specs.declared.idle_check.Opening.{Opening}
+use Rattle.sqlx_pool_core.specs.declared.idle_check.Opening.TheVariants as opening
 use Rattle.sqlx_pool_core.specs.Chain.{KeepsIf, Follows, Tries}
 use Rattle.sqlx_pool_core.specs.Minimum.{filled, filled_marks, opened_of, is_short, Keeps}
 use Rattle.sqlx_pool_core.specs.Outside.{is_want}
@@ -26,7 +26,7 @@ use Rattle.sqlx_play.specs.ScriptCalls.{Does, Connects, is_passing}
 use Rattle.sqlx_play.specs.ScriptOutside.{depth_of, next_connect, poll_letters}
 use Rattle.sqlx_rules.specs.ScriptMarks.{openings}
 use Rattle.sqlx_log.specs.Marks.{next_conn}
-use Rattle.sqlx_pool_core.proofs.Keeping.{place-open}
+use Rattle.sqlx_pool_core.proofs.Maintenance.{place-open}
 use Rattle.sqlx_play.proofs.StageAdvanceLemmas.{comes-then, at-next}
 use Rattle.sqlx_play.proofs.KeepsMinimumLemmas.{HasOpened, opened-more, filled-whole, filled-part}
 use Rattle.sqlx_play.proofs.LinksSame.{links-same, links-as}

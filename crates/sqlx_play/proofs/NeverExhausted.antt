@@ -4,8 +4,8 @@ use Rattle.std.proofs.lemmas.Bool.{le-ltb}
 use Rattle.sqlx_log.specs.declared.mark.Mark.{Mark}
 use Rattle.sqlx_log.specs.declared.turn.Turn.TheVariants as turn
 use Rattle.sqlx_log.specs.PollTable.{first_idle, turn_at_rest}
-use Rattle.sqlx_pool_core.specs.declared.probe.Opening.{Opening}
-use Rattle.sqlx_pool_core.specs.declared.probe.Opening.TheVariants as opening
+use Rattle.sqlx_pool_core.specs.declared.idle_check.Opening.{Opening}
+use Rattle.sqlx_pool_core.specs.declared.idle_check.Opening.TheVariants as opening
 use Rattle.sqlx_pool_core.specs.declared.steps.Idle.{Idle}
 use Rattle.sqlx_pool_core.specs.declared.steps.Start.{Start}
 use Rattle.sqlx_pool_core.specs.declared.steps.Start.TheVariants as start
@@ -17,7 +17,7 @@ use Rattle.sqlx_pool_core.specs.declared.steps.Verdict.{Verdict}
 use Rattle.sqlx_pool_core.specs.declared.ticket.Ticket.{Ticket}
 use Rattle.sqlx_pool_core.specs.Calls.{Call}
 use Rattle.sqlx_pool_core.specs.Core.{Core, is_out, ticket_of}
-use Rattle.sqlx_pool_core.specs.OwnTurn.{own_turn, turn_of, is_first_in_line}
+use Rattle.sqlx_pool_core.specs.CoreTurn.{core_turn, turn_of, is_first_in_line}
 use Rattle.sqlx_pool_core.specs.PollTable.{is_at_rest, backs_off_until}
 use Rattle.sqlx_pool_core.specs.PollSteps.{start_answer, after_test}
 use Rattle.sqlx_pool_core.specs.Walk.{Next, Test, Connect, Answer, first, then_by, last, judges, tells, Goes, Polls}
@@ -45,7 +45,7 @@ module _ {C : Type 0} (core : Core C) (few : core.next_conn ≤ 2 ^ 63) where
   at_ticket q m None e = cc
   at_ticket q m (Some x) e = in_phase (is_at_rest x.phase) q (is_out x.phase) m x.deadline (backs_off_until x.phase) e
 
-  pub starts-not : (k t m : ℕ) → start.Exhausted ≡ start_answer (own_turn core k t m) core.idle → ⊥
+  pub starts-not : (k t m : ℕ) → start.Exhausted ≡ start_answer (core_turn core k t m) core.idle → ⊥
   starts-not k t m e = at_ticket (is_first_in_line t core) m (ticket_of k t core.tickets) e
 
 -- the next answer, if it is given, isn't that the numbers are used up

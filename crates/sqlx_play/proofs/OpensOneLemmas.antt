@@ -10,7 +10,7 @@ use Rattle.sqlx_log.specs.Counts.{free_of}
 use Rattle.sqlx_log.specs.Marks.{next_conn}
 use Rattle.sqlx_pool_core.specs.Edits.{at_moment, opened, kept}
 use Rattle.sqlx_log.specs.EventTable.{may_pass}
-use Rattle.sqlx_pool_core.specs.KeepingSteps.{has_place, placed, placed_back, done_at, done, done_marks}
+use Rattle.sqlx_pool_core.specs.MaintenanceSteps.{has_place, placed, placed_back, done_at, done, done_marks}
 use Rattle.sqlx_pool_core.specs.Makes.{Makes}
 use Rattle.sqlx_pool_core.specs.StandsFor.{StandsFor}
 use Rattle.sqlx_log.proofs.ListFacts.{length-push}

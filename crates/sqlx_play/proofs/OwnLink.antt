@@ -4,7 +4,7 @@ use Rattle.std.specs.List.{list_any}
 use Rattle.std.proofs.lemmas.Bool.{eqb-true, and_parts, cases_Bool}
 use Rattle.sqlx_pool_core.specs.declared.steps.Lent.{Lent}
 use Rattle.sqlx_pool_core.specs.declared.steps.Idle.{Idle}
-use Rattle.sqlx_pool_core.specs.declared.ticket.Held.{Held}
+use Rattle.sqlx_pool_core.specs.declared.ticket.OwnedConn.{OwnedConn}
 use Rattle.sqlx_pool_core.specs.Core.{Core}
 use Rattle.sqlx_pool_core.specs.Sound.{IsSound, holds, rests}
 use Rattle.sqlx_log.proofs.ListFacts.{count_by-map, number_comm}
@@ -28,7 +28,7 @@ module _ (core : Core Link) (sound : IsSound core) (store : Store) (ys : List (L
   -- ---- the other links are of other connections and have other numbers
 
   ids_counted : count_by (λ (x : Lent Link). l.id == x.id) (ys ++ l ∷ zs) ≡ count_by (holds l.id) core.held
-  ids_counted = sym (count_by-map (λ (x : Lent Link). x.id) (λ n. l.id == n) (ys ++ l ∷ zs)) ∙ ap (count_by (λ n. l.id == n)) s.owned ∙ count_by-map (λ (h : Held). h.conn) (λ n. l.id == n) core.held
+  ids_counted = sym (count_by-map (λ (x : Lent Link). x.id) (λ n. l.id == n) (ys ++ l ∷ zs)) ∙ ap (count_by (λ n. l.id == n)) s.owned ∙ count_by-map (λ (h : OwnedConn). h.conn) (λ n. l.id == n) core.held
 
   here_counted : count_by (holds l.id) core.held ≡ 1 + count_by (λ (x : Lent Link). l.id == x.id) (ys ++ zs)
   here_counted = sym ids_counted ∙ count-mid (λ (x : Lent Link). l.id == x.id) ys l zs ∙ ap (λ b. cond b 1 0 + count_by (λ (x : Lent Link). l.id == x.id) (ys ++ zs)) (eq-eqb l.id l.id refl)

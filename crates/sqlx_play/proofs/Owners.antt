@@ -1,7 +1,7 @@
 -- Who owns a connection, by a core's loans and by the marks that it stands for.
 use Rattle.std.proofs.Common.{◌≡◌, ℕ, zero, suc, ◌+◌, ◌≤◌, ◌==◌, ◌&&◌, Bool, true, false, cond, List, [], ◌∷◌, map, find, count_by, is_some, option_map, Some, None, refl, sym, ap, ◌∙◌, arith}
 use Rattle.sqlx_log.specs.declared.mark.Mark.{Mark}
-use Rattle.sqlx_pool_core.specs.declared.ticket.Held.{Held}
+use Rattle.sqlx_pool_core.specs.declared.ticket.OwnedConn.{OwnedConn}
 use Rattle.sqlx_log.specs.Marks.{Loan, is_loan_of, owner_of}
 use Rattle.sqlx_pool_core.specs.Core.{Core, loan, loan_of}
 use Rattle.sqlx_pool_core.specs.Sound.{IsSound, holds}
@@ -10,7 +10,7 @@ use Rattle.sqlx_log.proofs.ListFacts.{count_by-cons}
 use Rattle.sqlx_rules.specs.ScriptLevels.{owns}
 
 -- the client's loan, where there is one
-pub none_held : (k c : ℕ) (held : List Held) → count_by (holds c) held ≡ 0 → loan_of k c held ≡ None
+pub none_held : (k c : ℕ) (held : List OwnedConn) → count_by (holds c) held ≡ 0 → loan_of k c held ≡ None
 none_held k c [] e = refl
 none_held k c (h ∷ held) e = by (λ z. none_held k c held z) (c == h.conn) (k == h.client) (sym (count_by-cons (holds c) h held) ∙ e)
   where
@@ -19,7 +19,7 @@ none_held k c (h ∷ held) e = by (λ z. none_held k c held z) (c == h.conn) (k 
     by rest false b z = rest (omega (arith, z))
 
 -- an owner of a connection that is owned once
-owner_is : (k c : ℕ) (held : List Held) → count_by (holds c) held ≤ 1 → owns k (option_map (λ (l : Loan). l.client) (find (is_loan_of c) (map loan held))) ≡ is_some (loan_of k c held)
+owner_is : (k c : ℕ) (held : List OwnedConn) → count_by (holds c) held ≤ 1 → owns k (option_map (λ (l : Loan). l.client) (find (is_loan_of c) (map loan held))) ≡ is_some (loan_of k c held)
 owner_is k c [] one = refl
 owner_is k c (h ∷ held) one = by (λ z. owner_is k c held z) (c == h.conn) (k == h.client) refl (let same = count_by-cons (holds c) h held in omega (arith, one, same))
   where
@@ -42,7 +42,7 @@ module _ {C : Type 0} (core : Core C) (sound : IsSound core) where
   owner-alike marks k c s = sym (owner-stands marks k c s)
 
 -- a connection with a loan is counted
-pub held-counted : (k c : ℕ) (held : List Held) → is_some (loan_of k c held) ≡ true → 1 ≤ count_by (holds c) held
+pub held-counted : (k c : ℕ) (held : List OwnedConn) → is_some (loan_of k c held) ≡ true → 1 ≤ count_by (holds c) held
 held-counted k c held some = by (count_by (holds c) held) refl
   where
     by : (n : ℕ) → count_by (holds c) held ≡ n → 1 ≤ count_by (holds c) held

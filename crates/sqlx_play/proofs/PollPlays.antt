@@ -9,7 +9,7 @@ use Rattle.sqlx_pool_core.specs.declared.steps.Start.{Start}
 use Rattle.sqlx_log.specs.Marks.{idle_of}
 use Rattle.sqlx_pool_core.specs.Core.{Core}
 use Rattle.sqlx_pool_core.specs.PollSteps.{start_answer}
-use Rattle.sqlx_pool_core.specs.OwnTurn.{own_turn}
+use Rattle.sqlx_pool_core.specs.CoreTurn.{core_turn}
 use Rattle.sqlx_pool_core.proofs.Known.{ticket-number}
 use Rattle.mem_store.specs.Store.{Link}
 use Rattle.sqlx_script.specs.declared.answers.PollAnswers.{PollAnswers}
@@ -32,8 +32,8 @@ pub few-conns : (stage : Stage) → numbers_of stage ≤ 2 ^ 62 → stage.core.n
 few-conns stage few = omega (arith, few)
 
 -- a moment in order is the one that the core goes by
-pub own-now : (core : Core Link) (k t m : ℕ) (r : Start Link) → core.last ≤ m → r ≡ start_answer (own_turn core k t (max core.last m)) core.idle → r ≡ start_answer (own_turn core k t m) core.idle
-own-now core k t m r late own = own ∙ ap (λ (n : ℕ). start_answer (own_turn core k t n) core.idle) (max-eq_right late)
+pub own-now : (core : Core Link) (k t m : ℕ) (r : Start Link) → core.last ≤ m → r ≡ start_answer (core_turn core k t (max core.last m)) core.idle → r ≡ start_answer (core_turn core k t m) core.idle
+own-now core k t m r late own = own ∙ ap (λ (n : ℕ). start_answer (core_turn core k t n) core.idle) (max-eq_right late)
 
 -- ---- before the next try is due
 

@@ -17,7 +17,7 @@ use Rattle.sqlx_pool_core.specs.declared.steps.Start.{Start}
 use Rattle.sqlx_pool_core.specs.declared.steps.Start.TheVariants as start
 use Rattle.sqlx_pool_core.specs.Core.{Core, asking, resting, is_out, is_of, ticket_of, free}
 use Rattle.sqlx_pool_core.specs.PollTable.{is_at_rest, backs_off_until}
-use Rattle.sqlx_pool_core.specs.OwnTurn.{own_turn, turn_of, is_first_in_line, before}
+use Rattle.sqlx_pool_core.specs.CoreTurn.{core_turn, turn_of, is_first_in_line, before}
 use Rattle.sqlx_pool_core.specs.PollSteps.{start_answer}
 use Rattle.sqlx_pool_core.specs.StandsFor.{StandsFor}
 use Rattle.sqlx_pool_core.proofs.Known.{ticket-number}
@@ -148,7 +148,7 @@ module _ (stage : Stage) (pairs : Pairs) (s : StageStands stage pairs) (k t m : 
       ∙ sym (start-turn stage.pool answers (connecting (Some x)) (turn_of (is_first_in_line t stage.core) stage.core.shut m stage.core (Some x)) stage.core.idle)
 
   -- the reply is that of the core's first step
-  pub poll-reply : (r : Start Link) → r ≡ start_answer (own_turn stage.core k t m) stage.core.idle
+  pub poll-reply : (r : Start Link) → r ≡ start_answer (core_turn stage.core k t m) stage.core.idle
       → start_reply passing (connecting (ticket_of k t stage.core.tickets)) r
       ≡ poll_reply stage.pool answers (marks_of stage.pool pairs) m (tries_of t pairs) (asked_in k t (tickets_of (marks_of stage.pool pairs)))
   poll-reply r own =

@@ -13,7 +13,7 @@ use Rattle.sqlx_pool_core.specs.declared.steps.Idle.{Idle}
 use Rattle.sqlx_pool_core.specs.declared.steps.Start.TheVariants as start
 use Rattle.sqlx_pool_core.specs.declared.steps.AfterTest.TheVariants as tested
 use Rattle.sqlx_pool_core.specs.Core.{Core, resting, ticket_of}
-use Rattle.sqlx_pool_core.specs.Edits.{ended, lent_to, took, with_ticket, to_test, to_next, tested_so_far, to_connect, at_moment}
+use Rattle.sqlx_pool_core.specs.Edits.{core_without_ticket, lent_to, core_without_first, with_ticket, to_test, to_next, tested_so_far, to_connect, at_moment}
 use Rattle.sqlx_pool_core.specs.Sound.{IsSound, holds, rests}
 use Rattle.sqlx_pool_core.specs.PollSteps.{started, after_test}
 use Rattle.sqlx_pool_core.specs.Makes.{Makes}
@@ -119,7 +119,7 @@ module _ (stage : Stage) (pairs : Pairs) (k t m : ℕ) (answers : PollAnswers) (
       first_try = v.first_try;
       last_wait = v.last_wait;
       core_is =
-          ap (λ (c : Core Link). took (record c { tickets = with_ticket t (to_next h) c.tickets })) v.core_is
+          ap (λ (c : Core Link). core_without_first (record c { tickets = with_ticket t (to_next h) c.tickets })) v.core_is
           ∙ ap (λ (l : List Ticket). at_moment m (record stage.core { tickets = l; idle = rest })) (with-with t v.change (to_next h) stage.core.tickets (λ z. (v.keeps z).0));
       tries = let all = v.tries in omega (arith, all);
       some = omega arith;
@@ -187,7 +187,7 @@ module _ (stage : Stage) (pairs : Pairs) (k t m : ℕ) (answers : PollAnswers) (
 -- the connection that passed its test is lent
 pub tested-stands : (stage new : Stage) (pairs : Pairs) (moment : Moment) (k t : ℕ) (answers : PollAnswers) (s : StageStands stage pairs) (core : Core Link) (store : Store) (i : Idle Link) (rest : List (Idle Link)) (front : List Mark) (n j : ℕ)
     → Testing stage pairs k t moment.0 answers core store i rest front n j
-    → new.core ≡ ended t (lent_to k i.lent.id i.lent.created core) → new.out.store ≡ store → new.lent.items ≡ stage.lent.items ++ i.lent ∷ [] → new.pool ≡ stage.pool
+    → new.core ≡ core_without_ticket t (lent_to k i.lent.id i.lent.created core) → new.out.store ≡ store → new.lent.items ≡ stage.lent.items ++ i.lent ∷ [] → new.pool ≡ stage.pool
     → Makes stage.core.options.max_connections (marks_of stage.pool pairs) ((front ++ mark.Taken i.lent.id ∷ []) ++ mark.Lent k i.lent.id ∷ mark.Ended t ∷ []) new.core
     → StageStands new (pairs ++ pair_of moment k t answers (reply.Ready i.lent.id) ∷ [])
 tested-stands stage new pairs moment k t answers s core store i rest front n j v becomes same owned pool makes =
@@ -212,8 +212,8 @@ tested-stands stage new pairs moment k t answers s core store i rest front n j v
     before : History
     before = gone_by front (history_of stage.pool pairs)
 
-    whole : new.core ≡ ended t (lent_to k i.lent.id i.lent.created (at_moment moment.0 (record stage.core { tickets = with_ticket t v.change stage.core.tickets; idle = rest })))
-    whole = becomes ∙ ap (λ (o : Core Link). ended t (lent_to k i.lent.id i.lent.created o)) v.core_is
+    whole : new.core ≡ core_without_ticket t (lent_to k i.lent.id i.lent.created (at_moment moment.0 (record stage.core { tickets = with_ticket t v.change stage.core.tickets; idle = rest })))
+    whole = becomes ∙ ap (λ (o : Core Link). core_without_ticket t (lent_to k i.lent.id i.lent.created o)) v.core_is
 
     both : (is_among i.lent.id (map resting stage.core.idle) ≡ true) × (mark.Left t ∷ reaching i.lent.id (map resting stage.core.idle) ≡ front ++ reaching i.lent.id (map resting (i ∷ rest)))
     both = v.reaches i.lent.id (ap (λ (b : Bool). b || is_among i.lent.id (map resting rest)) (same_number i.lent.id))

@@ -10,7 +10,7 @@ use Rattle.sqlx_log.specs.declared.turn.Turn.TheVariants as turn
 use Rattle.sqlx_pool_core.specs.Core.{Core, is_out, ticket_of}
 use Rattle.sqlx_log.specs.PollTable.{first_idle, in_time}
 use Rattle.sqlx_pool_core.specs.PollTable.{is_at_rest, backs_off_until}
-use Rattle.sqlx_pool_core.specs.OwnTurn.{own_turn, turn_of, is_first_in_line}
+use Rattle.sqlx_pool_core.specs.CoreTurn.{core_turn, turn_of, is_first_in_line}
 use Rattle.sqlx_pool_core.specs.PollSteps.{start_answer, phase_for, tested_at}
 use Rattle.sqlx_pool_core.specs.Edits.{with_ticket, to_test, to_try, to_try_at, to_connect}
 use Rattle.sqlx_pool_core.proofs.TurnCases.{ConnectsFirst, ConnectsAgain, turn-test, turn-connect}
@@ -56,7 +56,7 @@ module _ {C : Type 0} (core : Core C) (k t m : ℕ) where
   abbrev q : Bool
   q = is_first_in_line t core
 
-  pub at-test : (i : Idle C) → start.Test i ≡ start_answer (own_turn core k t m) core.idle → AtTest core k t i
+  pub at-test : (i : Idle C) → start.Test i ≡ start_answer (core_turn core k t m) core.idle → AtTest core k t i
   at-test i own = by (ticket_of k t core.tickets) refl own
     where
       turned : (x : Ticket) → ticket_of k t core.tickets ≡ Some x → (w : Turn) → turn_of q core.shut m core (Some x) ≡ w → start.Test i ≡ start_answer w core.idle → AtTest core k t i
@@ -84,7 +84,7 @@ module _ {C : Type 0} (core : Core C) (k t m : ℕ) where
       by None found e = absurd cc
       by (Some x) found e = turned x found (turn_of q core.shut m core (Some x)) refl e
 
-  pub at-connect : start.Connect ≡ start_answer (own_turn core k t m) core.idle → AtConnect core k t m
+  pub at-connect : start.Connect ≡ start_answer (core_turn core k t m) core.idle → AtConnect core k t m
   at-connect own = by (ticket_of k t core.tickets) refl own
     where
       ways_of : (x : Ticket) → turn_of q core.shut m core (Some x) ≡ turn.Connect → (ConnectsFirst q core x ⊎ ConnectsAgain core x) → ((x.phase ≡ phase.Waiting) × (core.idle ≡ [])) ⊎ IsDue m x
@@ -159,7 +159,7 @@ module _ {C : Type 0} (core : Core C) (k t m : ℕ) where
       let known = early_of core.shut (nat_le x.deadline m) (nat_lt m v) (nat_lt (2 ^ 63) core.next_conn) v u e in
       record { x = x; found = found; backs_off = is ∙ ap (λ (n : ℕ). phase.Backoff n) known.1; early = ap (λ (n : ℕ). nat_lt m n) (sym known.1) ∙ known.0 }
 
-  pub at-backoff : (until : ℕ) → start.Backoff until ≡ start_answer (own_turn core k t m) core.idle → AtBackoff core k t m until
+  pub at-backoff : (until : ℕ) → start.Backoff until ≡ start_answer (core_turn core k t m) core.idle → AtBackoff core k t m until
   unfolding turn_by
   at-backoff until own = by (ticket_of k t core.tickets) refl own
     where

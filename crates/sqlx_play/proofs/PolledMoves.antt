@@ -11,7 +11,7 @@ use Rattle.sqlx_pool_core.specs.declared.steps.AfterTest.TheVariants as tested
 use Rattle.sqlx_pool_core.specs.declared.steps.Polled.{Polled}
 use Rattle.sqlx_pool_core.specs.Core.{Core}
 use Rattle.sqlx_pool_core.specs.PollSteps.{started, after_test, after_connect}
-use Rattle.sqlx_pool_core.specs.declared.probe.Opening.{Opening}
+use Rattle.sqlx_pool_core.specs.declared.idle_check.Opening.{Opening}
 use Rattle.sqlx_pool_core.specs.Walk.{Next, Test, Connect, Answer, first, then_by, judges, tells, Connects, Goes, Polls}
 use Rattle.sqlx_script.specs.declared.answers.PollAnswers.{PollAnswers}
 use Rattle.mem_store.specs.Store.{Link, Store}

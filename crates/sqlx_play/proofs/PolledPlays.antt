@@ -25,17 +25,17 @@ use Rattle.sqlx_pool_core.specs.declared.steps.Verdict.TheVariants as verdict
 use Rattle.sqlx_pool_core.specs.declared.steps.Polled.{Polled}
 use Rattle.sqlx_pool_core.specs.declared.steps.Polled.TheVariants as polled
 use Rattle.sqlx_pool_core.specs.Core.{Core, resting, ticket_of}
-use Rattle.sqlx_pool_core.specs.Edits.{ended, lent_to, with_ticket, to_connect}
+use Rattle.sqlx_pool_core.specs.Edits.{core_without_ticket, lent_to, with_ticket, to_connect}
 use Rattle.sqlx_pool_core.specs.Makes.{Makes}
 use Rattle.sqlx_log.specs.Marks.{tickets_of}
 use Rattle.sqlx_log.specs.Counts.{asked_in}
-use Rattle.sqlx_pool_core.specs.OwnTurn.{own_turn}
+use Rattle.sqlx_pool_core.specs.CoreTurn.{core_turn}
 use Rattle.sqlx_pool_core.specs.Sound.{IsSound}
 use Rattle.sqlx_pool_core.specs.StandsFor.{StandsFor}
 use Rattle.sqlx_pool_core.specs.PollSteps.{phase_for, start_answer, start_marks, started, wait_of, lent_since, may_test_next, after_refusal, test_marks, after_test}
 use Rattle.sqlx_pool_core.specs.PollSteps as steps
-use Rattle.sqlx_pool_core.specs.declared.probe.Opening.{Opening}
-use Rattle.sqlx_pool_core.specs.declared.probe.Opening.TheVariants as opening
+use Rattle.sqlx_pool_core.specs.declared.idle_check.Opening.{Opening}
+use Rattle.sqlx_pool_core.specs.declared.idle_check.Opening.TheVariants as opening
 use Rattle.sqlx_pool_core.specs.Walk.{Test, Connect, first, then_by, last, judges, tells, Connects, Goes, Polls}
 use Rattle.sqlx_script.specs.declared.answers.ConnectAnswer.{ConnectAnswer}
 use Rattle.sqlx_script.specs.declared.answers.ConnectAnswer.TheVariants as letter
@@ -247,7 +247,7 @@ module _ (stage new : Stage) (moment : Moment) (k t : ℕ) (answers : PollAnswer
     -- the connection passes
     accepted-so : idle_reply passes_now otherwise ≡ told_reply → (lent : Lent Link) (between : ScriptOutside) (later later' : List Mark) → poll_letters old ≡ answering answers j → old.left_open ≡ None
         → Tests {O = Unit {0}} Does depth_of core.options moment.0 i (verdict.Accepted lent) old between → later ≡ mark.Lent k i.lent.id ∷ mark.Ended t ∷ later'
-        → (got ≡ polled.Ready (lent_since i.lent.created lent)) × (later' ≡ []) × (new.core ≡ ended t (lent_to k lent.id i.lent.created core)) × (new.out ≡ between)
+        → (got ≡ polled.Ready (lent_since i.lent.created lent)) × (later' ≡ []) × (new.core ≡ core_without_ticket t (lent_to k lent.id i.lent.created core)) × (new.out ≡ between)
         → Made ((front ++ mark.Taken i.lent.id ∷ []) ++ later) → Is r
     accepted-so calls lent between later later' letters_now left_now chain is end makes =
         let told_is = tested-told (answering answers j) core.options moment.0 i (verdict.Accepted lent) old between letters_now chain in
@@ -257,7 +257,7 @@ module _ (stage new : Stage) (moment : Moment) (k t : ℕ) (answers : PollAnswer
         told (polled.Ready i.lent) (reply.Ready i.lent.id) given refl (
           ap (λ (o : Option ℕ). idle_reply o otherwise) (sym passes) ∙ calls,
           tested-stands stage new pairs moment k t answers s core old.store i rest front n j tests
-              (end.2 ∙ ap (λ (l : Lent Link). ended t (lent_to k l.id i.lent.created core)) told_is.lent)
+              (end.2 ∙ ap (λ (l : Lent Link). core_without_ticket t (lent_to k l.id i.lent.created core)) told_is.lent)
               (ap (λ (o : ScriptOutside). o.store) end.3 ∙ told_is.store) (owned ∙ ap (λ (p : Polled Link). owned_after p stage.lent.items) given) pool
               (subst (λ (l : List Mark). Made ((front ++ mark.Taken i.lent.id ∷ []) ++ l)) (is ∙ ap (λ (l : List Mark). mark.Lent k i.lent.id ∷ mark.Ended t ∷ l) end.1) makes),
         )
@@ -300,7 +300,7 @@ module _ (stage new : Stage) (moment : Moment) (k t : ℕ) (answers : PollAnswer
 
   -- ---- the whole poll
 
-  by : (begun : Start Link) → begun ≡ start_answer (own_turn stage.core k t moment.0) stage.core.idle → (verdicts : List (Verdict Link)) (later : List Mark)
+  by : (begun : Start Link) → begun ≡ start_answer (core_turn stage.core k t moment.0) stage.core.idle → (verdicts : List (Verdict Link)) (later : List Mark)
       → Goes {O = Unit {0}} Does depth_of tt k t moment.0 verdicts (first begun) (started t moment.0 begun stage.core) new.core out new.out got later
       → Made (start_marks t (phase_for k t stage.core.tickets) begun ++ later) → Is r
   by start.NotHeld own [] later g makes =

@@ -9,7 +9,7 @@ use Rattle.sqlx_pool_core.specs.declared.steps.Idle.{Idle}
 use Rattle.sqlx_pool_core.specs.Core.{Core, resting}
 use Rattle.sqlx_pool_core.specs.Edits.{at_moment, without_idle}
 use Rattle.sqlx_log.specs.EventTable.{is_idle_too_long, is_old_since, is_beyond_at}
-use Rattle.sqlx_pool_core.specs.KeepingSteps.{is_reaped_at, reap_answer}
+use Rattle.sqlx_pool_core.specs.MaintenanceSteps.{is_reaped_at, reap_answer}
 use Rattle.sqlx_pool_core.specs.Makes.{Makes}
 use Rattle.sqlx_log.specs.Marks.{idle_of, next_conn}
 use Rattle.sqlx_pool_core.specs.Sound.{IsSound, rests}

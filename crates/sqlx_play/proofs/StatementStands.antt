@@ -2,7 +2,7 @@
 use Rattle.std.proofs.Common.{◌≡◌, find, ℕ, ◌≤◌, ◌==◌, Bool, true, false, is_some, ◌⊎◌, inl, inr, List, [], ◌∷◌, ◌++◌, map, count_by, Option, Some, None, Result, Ok, Err, IfOk, refl, sym, ap, subst, ◌∙◌, arith}
 use Rattle.std.proofs.lemmas.List.Elements.{All-same}
 use Rattle.sqlx_log.specs.declared.mark.Mark.{Mark}
-use Rattle.sqlx_pool_core.specs.declared.ticket.Held.{Held}
+use Rattle.sqlx_pool_core.specs.declared.ticket.OwnedConn.{OwnedConn}
 use Rattle.sqlx_pool_core.specs.declared.steps.Lent.{Lent}
 use Rattle.sqlx_pool_core.specs.Core.{Core, loan_of}
 use Rattle.sqlx_log.specs.Marks.{owner_of}
@@ -127,7 +127,7 @@ moves old new pairs event r x s e core pool links =
 
 -- ---- a connection that the client doesn't own
 
-unowned : (core : Core Link) (lent : List (Lent Link)) (k c : ℕ) → map (λ (l : Lent Link). l.id) lent ≡ map (λ (h : Held). h.conn) core.held
+unowned : (core : Core Link) (lent : List (Lent Link)) (k c : ℕ) → map (λ (l : Lent Link). l.id) lent ≡ map (λ (h : OwnedConn). h.conn) core.held
     → (is_some (loan_of k c core.held) ≡ false) ⊎ (find (is_lent c) lent ≡ None) → is_some (loan_of k c core.held) ≡ false
 unowned core lent k c owned (inl none) = none
 unowned core lent k c owned (inr none) = by (is_some (loan_of k c core.held)) refl
@@ -136,7 +136,7 @@ unowned core lent k c owned (inr none) = by (is_some (loan_of k c core.held)) re
     by false e = e
     by true e = absurd (
         let some = held-counted k c core.held e in
-        let same : count_by (is_lent c) lent ≡ count_by (holds c) core.held = sym (count_by-map (λ (l : Lent Link). l.id) (λ n. c == n) lent) ∙ ap (count_by (λ n. c == n)) owned ∙ count_by-map (λ (h : Held). h.conn) (λ n. c == n) core.held in
+        let same : count_by (is_lent c) lent ≡ count_by (holds c) core.held = sym (count_by-map (λ (l : Lent Link). l.id) (λ n. c == n) lent) ∙ ap (count_by (λ n. c == n)) owned ∙ count_by-map (λ (h : OwnedConn). h.conn) (λ n. c == n) core.held in
         let zero' = none-counted (is_lent c) lent none in
         omega (arith, some, same, zero'))
 

@@ -5,7 +5,7 @@ use Rattle.sqlx_log.specs.declared.mark.Mark.{Mark}
 use Rattle.sqlx_log.specs.declared.mark.Mark.TheVariants as mark
 use Rattle.sqlx_pool_core.specs.declared.ticket.Ticket.{Ticket}
 use Rattle.sqlx_pool_core.specs.Core.{Core}
-use Rattle.sqlx_pool_core.specs.Edits.{with_ticket, to_back_off, at_moment, ended, lent_to, opened}
+use Rattle.sqlx_pool_core.specs.Edits.{with_ticket, to_back_off, at_moment, core_without_ticket, lent_to, opened}
 use Rattle.sqlx_pool_core.specs.PollSteps.{wait_of}
 use Rattle.sqlx_script.specs.declared.reply.Reply.{Reply}
 use Rattle.sqlx_script.specs.declared.reply.Reply.TheVariants as reply
@@ -24,10 +24,10 @@ backing_off ticket m until core = at_moment m (record core { tickets = with_tick
 
 -- the core after it
 abbrev pub after_connect : {C : Type 0} → ℕ → ℕ → Moment → Reply → Core C → Core C
-after_connect client ticket moment (reply.Ready c) core = at_moment moment.0 (ended ticket (lent_to client c moment (opened core)))
+after_connect client ticket moment (reply.Ready c) core = at_moment moment.0 (core_without_ticket ticket (lent_to client c moment (opened core)))
 after_connect client ticket moment (reply.Backoff until) core = backing_off ticket moment.0 until core
-after_connect client ticket moment reply.Io core = at_moment moment.0 (ended ticket core)
-after_connect client ticket moment reply.DatabaseRefused core = at_moment moment.0 (ended ticket core)
+after_connect client ticket moment reply.Io core = at_moment moment.0 (core_without_ticket ticket core)
+after_connect client ticket moment reply.DatabaseRefused core = at_moment moment.0 (core_without_ticket ticket core)
 after_connect client ticket moment other core = core
 
 -- the store after a connection was opened and closed again

@@ -3,7 +3,7 @@ use Rattle.std.specs.Prelude.{◌≡◌, ℕ, ◌≤◌, ◌==◌, nat_lt, Bool,
 use Rattle.std.specs.List.{list_any}
 use Rattle.sqlx_pool_core.specs.declared.steps.Lent.{Lent}
 use Rattle.sqlx_pool_core.specs.declared.steps.Idle.{Idle}
-use Rattle.sqlx_pool_core.specs.declared.ticket.Held.{Held}
+use Rattle.sqlx_pool_core.specs.declared.ticket.OwnedConn.{OwnedConn}
 use Rattle.sqlx_pool_core.specs.Core.{Core}
 use Rattle.mem_store.specs.Store.{Store, Link}
 use Rattle.sqlx_brackets.specs.Changes.{History}
@@ -38,7 +38,7 @@ is_lent_in_level l = is_in_level l.raw
 pub record LinksStand (core : Core Link) (store : Store) (lent : List (Lent Link)) (history : History) : Type 0 where
   pub accepted : AreAccepted history
   pub rows : store.rows ≡ (linked_after history).rows
-  pub owned : map (λ (l : Lent Link). l.id) lent ≡ map (λ (h : Held). h.conn) core.held
+  pub owned : map (λ (l : Lent Link). l.id) lent ≡ map (λ (h : OwnedConn). h.conn) core.held
   pub lent_links : All (λ (l : Lent Link). IsLinkOf (linked_after history) l.id l.raw) lent
   pub idle_links : All (λ (i : Idle Link). IsRestingLink (linked_after history) i.lent.id i.lent.raw) core.idle
   pub unopened : (c : ℕ) → core.next_conn ≤ c → (linked_after history).link c ≡ new_link

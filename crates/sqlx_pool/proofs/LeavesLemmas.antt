@@ -9,7 +9,7 @@ use Rattle.sqlx_pool_core.specs.declared.steps.AfterTest.TheVariants as tested
 use Rattle.sqlx_pool_core.specs.declared.steps.AfterConnect.{AfterConnect}
 use Rattle.sqlx_pool_core.specs.declared.steps.AfterConnect.TheVariants as connected
 use Rattle.sqlx_pool_core.specs.declared.options.PoolOptions.{PoolOptions}
-use Rattle.sqlx_pool_core.specs.declared.ticket.Held.{Held}
+use Rattle.sqlx_pool_core.specs.declared.ticket.OwnedConn.{OwnedConn}
 use Rattle.sqlx_pool_core.specs.declared.steps.Lent.{Lent}
 use Rattle.sqlx_pool_core.specs.declared.steps.Given.{Given}
 use Rattle.sqlx_pool_core.specs.declared.steps.Given.TheVariants as given
@@ -18,8 +18,8 @@ use Rattle.sqlx_log.specs.EventTable.{closes}
 use Rattle.sqlx_pool_core.specs.Limits.{limits_of}
 use Rattle.sqlx_pool_core.specs.Core.{Core}
 use Rattle.sqlx_pool_core.specs.Edits.{is_another_idle, at_moment, asked}
-use Rattle.sqlx_pool_core.specs.KeepingSteps.{placed, reaped, done, done_at, placed_back, closed_from}
-use Rattle.sqlx_pool_core.specs.ReturnSteps.{give_answer, gave, released, leaked}
+use Rattle.sqlx_pool_core.specs.MaintenanceSteps.{placed, reaped, done, done_at, placed_back, closed_from}
+use Rattle.sqlx_pool_core.specs.ReturnSteps.{give_answer, core_after_give, released, leaked}
 use Rattle.sqlx_pool_core.specs.PollSteps.{started, after_test, after_connect, cancelled, after_try, try_lent, lent_since}
 use Rattle.sqlx_pool.specs.State.{RestFlat}
 
@@ -60,8 +60,8 @@ module _ {C : Type 0} (levels : C → ℕ) where
   cancel-leaves t true core = record { options = refl; rest = λ r. r }
   cancel-leaves t false core = record { options = refl; rest = λ r. r }
 
-  pub give-leaves : (options : PoolOptions) (shut : Bool) (m : ℕ) (accepted : Bool) (h : Option Held) (lent : Lent C) (answer : Given C) (core : Core C)
-      → answer ≡ give_answer options shut m accepted h lent → (accepted ≡ true → levels lent.raw ≡ 0) → Leaves levels core (gave h lent m answer core)
+  pub give-leaves : (options : PoolOptions) (shut : Bool) (m : ℕ) (accepted : Bool) (h : Option OwnedConn) (lent : Lent C) (answer : Given C) (core : Core C)
+      → answer ≡ give_answer options shut m accepted h lent → (accepted ≡ true → levels lent.raw ≡ 0) → Leaves levels core (core_after_give h lent m answer core)
   give-leaves options shut m accepted h lent (given.NotHeld raw) core is flat = record { options = refl; rest = λ r. r }
   give-leaves options shut m accepted h lent (given.Closed raw) core is flat = record { options = refl; rest = λ r. r }
   give-leaves options shut m accepted None lent given.Kept core is flat = record { options = refl; rest = λ r. r }

@@ -6,7 +6,7 @@ use Rattle.sqlx_pool_core.specs.declared.steps.Given.{Given}
 use Rattle.sqlx_pool_core.specs.declared.steps.Given.TheVariants as given
 use Rattle.sqlx_pool_core.specs.Answers.{is_held, is_kept}
 use Rattle.sqlx_pool_core.specs.declared.steps.Idle.{Idle}
-use Rattle.sqlx_pool_core.specs.KeepingSteps.{done_marks, reap_marks, closed_idle, close_marks}
+use Rattle.sqlx_pool_core.specs.MaintenanceSteps.{done_marks, reap_marks, closed_idle, close_marks}
 use Rattle.sqlx_pool_core.specs.ReturnSteps.{give_answer, give_marks, end_marks, detach_marks, leak_marks}
 use Rattle.std.proofs.lemmas.List.Elements.{All-nil}
 use Rattle.sqlx_log.proofs.Counting.{count-append, count-cons}
@@ -16,7 +16,7 @@ use Rattle.sqlx_pool_core.specs.declared.steps.AfterTest.TheVariants as tested
 use Rattle.sqlx_pool_core.specs.declared.steps.AfterConnect.{AfterConnect}
 use Rattle.sqlx_pool_core.specs.declared.steps.AfterConnect.TheVariants as connected
 use Rattle.sqlx_pool_core.specs.declared.ticket.Ticket.{Ticket}
-use Rattle.sqlx_pool_core.specs.declared.ticket.Held.{Held}
+use Rattle.sqlx_pool_core.specs.declared.ticket.OwnedConn.{OwnedConn}
 use Rattle.sqlx_pool_core.specs.declared.steps.Lent.{Lent}
 use Rattle.sqlx_pool_core.specs.declared.steps.Tried.{Tried}
 use Rattle.sqlx_pool_core.specs.declared.steps.Tried.TheVariants as tried
@@ -29,7 +29,7 @@ use Rattle.sqlx_pool_core.specs.declared.options.PoolOptions.{PoolOptions}
 use Rattle.sqlx_pool_core.specs.Core.{Core, asking, loan, resting}
 use Rattle.sqlx_pool_core.specs.StandsFor.{StandsFor}
 use Rattle.sqlx_pool_core.specs.Logs.{Logs}
-use Rattle.sqlx_pool_core.specs.Moves.{Moves, is_lent, lents, ends, due, one_if, given_back}
+use Rattle.sqlx_pool_core.specs.Balance.{Balance, is_lent, lents, ends, marks_due, one_if, given_back}
 use Rattle.sqlx_pool_core.specs.PollSteps.{is_in_line, start_marks, test_marks, connect_marks, cancel_marks, try_answer, try_answer_at, connect_answer}
 use Rattle.sqlx_pool.specs.Answers.{lends_tested, lends_new, is_fatal, is_ended}
 use Rattle.sqlx_pool.specs.Booked.{Booked}
@@ -43,9 +43,9 @@ pub record Books (old new : Booked) (made : List Mark) (backs : ℕ) : Type 0 wh
   pub few : (lents made ≤ ends made) ⊎ (new.made ≤ 2 ^ 62)
 
 pub stepped : {C O : Type 0} {levels : C → ℕ} {max : ℕ} {state : PoolState C O} {capacity : ℕ} → IsKept levels max state capacity
-    → {new : Core C} {made : List Mark} {backs room : ℕ} → Moves state.core new made backs room → Logs state.core made new → Leaves levels state.core new
+    → {new : Core C} {made : List Mark} {backs room : ℕ} → Balance state.core new made backs room → Logs state.core made new → Leaves levels state.core new
     → (connect : O) (booked : Booked) → Books state.booked booked made backs
-    → (marks : List Mark) (now : ℕ) → marks ≡ state.marks ++ made → length state.marks + due state.core + room ≤ now
+    → (marks : List Mark) (now : ℕ) → marks ≡ state.marks ++ made → length state.marks + marks_due state.core + room ≤ now
     → IsKept levels max (state_of new marks connect booked) now
 stepped {levels = levels} {max = max} {state = state} kept {new} {made} {backs} {room} moves logs leaves connect booked books marks now e enough =
     let makes = logs state.marks kept.standing.stands in
@@ -227,7 +227,7 @@ close-lends true idle = refl
 close-lends false idle = let e = count-cons is_lent Shut (map closed_idle idle) in let k = closed-lends idle in omega (arith, e, k)
 
 -- a connection that isn't accepted isn't kept
-pub refused-give : {C : Type 0} (options : PoolOptions) (shut : Bool) (m : ℕ) (accepted : Bool) → accepted ≡ false → (h : Option Held) (lent : Lent C)
+pub refused-give : {C : Type 0} (options : PoolOptions) (shut : Bool) (m : ℕ) (accepted : Bool) → accepted ≡ false → (h : Option OwnedConn) (lent : Lent C)
     → is_kept (give_answer options shut m accepted h lent) ≡ false
 refused-give options shut m false e None lent = refl
 refused-give options shut m false e (Some h) lent = refl
@@ -258,7 +258,7 @@ nothing-mapped f [] e = refl
 nothing-mapped f (x ∷ xs) e = absurd cc
 
 pub begun : {C O : Type 0} (levels : C → ℕ) (max : ℕ) (core : Core C) → StandsFor core [] → core.options.max_connections ≡ max
-    → (marks : List Mark) → marks ≡ [] → (connect : O) (booked : Booked) → booked ≡ record { owned = 0; made = 0 } → (capacity : ℕ) → due core ≤ capacity
+    → (marks : List Mark) → marks ≡ [] → (connect : O) (booked : Booked) → booked ≡ record { owned = 0; made = 0 } → (capacity : ℕ) → marks_due core ≤ capacity
     → IsKept levels max (state_of core marks connect booked) capacity
 begun {C} levels max core stands most marks e connect booked empty capacity room =
     let no_ticket : core.tickets ≡ [] = nothing-mapped asking core.tickets stands.tickets in

@@ -1,7 +1,7 @@
 -- What a check of a connection comes to.
 use Rattle.std.specs.Prelude.{⊤}
-use Rattle.sqlx_pool_core.specs.declared.probe.Check.{Check}
-use Rattle.sqlx_pool_core.specs.declared.probe.Check.TheVariants as check
+use Rattle.sqlx_pool_core.specs.declared.idle_check.Check.{Check}
+use Rattle.sqlx_pool_core.specs.declared.idle_check.Check.TheVariants as check
 
 -- P, if the connection passed
 abbrev pub IfPassed : Check → Type 0 → Type 0

@@ -5,7 +5,7 @@ use Rattle.sqlx_log.specs.FairLog.{IsFair}
 use Rattle.sqlx_pool_core.specs.declared.steps.Idle.{Idle}
 use Rattle.sqlx_pool_core.specs.Core.{Core}
 use Rattle.sqlx_pool_core.specs.StandsFor.{StandsFor}
-use Rattle.sqlx_pool_core.specs.Moves.{lents, due}
+use Rattle.sqlx_pool_core.specs.Balance.{lents, marks_due}
 use Rattle.sqlx_pool.specs.Booked.{Booked}
 
 -- A core, the log of all that its steps did, the options by which connections are opened, and the books.
@@ -37,4 +37,4 @@ pub record IsKept {C O : Type 0} (levels : C → ℕ) (max : ℕ) (state : PoolS
   pub standing : IsStanding levels max state
   pub asked : length state.core.tickets + 1 ≤ state.core.next_ticket
   pub few : state.booked.made + length state.core.tickets + 1 ≤ 2 ^ 62 + state.core.next_ticket
-  pub room : length state.marks + due state.core ≤ capacity
+  pub room : length state.marks + marks_due state.core ≤ capacity

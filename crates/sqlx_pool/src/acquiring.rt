@@ -7,7 +7,7 @@ ghost use Rattle.sqlx_pool.specs.Polling.{is_ready, IfReady};
 use crate::stage::{Stage, Why};
 use crate::{Loans, PoolConnectionOf, PoolOf, Tally, checks};
 use sqlx_pool_core::Outside;
-use sqlx_pool_core::probe::Check;
+use sqlx_pool_core::idle_check::Check;
 use sqlx_text::{Depth, Error, Moment};
 use std::alloc::Global;
 use std::sync::Wait;

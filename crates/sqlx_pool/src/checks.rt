@@ -9,7 +9,7 @@ ghost use Rattle.sqlx_pool_core.specs.Giving.{is_pass};
 ghost use Rattle.sqlx_pool_core.specs.PollSteps.{judged};
 ghost use Rattle.sqlx_pool.specs.Checks.{IfPassed};
 
-use sqlx_pool_core::probe::{self, Check, Opening};
+use sqlx_pool_core::idle_check::{self, Check, Opening};
 use sqlx_pool_core::{Idle, Lent, Outside, PoolConnectionMetadata, PoolOptions, Verdict};
 use sqlx_text::{Depth, Error, Moment};
 use std::alloc::Global;
@@ -68,7 +68,7 @@ fn tested<C, O, X: Outside<C, O>>(
     ensures judged { judged result ≡ idle.lent.id }
     ensures counts { (X.faults out.old ≤ X.faults out.new) × (X.refusals out.old ≤ X.refusals out.new) }
 {
-    probe::test::<C, O, X>(options, idle, moment, out)
+    idle_check::test::<C, O, X>(options, idle, moment, out)
 }
 
 // Tests an idle connection at a moment, and closes what doesn't pass or has a level open.
@@ -128,7 +128,7 @@ fn tried<C, O, X: Outside<C, O>>(alloc: Global, hook: bool, connect: &O, out: &m
     ensures cause { IfFailed result (λ e. IsForGood (X.faults out.old) (X.faults out.new) e) }
     ensures counts { (X.faults out.old ≤ X.faults out.new) × (X.refusals out.old ≤ X.refusals out.new) }
 {
-    probe::try_connect::<C, O, X>(alloc, hook, connect, out)
+    idle_check::try_connect::<C, O, X>(alloc, hook, connect, out)
 }
 
 // Tries to open a connection, and closes one that its hook refuses or leaves with a level open.
@@ -164,7 +164,7 @@ fn returned<C, O, X: Outside<C, O>>(
 ) -> Check
     ensures counts { (X.faults out.old ≤ X.faults out.new) × (X.refusals out.old ≤ X.refusals out.new) }
 {
-    probe::returns::<C, O, X>(hook, raw, meta, out)
+    idle_check::returns::<C, O, X>(hook, raw, meta, out)
 }
 
 // Tests a connection that comes back: by the hook after a release where it is set, by its depth, and by a ping.

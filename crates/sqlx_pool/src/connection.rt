@@ -6,7 +6,7 @@ ghost use Rattle.sqlx_pool.specs.Returned.{was_kept};
 
 use crate::checks::{close_by, passes};
 use crate::{Held, Loans, PoolOf};
-use sqlx_pool_core::probe::Check;
+use sqlx_pool_core::idle_check::Check;
 use sqlx_pool_core::{Given, Lent, Openings, Outside};
 use sqlx_text::{Depth, Error, Moment};
 use std::alloc::Global;

@@ -6,7 +6,7 @@ ghost use Rattle.sqlx_pool.specs.Booked.{Booked, Tallied};
 ghost use Rattle.sqlx_pool.specs.State.{PoolState, state_of};
 
 mod ask;
-mod keeping;
+mod maintenance;
 mod poll;
 mod questions;
 mod returns;

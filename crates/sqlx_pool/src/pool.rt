@@ -7,7 +7,7 @@ ghost use Rattle.sqlx_pool.specs.Booked.{CountsIf};
 ghost use Rattle.sqlx_pool.specs.Opened.{IsOpenable};
 
 mod first;
-mod keeping;
+mod maintenance;
 mod polls;
 
 use crate::{AcquiringOf, CloseEventOf, Loans, Locked, MarkLog, PoolConnectionOf, Tally};

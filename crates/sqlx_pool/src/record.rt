@@ -2,10 +2,10 @@
 ghost use Rattle.std.specs.Prelude.{◌≡◌, ◌+◌, ◌*◌, ◌≤◌, List, [], ◌∷◌, ◌++◌, false, length, vec_capacity, Option, Some, None, if◌then◌else◌};
 ghost use Rattle.sqlx_log.specs.declared.mark.Mark.{Mark};
 ghost use Rattle.sqlx_pool_core.specs.declared.ticket.Phase.{Phase};
-ghost use Rattle.sqlx_pool_core.specs.Moves.{one_if};
+ghost use Rattle.sqlx_pool_core.specs.Balance.{one_if};
 ghost use Rattle.sqlx_pool_core.specs.PollSteps.{start_marks, test_marks, connect_marks};
 ghost use Rattle.sqlx_pool_core.specs.ReturnSteps.{give_marks};
-ghost use Rattle.sqlx_pool_core.specs.KeepingSteps.{close_marks, reap_marks};
+ghost use Rattle.sqlx_pool_core.specs.MaintenanceSteps.{close_marks, reap_marks};
 
 use sqlx_pool_core::{AfterConnect, AfterTest, Given, Idle, Mark, Start};
 use std::collections::VecDeque;

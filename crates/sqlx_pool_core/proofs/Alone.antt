@@ -16,13 +16,13 @@ use Rattle.sqlx_pool_core.specs.Numbers.{Draws, Stays, under_way}
 use Rattle.sqlx_pool_core.specs.StandsFor.{StandsIn, StandsFor}
 use Rattle.sqlx_pool_core.specs.Makes.{MakesWhere, MakesIn, Makes}
 use Rattle.sqlx_pool_core.specs.Logs.{Logs}
-use Rattle.sqlx_pool_core.specs.Moves.{Moves, ask_room}
-use Rattle.sqlx_pool_core.specs.OwnTurn.{before, is_first_in_line, own_turn, InOwnLine, PastOwnLine}
+use Rattle.sqlx_pool_core.specs.Balance.{Balance, ask_room}
+use Rattle.sqlx_pool_core.specs.CoreTurn.{before, is_first_in_line, core_turn, InOwnLine, PastOwnLine}
 use Rattle.sqlx_pool_core.specs.PollTable.{phase_turn}
 use Rattle.sqlx_pool_core.specs.PollSteps.{phase_for, start_answer}
-use Rattle.sqlx_pool_core.specs.KeepingSteps.{closed_from}
+use Rattle.sqlx_pool_core.specs.MaintenanceSteps.{closed_from}
 use Rattle.sqlx_pool_core.proofs.Stands.{stands-in}
-use Rattle.sqlx_pool_core.proofs.TurnAtMarks.{own_turn-stands}
+use Rattle.sqlx_pool_core.proofs.TurnAtMarks.{core_turn-stands}
 
 -- ---- it stays alone
 
@@ -111,8 +111,8 @@ module _ {C : Type 0} (core now new : Core C) (view : core ≡ now) where
       (λ marks s. record { all = a.all; first = λ is. ltb-true (waiting core.tickets) (free core) (and_parts (not core.closed) (nat_lt (waiting core.tickets) (free core)) (sym past ∙ is)).1 })
 
   -- what a step does to the counts
-  pub moves-alone : (made : Core C → List Mark) (done : List Mark) (backs room : ℕ) → done ≡ made core → Moves core new done backs room → Moves now new (made now) backs room
-  moves-alone made done backs room e m = subst (λ (c : Core C). Moves c new (made c) backs room) view (subst (λ (l : List Mark). Moves core new l backs room) e m)
+  pub moves-alone : (made : Core C → List Mark) (done : List Mark) (backs room : ℕ) → done ≡ made core → Balance core new done backs room → Balance now new (made now) backs room
+  moves-alone made done backs room e m = subst (λ (c : Core C). Balance c new (made c) backs room) view (subst (λ (l : List Mark). Balance core new l backs room) e m)
 
   -- an ask
   pub ask-alone : {E : Type 0} (made : ℕ → ℕ → List Mark) (m n : ℕ) (r : Result ℕ E) → m ≡ max core.last n → IsAlone core → IsSound new → Stays core new → IfOk r (λ t. Draws core new (made t (m + core.options.acquire_timeout)))
@@ -122,14 +122,14 @@ module _ {C : Type 0} (core now new : Core C) (view : core ≡ now) where
       plain-alone (λ (c : Core C). made t (max c.last n + c.options.acquire_timeout)) (made t (m + core.options.acquire_timeout)) (ap (λ (k : ℕ). made t (k + core.options.acquire_timeout)) e) a sound s d mk
   ask-alone made m n (Err e) is a sound s d mk = λ marks stands. tt
 
-  pub ask-moves-alone : {E : Type 0} (made : ℕ → ℕ → List Mark) (m n : ℕ) (r : Result ℕ E) → m ≡ max core.last n → IfOk r (λ t. Moves core new (made t (m + core.options.acquire_timeout)) 0 (ask_room core.options.idle_tries))
-      → IfOk r (λ t. Moves now new (made t (max now.last n + now.options.acquire_timeout)) 0 (ask_room now.options.idle_tries))
+  pub ask-moves-alone : {E : Type 0} (made : ℕ → ℕ → List Mark) (m n : ℕ) (r : Result ℕ E) → m ≡ max core.last n → IfOk r (λ t. Balance core new (made t (m + core.options.acquire_timeout)) 0 (ask_room core.options.idle_tries))
+      → IfOk r (λ t. Balance now new (made t (max now.last n + now.options.acquire_timeout)) 0 (ask_room now.options.idle_tries))
   ask-moves-alone made m n (Ok t) e mk =
-      subst (λ (c : Core C). Moves c new (made t (max c.last n + c.options.acquire_timeout)) 0 (ask_room c.options.idle_tries)) view
-      (subst (λ (k : ℕ). Moves core new (made t (k + core.options.acquire_timeout)) 0 (ask_room core.options.idle_tries)) e mk)
+      subst (λ (c : Core C). Balance c new (made t (max c.last n + c.options.acquire_timeout)) 0 (ask_room c.options.idle_tries)) view
+      (subst (λ (k : ℕ). Balance core new (made t (k + core.options.acquire_timeout)) 0 (ask_room core.options.idle_tries)) e mk)
   ask-moves-alone made m n (Err e) is mk = tt
 
   -- the turn that a lone pool finds is the turn over its marks
-  pub turn-alone : (k t m : ℕ) (r : Start C) → r ≡ start_answer (own_turn now k t m) now.idle
+  pub turn-alone : (k t m : ℕ) (r : Start C) → r ≡ start_answer (core_turn now k t m) now.idle
       → (marks : List Mark) → StandsFor now marks → r ≡ start_answer (phase_turn now.options.max_connections now.places marks k t m (phase_for k t now.tickets)) now.idle
-  turn-alone k t m r is marks s = is ∙ ap (λ (t : Turn). start_answer t now.idle) (own_turn-stands now marks s k t m)
+  turn-alone k t m r is marks s = is ∙ ap (λ (t : Turn). start_answer t now.idle) (core_turn-stands now marks s k t m)

@@ -12,15 +12,15 @@ use Rattle.sqlx_pool_core.specs.declared.steps.Given.{Given}
 use Rattle.sqlx_pool_core.specs.Core.{Core, ticket_of, loan_of, free}
 use Rattle.sqlx_pool_core.specs.Sound.{IsSound}
 use Rattle.sqlx_pool_core.specs.StandsFor.{StandsIn}
-use Rattle.sqlx_pool_core.specs.OwnTurn.{turn_of, InOwnLine, PastOwnLine}
+use Rattle.sqlx_pool_core.specs.CoreTurn.{turn_of, InOwnLine, PastOwnLine}
 use Rattle.sqlx_pool_core.specs.PollSteps.{phase_for, start_answer, start_marks, started, judged, tested_at, may_test_next, test_answer, test_marks, after_test, connect_answer, connect_marks, after_connect, may_cancel, cancel_marks, cancelled, try_lent, try_marks, after_try}
-use Rattle.sqlx_pool_core.specs.ReturnSteps.{give_answer, give_marks, gave, end_marks, detach_marks, leak_marks, released, leaked}
-use Rattle.sqlx_pool_core.specs.KeepingSteps.{reap_answer, reap_marks, reaped, placed, done_marks, done, close_answer, close_marks, closed_from}
+use Rattle.sqlx_pool_core.specs.ReturnSteps.{give_answer, give_marks, core_after_give, end_marks, detach_marks, leak_marks, released, leaked}
+use Rattle.sqlx_pool_core.specs.MaintenanceSteps.{reap_answer, reap_marks, reaped, placed, done_marks, done, close_answer, close_marks, closed_from}
 use Rattle.sqlx_pool_core.specs.Makes.{MakesIn, MakesWhere}
 use Rattle.sqlx_pool_core.proofs.StartMakes.{makes-start}
 use Rattle.sqlx_pool_core.proofs.PollMakes.{makes-tested, makes-tried, makes-cancelled, makes-try}
 use Rattle.sqlx_pool_core.proofs.ReturnMakes.{makes-give, makes-end, makes-detach, makes-leak}
-use Rattle.sqlx_pool_core.proofs.KeepingMakes.{makes-reap, makes-placed, makes-done, makes-close}
+use Rattle.sqlx_pool_core.proofs.MaintenanceMakes.{makes-reap, makes-placed, makes-done, makes-close}
 
 -- an answer, and the core that it left
 answered : {C R W : Type 0} (max : ℕ) (marks : List Mark) (made : R → List Mark) (becomes : R → Core C) (r answer : R) (new : Core C) → r ≡ answer → new ≡ becomes r
@@ -49,9 +49,9 @@ module _ {C : Type 0} (core new : Core C) (marks : List Mark) (sound : IsSound c
   try-answered passes open_yet k m r is left = answered core.options.max_connections marks (try_marks k) (λ x. after_try k m x core) r _ new is left (makes-try core marks sound s k m passes open_yet)
 
   pub give-answered : (k m : ℕ) (lent : LentValue C) (accepted : Bool) (r : Given C) → r ≡ give_answer core.options core.closed m accepted (loan_of k lent.id core.held) lent
-      → new ≡ gave (loan_of k lent.id core.held) lent m r core → MakesIn core.options.max_connections marks (give_marks lent.id m r) new
+      → new ≡ core_after_give (loan_of k lent.id core.held) lent m r core → MakesIn core.options.max_connections marks (give_marks lent.id m r) new
   give-answered k m lent accepted r is left =
-      answered core.options.max_connections marks (give_marks lent.id m) (λ x. gave (loan_of k lent.id core.held) lent m x core) r _ new is left (makes-give core marks sound s k lent m accepted)
+      answered core.options.max_connections marks (give_marks lent.id m) (λ x. core_after_give (loan_of k lent.id core.held) lent m x core) r _ new is left (makes-give core marks sound s k lent m accepted)
 
   pub end-answered : (k c : ℕ) (r : Bool) → r ≡ is_some (loan_of k c core.held) → new ≡ released c r core → MakesIn core.options.max_connections marks (end_marks c r) new
   end-answered k c r is left = answered core.options.max_connections marks (end_marks c) (λ x. released c x core) r _ new is left (makes-end core marks sound s k c)

@@ -9,7 +9,7 @@ use Rattle.sqlx_log.specs.Answers.{owns, is_kept_at, first_conn, lent_past_at, w
 use Rattle.sqlx_log.proofs.ListFacts.{count_by-cons, find-map, found_All, length_map}
 use Rattle.sqlx_pool_core.specs.Limits.{limits_of}
 use Rattle.sqlx_pool_core.specs.declared.ticket.Ticket.{Ticket}
-use Rattle.sqlx_pool_core.specs.declared.ticket.Held.{Held}
+use Rattle.sqlx_pool_core.specs.declared.ticket.OwnedConn.{OwnedConn}
 use Rattle.sqlx_pool_core.specs.declared.ticket.Phase.{Phase}
 use Rattle.sqlx_pool_core.specs.declared.ticket.Phase.TheVariants as phase
 use Rattle.sqlx_pool_core.specs.declared.steps.Idle.{Idle}
@@ -22,7 +22,7 @@ use Rattle.sqlx_pool_core.specs.StandsFor.{StandsFor}
 use Rattle.sqlx_pool_core.specs.PollSteps.{phase_for, may_cancel, is_in_line, try_lent}
 use Rattle.sqlx_pool_core.specs.Answers.{is_busy, lent_conn, is_kept, is_held}
 use Rattle.sqlx_pool_core.specs.ReturnSteps.{give_answer}
-use Rattle.sqlx_pool_core.proofs.KeepingAtMarks.{passes-at}
+use Rattle.sqlx_pool_core.proofs.MaintenanceAtMarks.{passes-at}
 use Rattle.sqlx_pool_core.proofs.Known.{loan-found}
 use Rattle.sqlx_pool_core.proofs.Stands.{IsHeldBorn, stands-in}
 use Rattle.sqlx_pool_core.proofs.TurnAtMarks.{idle-stands, owned-stands, size-stands}
@@ -30,7 +30,7 @@ use Rattle.sqlx_pool_core.proofs.TurnAtMarks.{idle-stands, owned-stands, size-st
 -- ---- owners
 
 -- the client's loan, where there is one
-none_held : (k c : ℕ) (held : List Held) → count_by (holds c) held ≡ 0 → loan_of k c held ≡ None
+none_held : (k c : ℕ) (held : List OwnedConn) → count_by (holds c) held ≡ 0 → loan_of k c held ≡ None
 none_held k c [] e = refl
 none_held k c (h ∷ held) e = by (λ z. none_held k c held z) (c == h.conn) (k == h.client) (sym (count_by-cons (holds c) h held) ∙ e)
   where
@@ -39,7 +39,7 @@ none_held k c (h ∷ held) e = by (λ z. none_held k c held z) (c == h.conn) (k 
     by rest false b z = rest (omega (arith, z))
 
 -- an owner of a connection that is owned once
-owner_is : (k c : ℕ) (held : List Held) → count_by (holds c) held ≤ 1 → owns k (option_map (λ (l : Loan). l.client) (find (is_loan_of c) (map loan held))) ≡ is_some (loan_of k c held)
+owner_is : (k c : ℕ) (held : List OwnedConn) → count_by (holds c) held ≤ 1 → owns k (option_map (λ (l : Loan). l.client) (find (is_loan_of c) (map loan held))) ≡ is_some (loan_of k c held)
 owner_is k c [] one = refl
 owner_is k c (h ∷ held) one = by (λ z. owner_is k c held z) (c == h.conn) (k == h.client) refl (let same = count_by-cons (holds c) h held in omega (arith, one, same))
   where
@@ -127,12 +127,12 @@ module _ {C : Type 0} (core : Core C) (marks : List Mark) (s : StandsFor core ma
   sized-at = size-stands core marks (stands-in core marks s)
 
   module _ (sound : IsSound core) (k m : ℕ) (accepted : Bool) (lent : Lent C) where
-    born : (h : Held) → loan_of k lent.id core.held ≡ Some h → IsBorn marks lent.id h.created.0
+    born : (h : OwnedConn) → loan_of k lent.id core.held ≡ Some h → IsBorn marks lent.id h.created.0
     born h e =
         let here = loan-found core sound k lent.id h e in
         subst (λ n. IsBorn marks n h.created.0) (sym here.conn) (found_All (is_held_by k lent.id) (IsHeldBorn marks) core.held h e s.held_born)
 
-    give_at : (o : Option Held) → loan_of k lent.id core.held ≡ o
+    give_at : (o : Option OwnedConn) → loan_of k lent.id core.held ≡ o
         → (is_kept (give_answer core.options core.shut m accepted o lent) ≡ is_kept_at (limits_of core.options) marks k lent.id m accepted)
         × (is_held (give_answer core.options core.shut m accepted o lent) ≡ owns k (owner_of lent.id marks))
     give_at None e =

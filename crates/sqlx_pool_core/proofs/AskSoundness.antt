@@ -2,7 +2,7 @@
 use Rattle.std.proofs.Common.{◌≡◌, ℕ, ◌+◌, ◌^◌, ◌<◌, ◌≤◌, ◌==◌, List, [], ◌∷◌, ◌++◌, length, ap, sym, ◌∙◌, subst, arith, map, cond, count_by, length-append}
 use Rattle.std.proofs.lemmas.List.{map-append}
 use Rattle.sqlx_pool_core.specs.declared.ticket.Ticket.{Ticket}
-use Rattle.sqlx_pool_core.specs.declared.ticket.Held.{Held}
+use Rattle.sqlx_pool_core.specs.declared.ticket.OwnedConn.{OwnedConn}
 use Rattle.sqlx_pool_core.specs.declared.ticket.Phase.{Phase}
 use Rattle.sqlx_pool_core.specs.declared.ticket.Phase.TheVariants as phase
 use Rattle.sqlx_pool_core.specs.declared.steps.Idle.{Idle}
@@ -36,7 +36,7 @@ sound-asked core x m s waits new few =
     }
 
 -- the first idle connection is lent
-pub sound-tried : {C : Type 0} (core : Core C) (i : Idle C) (rest : List (Idle C)) (h : Held) (held : List Held) (m : ℕ) → IsSound core → 0 < free core → core.idle ≡ i ∷ rest → h.conn ≡ i.lent.id → held ≡ core.held ++ h ∷ []
+pub sound-tried : {C : Type 0} (core : Core C) (i : Idle C) (rest : List (Idle C)) (h : OwnedConn) (held : List OwnedConn) (m : ℕ) → IsSound core → 0 < free core → core.idle ≡ i ∷ rest → h.conn ≡ i.lent.id → held ≡ core.held ++ h ∷ []
     → IsSound (record core { idle = rest; held = held; last = m })
 sound-tried core i rest h held m s permit first same put =
     let n : length core.idle ≡ length (i ∷ rest) = ap length first in

@@ -4,7 +4,7 @@ use Rattle.std.proofs.lemmas.List.{map-append}
 use Rattle.std.proofs.lemmas.List.Sums.{sum_by-append, sum_by-cons}
 use Rattle.sqlx_pool_core.specs.declared.ticket.Phase.{Phase}
 use Rattle.sqlx_pool_core.specs.declared.ticket.Phase.TheVariants as phase
-use Rattle.sqlx_pool_core.specs.Moves.{tests_left, left_to_test, all_left_to_test}
+use Rattle.sqlx_pool_core.specs.Balance.{tests_left, left_to_test, all_left_to_test}
 use Rattle.sqlx_log.proofs.Counting.{one, count-append, count-among}
 use Rattle.sqlx_pool_core.specs.declared.ticket.Ticket.{Ticket}
 use Rattle.sqlx_pool_core.specs.Sound.{IsRising, number_of}

@@ -5,7 +5,7 @@ use Rattle.sqlx_log.specs.declared.mark.Mark.TheVariants.{Asked, Taken, Reaped, 
 use Rattle.sqlx_log.specs.Standing.{next_number}
 use Rattle.sqlx_log.specs.Marks.{asked_number, opened_number}
 use Rattle.sqlx_pool_core.specs.declared.ticket.Ticket.{Ticket}
-use Rattle.sqlx_pool_core.specs.declared.ticket.Held.{Held}
+use Rattle.sqlx_pool_core.specs.declared.ticket.OwnedConn.{OwnedConn}
 use Rattle.sqlx_pool_core.specs.declared.ticket.Phase.{Phase}
 use Rattle.sqlx_pool_core.specs.declared.ticket.Phase.TheVariants as phase
 use Rattle.sqlx_log.specs.declared.turn.Turn.{Turn}
@@ -28,11 +28,11 @@ use Rattle.sqlx_pool_core.specs.declared.steps.Given.TheVariants as given
 use Rattle.sqlx_pool_core.specs.Core.{Core, ticket_of, loan_of, size, gone, is_out, has_gone}
 use Rattle.sqlx_pool_core.specs.Sound.{IsSound}
 use Rattle.sqlx_pool_core.specs.Numbers.{Draws, Stays, under_way}
-use Rattle.sqlx_pool_core.specs.OwnTurn.{turn_of}
-use Rattle.sqlx_pool_core.specs.Edits.{with_ticket, to_next, to_try, to_connect, to_back_off, ended, asked, at_moment}
+use Rattle.sqlx_pool_core.specs.CoreTurn.{turn_of}
+use Rattle.sqlx_pool_core.specs.Edits.{with_ticket, to_next, to_try, to_connect, to_back_off, core_without_ticket, asked, at_moment}
 use Rattle.sqlx_pool_core.specs.PollSteps.{phase_for, start_answer, start_marks, started, judged, tested_at, lent_since, may_test_next, after_refusal, test_answer, test_marks, after_test, try_answer_at, connect_answer, connect_marks, after_connect, wait_of, cancel_marks, cancelled, try_marks, after_try}
-use Rattle.sqlx_pool_core.specs.ReturnSteps.{give_marks, gave, end_marks, detach_marks, leak_marks, released, leaked}
-use Rattle.sqlx_pool_core.specs.KeepingSteps.{reap_marks, reaped, has_place_if, placed, done_marks, placed_back, done_at, done, closed_idle, close_marks, close_answer, closed, closed_from}
+use Rattle.sqlx_pool_core.specs.ReturnSteps.{give_marks, core_after_give, end_marks, detach_marks, leak_marks, released, leaked}
+use Rattle.sqlx_pool_core.specs.MaintenanceSteps.{reap_marks, reaped, has_place_if, placed, done_marks, placed_back, done_at, done, closed_idle, close_marks, close_answer, closed, closed_from}
 use Rattle.std.proofs.lemmas.Bool.{ltb-false}
 use Rattle.sqlx_log.proofs.Counting.{one, count-push}
 use Rattle.sqlx_pool_core.proofs.Counting.{count-changed}
@@ -111,7 +111,7 @@ start_next_conn core t m (start.Test i) = refl
 start_next_conn core t m start.Connect = refl
 
 module _ {C : Type 0} (core : Core C) (sound : IsSound core) (q : Bool) (k t m : ℕ) where
-  fewer : KeepsFew core (at_moment m (ended t core))
+  fewer : KeepsFew core (at_moment m (core_without_ticket t core))
   fewer = let le = gone-ended_le t core.tickets in inl (omega (arith, le))
 
   again : (x : Ticket) → ticket_of k t core.tickets ≡ Some x → is_out x.phase ≡ true → KeepsFew core (at_moment m (record core { tickets = with_ticket t (to_try m) core.tickets }))
@@ -161,7 +161,7 @@ start-draws {C} core new sound q k t m r is left =
 -- ---- finish_connect
 
 module _ {C : Type 0} (core : Core C) (sound : IsSound core) (k t m : ℕ) where
-  over : Draws core (at_moment m (ended t core)) (Ended t ∷ [])
+  over : Draws core (at_moment m (core_without_ticket t core)) (Ended t ∷ [])
   over = record { tickets = refl; conns = refl; more_tickets = omega arith; more_conns = omega arith; few = let le = gone-ended_le t core.tickets in inl (omega (arith, le)) }
 
   nothing : Draws core core []
@@ -212,13 +212,13 @@ connect-draws {C} core new sound k t m a r is left =
 
 -- ---- give
 
-given_draws : {C : Type 0} (core : Core C) (o : Option Held) (lent : LentValue C) (m : ℕ) (r : Given C) → Draws core (gave o lent m r core) (give_marks lent.id m r)
+given_draws : {C : Type 0} (core : Core C) (o : Option OwnedConn) (lent : LentValue C) (m : ℕ) (r : Given C) → Draws core (core_after_give o lent m r core) (give_marks lent.id m r)
 given_draws core (Some h) lent m given.Kept = record { tickets = refl; conns = refl; more_tickets = omega arith; more_conns = omega arith; few = inl (omega arith) }
 given_draws core None lent m given.Kept = record { tickets = refl; conns = refl; more_tickets = omega arith; more_conns = omega arith; few = inl (omega arith) }
 given_draws core o lent m (given.Closed raw) = record { tickets = refl; conns = refl; more_tickets = omega arith; more_conns = omega arith; few = inl (omega arith) }
 given_draws core o lent m (given.NotHeld raw) = record { tickets = refl; conns = refl; more_tickets = omega arith; more_conns = omega arith; few = inl (omega arith) }
 
-pub give-draws : {C : Type 0} (core new : Core C) (k m : ℕ) (lent : LentValue C) (r : Given C) → new ≡ gave (loan_of k lent.id core.held) lent m r core → Draws core new (give_marks lent.id m r)
+pub give-draws : {C : Type 0} (core new : Core C) (k m : ℕ) (lent : LentValue C) (r : Given C) → new ≡ core_after_give (loan_of k lent.id core.held) lent m r core → Draws core new (give_marks lent.id m r)
 give-draws {C} core new k m lent r left = subst (λ (n : Core C). Draws core n (give_marks lent.id m r)) (sym left) (given_draws core (loan_of k lent.id core.held) lent m r)
 
 -- ---- the code of an ask
@@ -262,13 +262,13 @@ connect_stays core k t m connected.Ended = record { options = refl; permits = re
 pub connect-stays : {C : Type 0} (core new : Core C) (k t m : ℕ) (r : AfterConnect C) → new ≡ after_connect k t m r core → Stays core new
 connect-stays {C} core new k t m r left = subst (Stays core) (sym left) (connect_stays core k t m r)
 
-give_stays : {C : Type 0} (core : Core C) (o : Option Held) (lent : LentValue C) (m : ℕ) (r : Given C) → Stays core (gave o lent m r core)
+give_stays : {C : Type 0} (core : Core C) (o : Option OwnedConn) (lent : LentValue C) (m : ℕ) (r : Given C) → Stays core (core_after_give o lent m r core)
 give_stays core (Some h) lent m given.Kept = record { options = refl; permits = refl; shut = refl; closed = refl }
 give_stays core None lent m given.Kept = record { options = refl; permits = refl; shut = refl; closed = refl }
 give_stays core o lent m (given.Closed raw) = record { options = refl; permits = refl; shut = refl; closed = refl }
 give_stays core o lent m (given.NotHeld raw) = stays-self core
 
-pub give-stays : {C : Type 0} (core new : Core C) (o : Option Held) (lent : LentValue C) (m : ℕ) (r : Given C) → new ≡ gave o lent m r core → Stays core new
+pub give-stays : {C : Type 0} (core new : Core C) (o : Option OwnedConn) (lent : LentValue C) (m : ℕ) (r : Given C) → new ≡ core_after_give o lent m r core → Stays core new
 give-stays {C} core new o lent m r left = subst (Stays core) (sym left) (give_stays core o lent m r)
 
 pub ask-stays : {C E : Type 0} (core new : Core C) (k d m : ℕ) (r : Result ℕ E) → OnOk r (new ≡ at_moment m (asked k d core)) → OnErr r (new ≡ core) → Stays core new
@@ -294,7 +294,7 @@ pub cancel-draws : {C : Type 0} (core new : Core C) (t : ℕ) (r : Bool) → new
 cancel-draws {C} core new t r left = subst (λ (n : Core C). Draws core n (cancel_marks t r)) (sym left) (by r)
   where
     by : (r : Bool) → Draws core (cancelled t r core) (cancel_marks t r)
-    by true = let le = gone-ended_le t core.tickets in numbers-nothing core (ended t core) (Ended t ∷ []) refl refl refl refl (omega (arith, le))
+    by true = let le = gone-ended_le t core.tickets in numbers-nothing core (core_without_ticket t core) (Ended t ∷ []) refl refl refl refl (omega (arith, le))
     by false = numbers-nothing core core [] refl refl refl refl (omega arith)
 
 pub cancel-stays : {C : Type 0} (core new : Core C) (t : ℕ) (r : Bool) → new ≡ cancelled t r core → Stays core new
@@ -373,7 +373,7 @@ module _ {C : Type 0} (core : Core C) (sound : IsSound core) (k t : ℕ) where
   by_answer : (x : Ticket) → ticket_of k t core.tickets ≡ Some x → is_out x.phase ≡ true → (v : Verdict C) (created : Moment) (shut next : Bool) (idle : List (Idle C))
       → Draws core (after_test k t (test_answer (Some created) shut next idle v) core) (test_marks k t (judged v) (test_answer (Some created) shut next idle v))
   by_answer x e out v created true next idle =
-      let le = gone-ended_le t core.tickets in numbers-nothing core (ended t core) (Closed (judged v) ∷ Ended t ∷ []) refl refl refl refl (omega (arith, le))
+      let le = gone-ended_le t core.tickets in numbers-nothing core (core_without_ticket t core) (Closed (judged v) ∷ Ended t ∷ []) refl refl refl refl (omega (arith, le))
   by_answer x e out (verdict.Accepted lent) created false next idle =
       let le = gone-ended_le t core.tickets in numbers-nothing core (after_test k t (tested.Ready (lent_since created lent)) core) (Lent k lent.id ∷ Ended t ∷ []) refl refl refl refl (omega (arith, le))
   by_answer x e out (verdict.Refused c) created false next idle = goes_on x e out c next idle

@@ -5,7 +5,7 @@ use Rattle.sqlx_text.specs.declared.Moment.{Moment}
 use Rattle.sqlx_log.specs.declared.mark.Mark.{Mark}
 use Rattle.sqlx_log.specs.declared.mark.Mark.TheVariants.{Asked, Left, Taken, Opened, Lent, Kept, Ended, Shut}
 use Rattle.sqlx_pool_core.specs.declared.ticket.Ticket.{Ticket}
-use Rattle.sqlx_pool_core.specs.declared.ticket.Held.{Held}
+use Rattle.sqlx_pool_core.specs.declared.ticket.OwnedConn.{OwnedConn}
 use Rattle.sqlx_pool_core.specs.declared.ticket.Phase.TheVariants as phase
 use Rattle.sqlx_pool_core.specs.declared.steps.Idle.{Idle}
 use Rattle.sqlx_pool_core.specs.declared.steps.Lent.{Lent as LentValue}
@@ -15,7 +15,7 @@ use Rattle.sqlx_pool_core.specs.Core.{Core, asking, loan, resting, is_out}
 use Rattle.sqlx_pool_core.specs.Sound.{holds, rests}
 use Rattle.sqlx_log.specs.Born.{IsBorn}
 use Rattle.sqlx_pool_core.specs.StandsFor.{StandsIn}
-use Rattle.sqlx_pool_core.specs.Edits.{without_ticket, with_ticket, without_loan, without_idle, is_another_ticket, is_another_loan, is_another_idle, ended, lent_to, unlent, kept as rested_last, took, asked, opened}
+use Rattle.sqlx_pool_core.specs.Edits.{without_ticket, with_ticket, without_loan, without_idle, is_another_ticket, is_another_loan, is_another_idle, core_without_ticket, lent_to, core_without_loan, kept as rested_last, core_without_first, asked, opened}
 use Rattle.sqlx_log.proofs.ListFacts.{or-false, or-true, same_number, number_comm, filter_none, filter-map, map-push, count_by-cons}
 use Rattle.sqlx_log.proofs.Pushed.{IsBorn-push, IsBorn-opened}
 use Rattle.sqlx_log.proofs.Same.{kept, same, kept_tickets, same_tickets}
@@ -28,7 +28,7 @@ ticket_gone t tickets =
     ap (map asking) (filter_agree (is_another_ticket t) (λ x. not (x.number == t)) (λ x. ap not (number_comm t x.number)) tickets)
     ∙ sym (filter-map asking (λ (a : PendingTicket). not (a.ticket == t)) tickets)
 
-pub loan_gone : (c : ℕ) (held : List Held) → map loan (without_loan c held) ≡ filter (λ l. not (l.conn == c)) (map loan held)
+pub loan_gone : (c : ℕ) (held : List OwnedConn) → map loan (without_loan c held) ≡ filter (λ l. not (l.conn == c)) (map loan held)
 loan_gone c held =
     ap (map loan) (filter_agree (is_another_loan c) (λ x. not (x.conn == c)) (λ x. ap not (number_comm c x.conn)) held)
     ∙ sym (filter-map loan (λ (l : Loan). not (l.conn == c)) held)
@@ -103,9 +103,9 @@ stands-left core marks t f leaves born lt s =
       tested_born = tested_spared marks (Left t) (λ c. refl) (with_ticket t f core.tickets) (changed_born marks t f core.tickets born s.tested_born);
     }
 
-pub stands-ended : {C : Type 0} (core : Core C) (marks : List Mark) (t : ℕ) → t < core.next_ticket → StandsIn core marks → StandsIn (ended t core) (marks ++ Ended t ∷ [])
+pub stands-ended : {C : Type 0} (core : Core C) (marks : List Mark) (t : ℕ) → t < core.next_ticket → StandsIn core marks → StandsIn (core_without_ticket t core) (marks ++ Ended t ∷ [])
 stands-ended core marks t lt s =
-    stands-push core (ended t core) marks (Ended t) s record {
+    stands-push core (core_without_ticket t core) marks (Ended t) s record {
       tickets = ticket_gone t core.tickets ∙ sym (map-id (filter (λ (a : PendingTicket). not (a.ticket == t)) (map asking core.tickets)))
           ∙ sym (append-nil (map (λ (a : PendingTicket). a) (filter (λ (a : PendingTicket). not (a.ticket == t)) (map asking core.tickets))));
       loans = same (map loan core.held);
@@ -150,7 +150,7 @@ pub stands-lent : {C : Type 0} (core : Core C) (marks : List Mark) (k c : ℕ) (
     → StandsIn core marks → StandsIn (lent_to k c created core) (marks ++ Lent k c ∷ [])
 stands-lent core marks k c created unowned born lt s =
     let n = Lent k c in
-    let h : Held = record { conn = c; client = k; created = created } in
+    let h : OwnedConn = record { conn = c; client = k; created = created } in
     stands-push core (lent_to k c created core) marks n s record {
       tickets = same_tickets (map asking core.tickets);
       loans = map-push loan core.held h ∙ ap (λ l. l ++ loan h ∷ []) (ap (map loan) (sym (filter_none (holds c) core.held unowned)) ∙ loan_gone c core.held);
@@ -169,11 +169,11 @@ stands-lent core marks k c created unowned born lt s =
 
 -- a connection that rests, owned before or not
 pub stands-kept : {C : Type 0} (core : Core C) (marks : List Mark) (lent : LentValue C) (m : ℕ) → count_by (rests lent.id) core.idle ≡ 0 → IsBorn marks lent.id lent.created.0 → lent.id < core.next_conn
-    → StandsIn core marks → StandsIn (rested_last lent m (unlent lent.id core)) (marks ++ Kept lent.id m ∷ [])
+    → StandsIn core marks → StandsIn (rested_last lent m (core_without_loan lent.id core)) (marks ++ Kept lent.id m ∷ [])
 stands-kept {C} core marks lent m restless born lt s =
     let n = Kept lent.id m in
     let i : Idle C = record { lent = lent; since = record { 0 = m } } in
-    stands-push core (rested_last lent m (unlent lent.id core)) marks n s record {
+    stands-push core (rested_last lent m (core_without_loan lent.id core)) marks n s record {
       tickets = same_tickets (map asking core.tickets);
       loans = loan_gone lent.id core.held ∙ sym (append-nil (filter (λ (l : Loan). not (l.conn == lent.id)) (map loan core.held)));
       idle = map-push resting core.idle i ∙ ap (λ l. l ++ resting i ∷ []) (ap (map resting) (sym (filter_none (rests lent.id) core.idle restless)) ∙ idle_gone lent.id core.idle);
@@ -206,11 +206,11 @@ drop_first i rest idle e le =
     ap (drop 1) e ∙ sym (ap (without_idle i.lent.id) e ∙ ap (λ (b : Bool). cond (not b) (i ∷ without_idle i.lent.id rest) (without_idle i.lent.id rest)) (same_number i.lent.id) ∙ filter_none (rests i.lent.id) rest others)
 
 pub stands-taken : {C : Type 0} (core : Core C) (marks : List Mark) (i : Idle C) (rest : List (Idle C)) → core.idle ≡ i ∷ rest → count_by (rests i.lent.id) core.idle ≤ 1 → i.lent.id < core.next_conn
-    → StandsIn core marks → StandsIn (took core) (marks ++ Taken i.lent.id ∷ [])
+    → StandsIn core marks → StandsIn (core_without_first core) (marks ++ Taken i.lent.id ∷ [])
 stands-taken {C} core marks i rest e once lt s =
     let n = Taken i.lent.id in
     let gone = drop_first i rest core.idle e once in
-    stands-push core (took core) marks n s record {
+    stands-push core (core_without_first core) marks n s record {
       tickets = same_tickets (map asking core.tickets);
       loans = same (map loan core.held);
       idle = ap (map resting) gone ∙ idle_gone i.lent.id core.idle ∙ sym (append-nil (filter (λ (r : IdleEntry). not (r.conn == i.lent.id)) (map resting core.idle)));

@@ -7,7 +7,7 @@ use Rattle.sqlx_log.specs.declared.mark.Mark.TheVariants.{Asked, Opened, Lent, K
 use Rattle.sqlx_pool_core.specs.declared.options.PoolOptions.{PoolOptions}
 use Rattle.sqlx_pool_core.specs.declared.steps.CloseState.TheVariants as state
 use Rattle.sqlx_log.specs.EventTable.{reaped_at, has_place_at, closed_at}
-use Rattle.sqlx_pool_core.specs.KeepingSteps.{close_state_of}
+use Rattle.sqlx_pool_core.specs.MaintenanceSteps.{close_state_of}
 
 -- a pool of this maximum, in which a connection is idle for 10 at most and lives for 100
 abbrev options : ℕ → PoolOptions

@@ -5,7 +5,7 @@ use Rattle.std.proofs.lemmas.Bool.{and_parts}
 use Rattle.sqlx_log.specs.declared.mark.Mark.{Mark}
 use Rattle.sqlx_log.specs.declared.mark.Mark.TheVariants.{Asked, Taken, Reaped, Opened, Lent, Kept, Closed, Detached, Leaked, Ended, Shut}
 use Rattle.sqlx_pool_core.specs.declared.ticket.Ticket.{Ticket}
-use Rattle.sqlx_pool_core.specs.declared.ticket.Held.{Held}
+use Rattle.sqlx_pool_core.specs.declared.ticket.OwnedConn.{OwnedConn}
 use Rattle.sqlx_pool_core.specs.declared.steps.Idle.{Idle}
 use Rattle.sqlx_log.specs.Standing.{last_mark}
 use Rattle.sqlx_log.specs.Marks.{PendingTicket, LiveConn, tickets_of, idle_of, live_of, is_live_conn, is_loan_of, is_shut}
@@ -98,7 +98,7 @@ module _ {C : Type 0} (core : Core C) (marks : List Mark) (s : StandsIn core mar
       let own : is_owned c (view_of marks) ≡ false = sym (owned-is core marks s c) ∙ none_any (holds c) core.held unowned in
       rw (live, rest, own) refl
 
-  owned-finds : (k c : ℕ) (h : Held) → loan_of k c core.held ≡ Some h → IsTrue (is_owned c (view_of marks))
+  owned-finds : (k c : ℕ) (h : OwnedConn) → loan_of k c core.held ≡ Some h → IsTrue (is_owned c (view_of marks))
   owned-finds k c h e =
       sym (owned-is core marks s c) ∙ found_any (is_held_by k c) (holds c) core.held h e (and_parts (c == h.conn) (k == h.client) (found_passes (is_held_by k c) core.held h e)).0
 
@@ -160,7 +160,7 @@ module _ {C W : Type 0} (max : ℕ) (core new : Core C) (marks : List Mark) (s :
     order = past;
   }
 
-  pub fair-kept : (k c m : ℕ) (h : Held) (next : Option Mark) → core.shut ≡ false → loan_of k c core.held ≡ Some h → StandsIn new (marks ++ Kept c m ∷ []) → size new ≤ max
+  pub fair-kept : (k c m : ℕ) (h : OwnedConn) (next : Option Mark) → core.shut ≡ false → loan_of k c core.held ≡ Some h → StandsIn new (marks ++ Kept c m ∷ []) → size new ≤ max
       → IsMark W max (view_of marks) (view_of (marks ++ Kept c m ∷ [])) (last_mark None marks) (Kept c m) next
   fair-kept k c m h next open_yet e after le = record {
     finds = (open-stands core marks s open_yet, inr (owned-finds core marks s k c h e));
@@ -184,11 +184,11 @@ module _ {C W : Type 0} (max : ℕ) (core new : Core C) (marks : List Mark) (s :
     order = λ w. tt;
   }
 
-  pub fair-detached : (k c : ℕ) (h : Held) (next : Option Mark) → loan_of k c core.held ≡ Some h → StandsIn new (marks ++ Detached c ∷ []) → size new ≤ max
+  pub fair-detached : (k c : ℕ) (h : OwnedConn) (next : Option Mark) → loan_of k c core.held ≡ Some h → StandsIn new (marks ++ Detached c ∷ []) → size new ≤ max
       → IsMark W max (view_of marks) (view_of (marks ++ Detached c ∷ [])) (last_mark None marks) (Detached c) next
   fair-detached k c h next e after le = record { finds = owned-finds core marks s k c h e; keeps = within-stands new (marks ++ Detached c ∷ []) after max le; order = λ w. tt }
 
-  pub fair-leaked : (k c : ℕ) (h : Held) (next : Option Mark) → loan_of k c core.held ≡ Some h → StandsIn new (marks ++ Leaked c ∷ []) → size new ≤ max
+  pub fair-leaked : (k c : ℕ) (h : OwnedConn) (next : Option Mark) → loan_of k c core.held ≡ Some h → StandsIn new (marks ++ Leaked c ∷ []) → size new ≤ max
       → IsMark W max (view_of marks) (view_of (marks ++ Leaked c ∷ [])) (last_mark None marks) (Leaked c) next
   fair-leaked k c h next e after le = record { finds = owned-finds core marks s k c h e; keeps = within-stands new (marks ++ Leaked c ∷ []) after max le; order = λ w. tt }
 

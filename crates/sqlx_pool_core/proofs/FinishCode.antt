@@ -3,7 +3,7 @@ use Rattle.std.proofs.Common.{◌≡◌, ℕ, ◌+◌, ◌<◌, ◌==◌, List, 
 use Rattle.std.proofs.lemmas.Bool.Decides.{eqb_tells}
 use Rattle.sqlx_text.specs.declared.Moment.{Moment}
 use Rattle.sqlx_pool_core.specs.declared.ticket.Ticket.{Ticket}
-use Rattle.sqlx_pool_core.specs.declared.ticket.Held.{Held}
+use Rattle.sqlx_pool_core.specs.declared.ticket.OwnedConn.{OwnedConn}
 use Rattle.sqlx_pool_core.specs.declared.ticket.Phase.{Phase}
 use Rattle.sqlx_pool_core.specs.declared.ticket.Phase.TheVariants as phase
 use Rattle.sqlx_pool_core.specs.Core.{Core, ticket_of, is_out, has_gone}
@@ -49,14 +49,14 @@ lends_room core x c created s t found =
 pub lending-room : {C : Type 0} (core now : Core C) (x : Ticket) (c : ℕ) (created : Moment) → core ≡ now → IsSound core → tested_at c (Some x.phase) ≡ Some created → ticket_of x.client x.number now.tickets ≡ Some x → length core.held < core.options.max_connections
 lending-room {C} core now x c created view s t = subst (λ (n : Core C). ticket_of x.client x.number n.tickets ≡ Some x → length core.held < core.options.max_connections) view (lends_room core x c created s t)
 
-lends_sound : {C : Type 0} (core : Core C) (x : Ticket) (h : Held) (tickets : List Ticket) (held : List Held) → IsSound core → tested_at h.conn (Some x.phase) ≡ Some h.created
+lends_sound : {C : Type 0} (core : Core C) (x : Ticket) (h : OwnedConn) (tickets : List Ticket) (held : List OwnedConn) → IsSound core → tested_at h.conn (Some x.phase) ≡ Some h.created
     → tickets ≡ without_ticket x.number core.tickets → held ≡ core.held ++ h ∷ []
     → ticket_of x.client x.number core.tickets ≡ Some x → IsSound (record core { tickets = tickets; held = held })
 lends_sound core x h tickets held s t e f found =
     let p = (tested-phase h.conn x.phase h.created t).1 in
     rw (e, f) (sound-served_tested core x.number x h core.last s (among core x.client x.number x s found) (ap is_out p) (λ c. ap (is_tested c) p))
 
-pub lending-sound : {C : Type 0} (core now : Core C) (x : Ticket) (h : Held) (tickets : List Ticket) (held : List Held) → core ≡ now → IsSound core → tested_at h.conn (Some x.phase) ≡ Some h.created
+pub lending-sound : {C : Type 0} (core now : Core C) (x : Ticket) (h : OwnedConn) (tickets : List Ticket) (held : List OwnedConn) → core ≡ now → IsSound core → tested_at h.conn (Some x.phase) ≡ Some h.created
     → tickets ≡ without_ticket x.number core.tickets → held ≡ core.held ++ h ∷ []
     → ticket_of x.client x.number now.tickets ≡ Some x → IsSound (record core { tickets = tickets; held = held })
 lending-sound {C} core now x h tickets held view s t e f =
@@ -103,13 +103,13 @@ connects_room core x s e found = room-to-lend core x.number x s (among core x.cl
 pub connecting-room : {C : Type 0} (core now : Core C) (x : Ticket) → core ≡ now → IsSound core → x.phase ≡ phase.Connecting → ticket_of x.client x.number now.tickets ≡ Some x → length core.held < core.options.max_connections
 connecting-room {C} core now x view s e = subst (λ (n : Core C). ticket_of x.client x.number n.tickets ≡ Some x → length core.held < core.options.max_connections) view (connects_room core x s e)
 
-connects_sound : {C : Type 0} (core : Core C) (x : Ticket) (h : Held) (m : ℕ) (tickets : List Ticket) (held : List Held) → IsSound core → x.phase ≡ phase.Connecting → h.conn ≡ core.next_conn
+connects_sound : {C : Type 0} (core : Core C) (x : Ticket) (h : OwnedConn) (m : ℕ) (tickets : List Ticket) (held : List OwnedConn) → IsSound core → x.phase ≡ phase.Connecting → h.conn ≡ core.next_conn
     → tickets ≡ without_ticket x.number core.tickets → held ≡ core.held ++ h ∷ []
     → ticket_of x.client x.number core.tickets ≡ Some x → IsSound (record core { tickets = tickets; held = held; next_conn = core.next_conn + 1; last = m })
 connects_sound core x h m tickets held s p new e f found =
     rw (e, f) (sound-served_new core x.number x h m s (among core x.client x.number x s found) (out-connecting x.phase p) new)
 
-pub connecting-sound : {C : Type 0} (core now : Core C) (x : Ticket) (h : Held) (m : ℕ) (tickets : List Ticket) (held : List Held) → core ≡ now → IsSound core → x.phase ≡ phase.Connecting → h.conn ≡ core.next_conn
+pub connecting-sound : {C : Type 0} (core now : Core C) (x : Ticket) (h : OwnedConn) (m : ℕ) (tickets : List Ticket) (held : List OwnedConn) → core ≡ now → IsSound core → x.phase ≡ phase.Connecting → h.conn ≡ core.next_conn
     → tickets ≡ without_ticket x.number core.tickets → held ≡ core.held ++ h ∷ []
     → ticket_of x.client x.number now.tickets ≡ Some x → IsSound (record core { tickets = tickets; held = held; next_conn = core.next_conn + 1; last = m })
 connecting-sound {C} core now x h m tickets held view s p new e f =

@@ -4,7 +4,7 @@ use Rattle.std.proofs.lemmas.Bool.{not-true}
 use Rattle.sqlx_log.specs.declared.mark.Mark.{Mark}
 use Rattle.sqlx_log.specs.declared.mark.Mark.TheVariants.{Reaped, Closed, Detached, Leaked}
 use Rattle.sqlx_pool_core.specs.declared.ticket.Ticket.{Ticket}
-use Rattle.sqlx_pool_core.specs.declared.ticket.Held.{Held}
+use Rattle.sqlx_pool_core.specs.declared.ticket.OwnedConn.{OwnedConn}
 use Rattle.sqlx_pool_core.specs.declared.ticket.Phase.{Phase}
 use Rattle.sqlx_pool_core.specs.declared.ticket.Phase.TheVariants as phase
 use Rattle.sqlx_pool_core.specs.declared.steps.Idle.{Idle}
@@ -13,7 +13,7 @@ use Rattle.sqlx_pool_core.specs.Core.{Core, asking, loan, resting}
 use Rattle.sqlx_pool_core.specs.Sound.{holds, rests, tests, is_tested}
 use Rattle.sqlx_log.specs.Born.{IsBorn}
 use Rattle.sqlx_pool_core.specs.StandsFor.{StandsIn, IsTestedBorn}
-use Rattle.sqlx_pool_core.specs.Edits.{without_loan, without_idle, is_another_loan, is_another_idle, unlent, took}
+use Rattle.sqlx_pool_core.specs.Edits.{without_loan, without_idle, is_another_loan, is_another_idle, core_without_loan, core_without_first}
 use Rattle.sqlx_pool_core.specs.ReturnSteps.{leaked}
 use Rattle.sqlx_log.proofs.ListFacts.{or-false, number_comm, filter_none, All-filter_if, All-passing}
 use Rattle.sqlx_log.proofs.Pushed.{IsBorn-push}
@@ -37,7 +37,7 @@ module _ (marks : List Mark) (n : Mark) (c : ℕ) (going : IsGoing c n) where
   stays_tested phase.Connecting e born = tt
   stays_tested (phase.Backoff until) e born = tt
 
-  held_left : (held : List Held) → All (IsHeldBorn marks) held → All (IsHeldBorn (marks ++ n ∷ [])) (without_loan c held)
+  held_left : (held : List OwnedConn) → All (IsHeldBorn marks) held → All (IsHeldBorn (marks ++ n ∷ [])) (without_loan c held)
   held_left held all = All-filter_if (IsHeldBorn marks) (IsHeldBorn (marks ++ n ∷ [])) (is_another_loan c) (λ x e b. stays x.conn x.created.0 e b) held all
 
   idle_left : {C : Type 0} (idle : List (Idle C)) → All (IsIdleBorn marks) idle → All (IsIdleBorn (marks ++ n ∷ [])) (without_idle c idle)
@@ -46,7 +46,7 @@ module _ (marks : List Mark) (n : Mark) (c : ℕ) (going : IsGoing c n) where
   tested_left : (tickets : List Ticket) → count_by (tests c) tickets ≡ 0 → All (IsTicketBorn marks) tickets → All (IsTicketBorn (marks ++ n ∷ [])) tickets
   tested_left tickets none all = All-passing (IsTicketBorn marks) (IsTicketBorn (marks ++ n ∷ [])) (tests c) (λ x e b. stays_tested x.phase e b) tickets none all
 
-  held_others : (held : List Held) → count_by (holds c) held ≡ 0 → All (IsHeldBorn marks) held → All (IsHeldBorn (marks ++ n ∷ [])) held
+  held_others : (held : List OwnedConn) → count_by (holds c) held ≡ 0 → All (IsHeldBorn marks) held → All (IsHeldBorn (marks ++ n ∷ [])) held
   held_others held none all = All-passing (IsHeldBorn marks) (IsHeldBorn (marks ++ n ∷ [])) (holds c) (λ x e b. stays x.conn x.created.0 e b) held none all
 
   idle_others : {C : Type 0} (idle : List (Idle C)) → count_by (rests c) idle ≡ 0 → All (IsIdleBorn marks) idle → All (IsIdleBorn (marks ++ n ∷ [])) idle
@@ -78,7 +78,7 @@ stands-closed core marks c tickets alike born untested lt s =
 
 -- an owned connection is closed
 pub stands-closed_owned : {C : Type 0} (core : Core C) (marks : List Mark) (c : ℕ) → count_by (tests c) core.tickets ≡ 0 → count_by (rests c) core.idle ≡ 0 → c < core.next_conn
-    → StandsIn core marks → StandsIn (unlent c core) (marks ++ Closed c ∷ [])
+    → StandsIn core marks → StandsIn (core_without_loan c core) (marks ++ Closed c ∷ [])
 stands-closed_owned core marks c untested restless lt s =
     subst (λ idle. StandsIn (record core { held = without_loan c core.held; idle = idle }) (marks ++ Closed c ∷ [])) (filter_none (rests c) core.idle restless)
     (stands-closed core marks c core.tickets refl s.tested_born untested lt s)
@@ -95,7 +95,7 @@ stands-closed_tested core marks c tickets alike born untested unowned restless l
 -- the first idle connection is closed
 pub stands-closed_first : {C : Type 0} (core : Core C) (marks : List Mark) (i : Idle C) (rest : List (Idle C)) → core.idle ≡ i ∷ rest → count_by (rests i.lent.id) core.idle ≤ 1
     → count_by (tests i.lent.id) core.tickets ≡ 0 → count_by (holds i.lent.id) core.held ≡ 0 → i.lent.id < core.next_conn
-    → StandsIn core marks → StandsIn (took core) (marks ++ Closed i.lent.id ∷ [])
+    → StandsIn core marks → StandsIn (core_without_first core) (marks ++ Closed i.lent.id ∷ [])
 stands-closed_first core marks i rest e once untested unowned lt s =
     subst (λ held. StandsIn (record core { held = held; idle = drop 1 core.idle }) (marks ++ Closed i.lent.id ∷ [])) (filter_none (holds i.lent.id) core.held unowned)
     (subst (λ idle. StandsIn (record core { held = without_loan i.lent.id core.held; idle = idle }) (marks ++ Closed i.lent.id ∷ [])) (sym (drop_first i rest core.idle e once))
@@ -124,10 +124,10 @@ stands-reaped core marks c untested unowned lt s =
     }
 
 pub stands-detached : {C : Type 0} (core : Core C) (marks : List Mark) (c : ℕ) → count_by (tests c) core.tickets ≡ 0 → count_by (rests c) core.idle ≡ 0 → c < core.next_conn
-    → StandsIn core marks → StandsIn (unlent c core) (marks ++ Detached c ∷ [])
+    → StandsIn core marks → StandsIn (core_without_loan c core) (marks ++ Detached c ∷ [])
 stands-detached core marks c untested restless lt s =
     let n = Detached c in
-    stands-push core (unlent c core) marks n s record {
+    stands-push core (core_without_loan c core) marks n s record {
       tickets = same_tickets (map asking core.tickets);
       loans = loan_gone c core.held ∙ sym (append-nil (filter (λ (l : Loan). not (l.conn == c)) (map loan core.held)));
       idle = same (map resting core.idle);

@@ -3,7 +3,7 @@ use Rattle.std.proofs.Common.{◌≡◌, ℕ, ◌+◌, ◌≤◌, ◌<◌, Bool,
 use Rattle.std.proofs.lemmas.Bool.{eqb-true, and_parts, cases_lt, ne_eqb}
 use Rattle.std.proofs.lemmas.List.Elements.{All-nil, All-cons, All-head, All-tail, All-weaker}
 use Rattle.sqlx_pool_core.specs.declared.ticket.Ticket.{Ticket}
-use Rattle.sqlx_pool_core.specs.declared.ticket.Held.{Held}
+use Rattle.sqlx_pool_core.specs.declared.ticket.OwnedConn.{OwnedConn}
 use Rattle.sqlx_pool_core.specs.declared.steps.Idle.{Idle}
 use Rattle.sqlx_pool_core.specs.Core.{Core, is_out, is_of, ticket_of, is_held_by, loan_of, asking, gone, has_gone}
 use Rattle.sqlx_pool_core.specs.Sound.{IsSound, IsRising, number_of, holds, rests, tests, places_of}
@@ -79,7 +79,7 @@ module _ {C : Type 0} (core : Core C) (sound : IsSound core) where
       below (inr le) = let none = sound.opened c le in absurd (omega (arith, none))
 
   -- what is owned is neither under test nor idle
-  pub record IsOwned (k c : ℕ) (h : Held) : Type 0 where
+  pub record IsOwned (k c : ℕ) (h : OwnedConn) : Type 0 where
     pub conn : c ≡ h.conn
     pub client : k ≡ h.client
     pub owned : count_by (holds c) core.held ≡ 1
@@ -87,7 +87,7 @@ module _ {C : Type 0} (core : Core C) (sound : IsSound core) where
     pub restless : count_by (rests c) core.idle ≡ 0
     pub below : c < core.next_conn
 
-  pub loan-found : (k c : ℕ) (h : Held) → loan_of k c core.held ≡ Some h → IsOwned k c h
+  pub loan-found : (k c : ℕ) (h : OwnedConn) → loan_of k c core.held ≡ Some h → IsOwned k c h
   loan-found k c h e =
       let both = and_parts (c == h.conn) (k == h.client) (found_passes (is_held_by k c) core.held h e) in
       let some : 1 ≤ count_by (holds c) core.held = found_counts (is_held_by k c) (holds c) core.held h e both.0 in

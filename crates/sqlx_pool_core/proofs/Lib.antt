@@ -11,7 +11,7 @@ pub mod Known
 pub mod Fair
 pub mod StartMakes
 pub mod PollMakes
-pub mod KeepingMakes
+pub mod MaintenanceMakes
 pub mod ReturnMakes
 pub mod Answered
 pub mod PollCode
@@ -19,18 +19,18 @@ pub mod FinishCode
 pub mod AskSoundness
 pub mod GiveCode
 pub mod AskCode
-pub mod KeepingCode
-pub mod Moving
+pub mod MaintenanceCode
+pub mod BalanceLemmas
 pub mod Drawn
 pub mod Alone
-pub mod KeepingAtMarks
+pub mod MaintenanceAtMarks
 pub mod AnswersAtMarks
 mod EventRows
 pub mod WholePoll
 pub mod Polling
 pub mod CallsKeep
 pub mod PollEnds
-pub mod Keeping
+pub mod Maintenance
 pub mod Lacking
 pub mod KeepEnds
 pub mod KeepRuns

@@ -9,7 +9,7 @@ use Rattle.sqlx_pool_core.specs.declared.steps.Idle.{Idle}
 use Rattle.sqlx_pool_core.specs.declared.steps.Start.TheVariants as start
 use Rattle.sqlx_pool_core.specs.Core.{Core, ticket_of, free}
 use Rattle.sqlx_pool_core.specs.Sound.{IsSound, number_of}
-use Rattle.sqlx_pool_core.specs.OwnTurn.{turn_of}
+use Rattle.sqlx_pool_core.specs.CoreTurn.{turn_of}
 use Rattle.sqlx_pool_core.specs.Edits.{with_ticket, to_test, to_try, to_try_at}
 use Rattle.sqlx_pool_core.specs.Place.{IsAmong}
 use Rattle.sqlx_pool_core.specs.PollSteps.{started}

@@ -9,10 +9,10 @@ use Rattle.sqlx_text.specs.declared.error.Error.TheVariants.{OutOfMemory}
 use Rattle.sqlx_log.specs.declared.mark.Mark.{Mark}
 use Rattle.sqlx_pool_core.specs.declared.options.PoolOptions.{PoolOptions}
 use Rattle.sqlx_pool_core.specs.declared.outside.PoolConnectionMetadata.{PoolConnectionMetadata}
-use Rattle.sqlx_pool_core.specs.declared.probe.Check.{Check}
-use Rattle.sqlx_pool_core.specs.declared.probe.Check.TheVariants as check
-use Rattle.sqlx_pool_core.specs.declared.probe.Opening.{Opening}
-use Rattle.sqlx_pool_core.specs.declared.probe.Opening.TheVariants as opening
+use Rattle.sqlx_pool_core.specs.declared.idle_check.Check.{Check}
+use Rattle.sqlx_pool_core.specs.declared.idle_check.Check.TheVariants as check
+use Rattle.sqlx_pool_core.specs.declared.idle_check.Opening.{Opening}
+use Rattle.sqlx_pool_core.specs.declared.idle_check.Opening.TheVariants as opening
 use Rattle.sqlx_pool_core.specs.declared.steps.Idle.{Idle}
 use Rattle.sqlx_pool_core.specs.declared.steps.Lent.{Lent}
 use Rattle.sqlx_pool_core.specs.declared.steps.Start.{Start}
@@ -30,7 +30,7 @@ use Rattle.sqlx_pool_core.specs.Calls.{Call, Facts, Levels, connect, ping}
 use Rattle.sqlx_pool_core.specs.Chain.{check_by, Pings, LooksIf, Sorts, Tests, SetsUp, KeepsIf, Follows, Tries}
 use Rattle.sqlx_pool_core.specs.Core.{Core}
 use Rattle.sqlx_pool_core.specs.Outside.{HasRisen, says_ok, is_transient}
-use Rattle.sqlx_pool_core.specs.OwnTurn.{own_turn}
+use Rattle.sqlx_pool_core.specs.CoreTurn.{core_turn}
 use Rattle.sqlx_pool_core.specs.PollParts.{IfAccepted, IfOpened, IfFailed, IfReady, IfRefused, IsForGood, first_depth, StayAtRest}
 use Rattle.sqlx_pool_core.specs.PollSteps.{phase_for, start_answer, started, tested_at, may_test_next, test_answer, after_test}
 use Rattle.sqlx_pool_core.specs.Walk.{Next, Test, Connect, Answer, first, then_by, last, judges, tells, Connects, Goes, Polls}
@@ -301,7 +301,7 @@ module _ {C O X : Type 0} (does : Call C O → X → X → Type 0) (depth : X �
   goes-rest others tries later (v ∷ vs) (Answer a) core new old now r made is rests g = absurd g
   goes-rest others tries later (v ∷ vs) Connect core new old now r made is rests g = absurd g
 
-  begun-is : (core : Core C) (begun : Start C) (old : X) → begun ≡ start_answer (own_turn core k t m) core.idle → first_depth (depth old) core.idle ≡ 0
+  begun-is : (core : Core C) (begun : Start C) (old : X) → begun ≡ start_answer (core_turn core k t m) core.idle → first_depth (depth old) core.idle ≡ 0
       → Is (drop 1 core.idle) core.options.idle_tries (first begun) (started t m begun core) old
   begun-is core start.NotHeld old step h = record { rest = tt; under = tt; tries_is = refl }
   begun-is core start.Closed old step h = record { rest = tt; under = tt; tries_is = refl }

@@ -18,7 +18,7 @@ use Rattle.sqlx_pool_core.specs.Core.{Core, asking, is_out, is_of, ticket_of, si
 use Rattle.sqlx_pool_core.specs.Sound.{IsSound, rests, holds, tests, is_tested}
 use Rattle.sqlx_log.specs.Born.{IsBorn}
 use Rattle.sqlx_pool_core.specs.StandsFor.{StandsIn, IsTestedBorn}
-use Rattle.sqlx_pool_core.specs.Edits.{with_ticket, without_ticket, to_connect, to_next, to_back_off, ended, lent_to, took, opened, asked, at_moment}
+use Rattle.sqlx_pool_core.specs.Edits.{with_ticket, without_ticket, to_connect, to_next, to_back_off, core_without_ticket, lent_to, core_without_first, opened, asked, at_moment}
 use Rattle.sqlx_pool_core.specs.PollSteps.{phase_for, judged, tested_at, after_refusal, test_answer, test_marks, after_test, wait_of, try_answer_at, connect_answer, connect_marks, after_connect, may_cancel, cancel_marks, cancelled, try_lent, try_marks, after_try}
 use Rattle.sqlx_log.proofs.ListFacts.{found_All, count_by-cons, count_by-push, length-push, same_number}
 use Rattle.sqlx_log.proofs.Pushed.{IsBorn-push}
@@ -28,7 +28,7 @@ use Rattle.sqlx_pool_core.proofs.Gone.{stands-closed_tested}
 use Rattle.sqlx_pool_core.proofs.TurnAtMarks.{left-asking, waiting-stands, free-places}
 use Rattle.sqlx_pool_core.proofs.Known.{ticket-below, ticket-is_only, ticket-changed, alike-changed, gone-changed, gone-ended, gone-ended_le, idle-first, test-found, tested-changed}
 use Rattle.sqlx_pool_core.specs.Makes.{MakesIn, MakesWhere}
-use Rattle.sqlx_pool_core.specs.OwnTurn.{PastOwnLine}
+use Rattle.sqlx_pool_core.specs.CoreTurn.{PastOwnLine}
 use Rattle.sqlx_log.specs.View.{view_of, free as free_in}
 use Rattle.sqlx_pool_core.proofs.Fair.{makes-none, makes-one, makes-more, fair-asked, fair-ended, fair-taken, fair-opened, fair-served, fair-lent, fair-closed}
 use Rattle.sqlx_pool_core.proofs.StartMakes.{alike-out, makes-ended}
@@ -52,13 +52,13 @@ makes-asked core marks sound s k deadline last open_yet =
 pub makes-served : {C : Type 0} (max : ℕ) (core : Core C) (marks : List Mark) → StandsIn core marks → size core ≤ max → (k t c : ℕ) (created : Moment) (x : Ticket) (last : ℕ)
     → core.shut ≡ false → ticket_of k t core.tickets ≡ Some x → is_out x.phase ≡ true → t < core.next_ticket
     → IsBorn marks c created.0 → c < core.next_conn → count_by (holds c) core.held ≡ 0 → count_by (rests c) core.idle ≡ 0
-    → MakesIn max marks (Lent k c ∷ Ended t ∷ []) (record (ended t (lent_to k c created core)) { last = last })
+    → MakesIn max marks (Lent k c ∷ Ended t ∷ []) (record (core_without_ticket t (lent_to k c created core)) { last = last })
 makes-served max core marks s all k t c created x last open_yet e out t_below born below unowned restless =
     let mid = lent_to k c created core in
     let lent : StandsIn mid (marks ++ Lent k c ∷ []) = stands-lent core marks k c created unowned born below s in
-    let new = record (ended t mid) { last = last } in
-    let made : StandsIn (ended t mid) ((marks ++ Lent k c ∷ []) ++ Ended t ∷ []) = stands-ended mid (marks ++ Lent k c ∷ []) t t_below lent in
-    let after : StandsIn new ((marks ++ Lent k c ∷ []) ++ Ended t ∷ []) = stands-beside (ended t mid) ((marks ++ Lent k c ∷ []) ++ Ended t ∷ []) core.options core.places last made in
+    let new = record (core_without_ticket t mid) { last = last } in
+    let made : StandsIn (core_without_ticket t mid) ((marks ++ Lent k c ∷ []) ++ Ended t ∷ []) = stands-ended mid (marks ++ Lent k c ∷ []) t t_below lent in
+    let after : StandsIn new ((marks ++ Lent k c ∷ []) ++ Ended t ∷ []) = stands-beside (core_without_ticket t mid) ((marks ++ Lent k c ∷ []) ++ Ended t ∷ []) core.options core.places last made in
     let fewer = gone-ended k t core.tickets x e out in
     let one_more : length mid.held ≡ length core.held + 1 = length-push core.held _ in
     makes-more max marks (Lent k c) (Ended t ∷ []) new
@@ -98,7 +98,7 @@ module _ {C : Type 0} (core : Core C) (marks : List Mark) (sound : IsSound core)
 
       -- the connection under test is closed, and the first idle one is taken
       makes-next : (i : Idle C) (rest : List (Idle C)) → core.idle ≡ i ∷ rest → core.shut ≡ false
-          → MakesIn core.options.max_connections marks (Closed c ∷ Taken i.lent.id ∷ []) (took (record core { tickets = with_ticket t (to_next i) core.tickets }))
+          → MakesIn core.options.max_connections marks (Closed c ∷ Taken i.lent.id ∷ []) (core_without_first (record core { tickets = with_ticket t (to_next i) core.tickets }))
       makes-next i rest first open_yet =
           let here = test-found core sound k t c x e tested in
           let resting_one = idle-first core sound i rest first in
@@ -110,25 +110,25 @@ module _ {C : Type 0} (core : Core C) (marks : List Mark) (sound : IsSound core)
           let closed : StandsIn mid (marks ++ Closed c ∷ []) = stands-closed_tested core marks c (with_ticket t (to_next i) core.tickets) (alike (to_next i) (λ y. refl) out)
           (changed_born marks t (to_next i) core.tickets (λ y. its) s.tested_born)
           (tested-changed core sound k t c (to_next i) x e tested (λ y. apart)) here.unowned here.restless here.below s in
-          let after : StandsIn (took mid) ((marks ++ Closed c ∷ []) ++ Taken i.lent.id ∷ []) = stands-taken mid (marks ++ Closed c ∷ []) i rest first (omega (arith, one)) resting_one.below closed in
+          let after : StandsIn (core_without_first mid) ((marks ++ Closed c ∷ []) ++ Taken i.lent.id ∷ []) = stands-taken mid (marks ++ Closed c ∷ []) i rest first (omega (arith, one)) resting_one.below closed in
           let long : length core.idle ≡ suc (length rest) = ap length first in
           let short : length (drop 1 core.idle) ≡ length rest = ap (λ l. length (drop 1 l)) first in
           let all = sound.within in
-          makes-more core.options.max_connections marks (Closed c) (Taken i.lent.id ∷ []) (took mid)
+          makes-more core.options.max_connections marks (Closed c) (Taken i.lent.id ∷ []) (core_without_first mid)
           (fair-closed core.options.max_connections core mid marks s c m (Some (Taken i.lent.id)) born closed (omega (arith, same, all)))
-          (makes-one core.options.max_connections (marks ++ Closed c ∷ []) (Taken i.lent.id) (took mid) after
-          (fair-taken core.options.max_connections mid (took mid) (marks ++ Closed c ∷ []) closed i rest None open_yet first after (omega (arith, same, long, short, all))))
+          (makes-one core.options.max_connections (marks ++ Closed c ∷ []) (Taken i.lent.id) (core_without_first mid) after
+          (fair-taken core.options.max_connections mid (core_without_first mid) (marks ++ Closed c ∷ []) closed i rest None open_yet first after (omega (arith, same, long, short, all))))
 
       -- the connection under test is closed, and its ticket ends
-      makes-stopped : MakesIn core.options.max_connections marks (Closed c ∷ Ended t ∷ []) (ended t core)
+      makes-stopped : MakesIn core.options.max_connections marks (Closed c ∷ Ended t ∷ []) (core_without_ticket t core)
       makes-stopped =
           let mid = record core { tickets = with_ticket t to_connect core.tickets } in
-          let new = ended t core in
+          let new = core_without_ticket t core in
           let same = as_many to_connect (alike to_connect (λ y. refl) out) in
           let all = sound.within in
           let there : ticket_of k t mid.tickets ≡ Some (to_connect x) = ticket-changed k t to_connect core.tickets x (λ y. (refl, refl)) e in
           let gone_too : without_ticket t (with_ticket t to_connect core.tickets) ≡ without_ticket t core.tickets = gone-changed t to_connect core.tickets (λ y. refl) in
-          let made : StandsIn (ended t mid) ((marks ++ Closed c ∷ []) ++ Ended t ∷ []) = stands-ended mid (marks ++ Closed c ∷ []) t (ticket-below core sound k t x e) stands-refused in
+          let made : StandsIn (core_without_ticket t mid) ((marks ++ Closed c ∷ []) ++ Ended t ∷ []) = stands-ended mid (marks ++ Closed c ∷ []) t (ticket-below core sound k t x e) stands-refused in
           let after : StandsIn new ((marks ++ Closed c ∷ []) ++ Ended t ∷ []) = subst (λ l. StandsIn (record core { tickets = l }) ((marks ++ Closed c ∷ []) ++ Ended t ∷ [])) gone_too made in
           let le = gone-ended_le t core.tickets in
           makes-more core.options.max_connections marks (Closed c) (Ended t ∷ []) new
@@ -137,7 +137,7 @@ module _ {C : Type 0} (core : Core C) (marks : List Mark) (sound : IsSound core)
           (fair-ended core.options.max_connections mid new (marks ++ Closed c ∷ []) stands-refused k t (to_connect x) None there after (omega (arith, le, all))))
 
       -- the connection under test is lent, and its ticket ends
-      makes-ready : (created : Moment) → created.0 ≡ m → core.shut ≡ false → MakesIn core.options.max_connections marks (Lent k c ∷ Ended t ∷ []) (ended t (lent_to k c created core))
+      makes-ready : (created : Moment) → created.0 ≡ m → core.shut ≡ false → MakesIn core.options.max_connections marks (Lent k c ∷ Ended t ∷ []) (core_without_ticket t (lent_to k c created core))
       makes-ready created same open_yet =
           let here = test-found core sound k t c x e tested in
           makes-served core.options.max_connections core marks s sound.within k t c created x core.last open_yet e out (ticket-below core sound k t x e)
@@ -178,13 +178,13 @@ module _ {C : Type 0} (core : Core C) (marks : List Mark) (sound : IsSound core)
 
     -- the new connection is lent, and the ticket ends
     makes-connected : (m : ℕ) → core.shut ≡ false → is_out x.phase ≡ true
-        → MakesIn core.options.max_connections marks (Opened core.next_conn m ∷ Lent k core.next_conn ∷ Ended t ∷ []) (at_moment m (ended t (lent_to k core.next_conn (record { 0 = m }) (opened core))))
+        → MakesIn core.options.max_connections marks (Opened core.next_conn m ∷ Lent k core.next_conn ∷ Ended t ∷ []) (at_moment m (core_without_ticket t (lent_to k core.next_conn (record { 0 = m }) (opened core))))
     makes-connected m open_yet out =
         let n = Opened core.next_conn m in
         let mid = opened core in
         let there : StandsIn mid (marks ++ n ∷ []) = stands-opened core marks m s in
         let nowhere = sound.opened core.next_conn (omega arith) in
-        makes-more core.options.max_connections marks n (Lent k core.next_conn ∷ Ended t ∷ []) (at_moment m (ended t (lent_to k core.next_conn (record { 0 = m }) (opened core))))
+        makes-more core.options.max_connections marks n (Lent k core.next_conn ∷ Ended t ∷ []) (at_moment m (core_without_ticket t (lent_to k core.next_conn (record { 0 = m }) (opened core))))
         (fair-opened core.options.max_connections core mid marks s m (Some (Lent k core.next_conn)) open_yet there sound.within)
         (makes-served core.options.max_connections mid (marks ++ n ∷ []) there sound.within k t core.next_conn (record { 0 = m }) x m open_yet e out (ticket-below core sound k t x e)
         (born-opened core marks m s) (omega arith) (omega (arith, nowhere)) (omega (arith, nowhere)))
@@ -256,13 +256,13 @@ module _ {C : Type 0} (core : Core C) (marks : List Mark) (sound : IsSound core)
 
 module _ {C : Type 0} (core : Core C) (marks : List Mark) (sound : IsSound core) (s : StandsIn core marks) (k m : ℕ) (passes : Bool) (open_yet : passes ≡ true → core.closed ≡ false) where
   lent-first : (i : Idle C) (rest : List (Idle C)) → core.idle ≡ i ∷ rest → passes ≡ true
-      → MakesWhere (PastOwnLine core passes) core.options.max_connections marks (Taken i.lent.id ∷ Lent k i.lent.id ∷ []) (at_moment m (lent_to k i.lent.id i.lent.created (took core)))
+      → MakesWhere (PastOwnLine core passes) core.options.max_connections marks (Taken i.lent.id ∷ Lent k i.lent.id ∷ []) (at_moment m (lent_to k i.lent.id i.lent.created (core_without_first core)))
   lent-first i rest first passed =
       let is_open : core.shut ≡ false = sound.own (open_yet passed) in
       let c = i.lent.id in
       let here = idle-first core sound i rest first in
       let once = here.idle in
-      let mid = took core in
+      let mid = core_without_first core in
       let born : IsBorn marks c i.lent.created.0 = All-head (IsIdleBorn marks) i rest (subst (All (IsIdleBorn marks)) first s.idle_born) in
       let taken : StandsIn mid (marks ++ Taken c ∷ []) = stands-taken core marks i rest first (omega (arith, once)) here.below s in
       let born_still : IsBorn (marks ++ Taken c ∷ []) c i.lent.created.0 = IsBorn-push marks (Taken c) c i.lent.created.0 refl born in

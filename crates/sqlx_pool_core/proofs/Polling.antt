@@ -3,9 +3,9 @@ use Rattle.std.proofs.Common.{◌≡◌, ℕ, Bool, true, false, ◌==◌, Optio
 use Rattle.sqlx_text.specs.declared.Moment.{Moment}
 use Rattle.sqlx_log.specs.declared.mark.Mark.{Mark}
 use Rattle.sqlx_pool_core.specs.declared.options.PoolOptions.{PoolOptions}
-use Rattle.sqlx_pool_core.specs.declared.probe.Check.{Check}
-use Rattle.sqlx_pool_core.specs.declared.probe.Check.TheVariants as check
-use Rattle.sqlx_pool_core.specs.declared.probe.Opening.{Opening}
+use Rattle.sqlx_pool_core.specs.declared.idle_check.Check.{Check}
+use Rattle.sqlx_pool_core.specs.declared.idle_check.Check.TheVariants as check
+use Rattle.sqlx_pool_core.specs.declared.idle_check.Opening.{Opening}
 use Rattle.sqlx_pool_core.specs.declared.steps.Idle.{Idle}
 use Rattle.sqlx_pool_core.specs.declared.steps.Lent.{Lent}
 use Rattle.sqlx_pool_core.specs.declared.steps.Start.{Start}
@@ -23,7 +23,7 @@ use Rattle.sqlx_pool_core.specs.Core.{Core, ticket_of}
 use Rattle.sqlx_pool_core.specs.Edits.{with_ticket, to_connect, to_next, tested_so_far}
 use Rattle.sqlx_pool_core.specs.Logs.{Logs}
 use Rattle.sqlx_pool_core.specs.Makes.{Makes}
-use Rattle.sqlx_pool_core.specs.OwnTurn.{own_turn}
+use Rattle.sqlx_pool_core.specs.CoreTurn.{core_turn}
 use Rattle.sqlx_pool_core.specs.PollParts.{untested}
 use Rattle.sqlx_pool_core.specs.PollSteps.{phase_for, start_answer, start_marks, started, judged, tested_at, after_refusal, test_answer, test_marks, after_test, try_answer_at, connect_answer}
 use Rattle.sqlx_pool_core.specs.Walk.{Next, Test, Answer, first, then_by, tried_of, judges, tells, Goes, GoesOn, Polls}
@@ -149,7 +149,7 @@ module _ {C O X : Type 0} (does : Call C O → X → X → Type 0) (depth : X �
       }
 
   -- the pool's first step, and what follows it
-  pub begun-polls : (core mid new : Core C) (old now : X) (begun : Start C) (result : Polled C) → begun ≡ start_answer (own_turn core k t m) core.idle → mid ≡ started t m begun core
+  pub begun-polls : (core mid new : Core C) (old now : X) (begun : Start C) (result : Polled C) → begun ≡ start_answer (core_turn core k t m) core.idle → mid ≡ started t m begun core
       → mid.options ≡ core.options → Logs core (start_marks t (phase_for k t core.tickets) begun) mid → GoesOn does depth options k t m (first begun) mid new old now result → Polls does depth options k t m core new old now result
   begun-polls core mid new old now begun result step becomes same makes on = record {
     begun = begun;
@@ -161,7 +161,7 @@ module _ {C O X : Type 0} (does : Call C O → X → X → Type 0) (depth : X �
   }
 
   -- a poll that asks nothing
-  pub plain-polls : (core new : Core C) (now : X) (begun : Start C) (answer : Polled C) → begun ≡ start_answer (own_turn core k t m) core.idle → first begun ≡ Answer answer → new ≡ started t m begun core
+  pub plain-polls : (core new : Core C) (now : X) (begun : Start C) (answer : Polled C) → begun ≡ start_answer (core_turn core k t m) core.idle → first begun ≡ Answer answer → new ≡ started t m begun core
       → Logs core (start_marks t (phase_for k t core.tickets) begun) new → Polls does depth options k t m core new now now answer
   plain-polls core new now begun answer step plain becomes makes = record {
     begun = begun;

@@ -2,18 +2,18 @@
 use Rattle.std.proofs.Common.{◌≡◌, ℕ, ◌+◌, ◌<◌, ◌≤◌, ◌==◌, List, [], ◌∷◌, ◌++◌, length, refl, ap, sym, ◌∙◌, subst, arith, Bool, true, false, cond, count_by, inl, inr, length-append}
 use Rattle.std.proofs.lemmas.Bool.Decides.{eqb_tells}
 use Rattle.sqlx_pool_core.specs.declared.ticket.Ticket.{Ticket}
-use Rattle.sqlx_pool_core.specs.declared.ticket.Held.{Held}
+use Rattle.sqlx_pool_core.specs.declared.ticket.OwnedConn.{OwnedConn}
 use Rattle.sqlx_pool_core.specs.declared.ticket.Phase.{Phase}
 use Rattle.sqlx_pool_core.specs.declared.ticket.Phase.TheVariants as phase
 use Rattle.sqlx_pool_core.specs.declared.steps.Idle.{Idle}
 use Rattle.sqlx_pool_core.specs.Core.{Core, has_gone, size, taken, is_out, free}
 use Rattle.sqlx_pool_core.specs.Sound.{IsSound, IsRising, number_of, tests, holds, rests, places_of, is_tested}
-use Rattle.sqlx_pool_core.specs.Edits.{with_ticket, without_ticket, is_another_ticket, ended, at_moment, to_test, to_next, to_try, to_try_at, to_connect}
+use Rattle.sqlx_pool_core.specs.Edits.{with_ticket, without_ticket, is_another_ticket, core_without_ticket, at_moment, to_test, to_next, to_try, to_try_at, to_connect}
 use Rattle.sqlx_pool_core.specs.Place.{IsAmong}
 use Rattle.sqlx_log.proofs.Counting.{one, count-filter, count-push, count-cons}
 use Rattle.sqlx_pool_core.proofs.Counting.{count-changed, count-ended, numbers-changed, rising-filter}
 
-pub sound-ended : {C : Type 0} (t m : ℕ) (core : Core C) → IsSound core → IsSound (at_moment m (ended t core))
+pub sound-ended : {C : Type 0} (t m : ℕ) (core : Core C) → IsSound core → IsSound (at_moment m (core_without_ticket t core))
 sound-ended t m core s = record {
   some = s.some;
   few = s.few;
@@ -111,11 +111,11 @@ sound-goes_on core t x f m s is same out none =
 -- ---- loans
 
 -- Whatever ends the ticket, the owned connections have one more, which was under test or is new.
-abbrev served : {C : Type 0} → Core C → ℕ → Held → ℕ → ℕ → Core C
+abbrev served : {C : Type 0} → Core C → ℕ → OwnedConn → ℕ → ℕ → Core C
 served core t h next m = record core { tickets = without_ticket t core.tickets; held = core.held ++ h ∷ []; next_conn = next; last = m }
 
 -- the connection under test is lent
-pub sound-served_tested : {C : Type 0} (core : Core C) (t : ℕ) (x : Ticket) (h : Held) (m : ℕ)
+pub sound-served_tested : {C : Type 0} (core : Core C) (t : ℕ) (x : Ticket) (h : OwnedConn) (m : ℕ)
     → IsSound core → IsAmong t x core.tickets → is_out x.phase ≡ true → ((c : ℕ) → is_tested c x.phase ≡ (c == h.conn)) → IsSound (served core t h core.next_conn m)
 sound-served_tested core t x h m s is out tested =
     let was : one has_gone x ≡ 1 = ap (λ (b : Bool). cond b 1 0) out in
@@ -143,7 +143,7 @@ sound-served_tested core t x h m s is out tested =
     }
 
 -- a new connection is lent
-pub sound-served_new : {C : Type 0} (core : Core C) (t : ℕ) (x : Ticket) (h : Held) (m : ℕ)
+pub sound-served_new : {C : Type 0} (core : Core C) (t : ℕ) (x : Ticket) (h : OwnedConn) (m : ℕ)
     → IsSound core → IsAmong t x core.tickets → is_out x.phase ≡ true → h.conn ≡ core.next_conn → IsSound (served core t h (core.next_conn + 1) m)
 sound-served_new core t x h m s is out new =
     let was : one has_gone x ≡ 1 = ap (λ (b : Bool). cond b 1 0) out in

@@ -5,7 +5,7 @@ use Rattle.sqlx_log.specs.declared.mark.Mark.{Mark}
 use Rattle.sqlx_log.specs.declared.mark.Mark.TheVariants.{Asked, Left, Taken, Reaped, Opened, Lent, Kept, Closed, Detached, Leaked, Ended, Shut}
 use Rattle.sqlx_pool_core.specs.declared.options.PoolOptions.{PoolOptions}
 use Rattle.sqlx_pool_core.specs.declared.ticket.Ticket.{Ticket}
-use Rattle.sqlx_pool_core.specs.declared.ticket.Held.{Held}
+use Rattle.sqlx_pool_core.specs.declared.ticket.OwnedConn.{OwnedConn}
 use Rattle.sqlx_pool_core.specs.declared.ticket.Phase.{Phase}
 use Rattle.sqlx_pool_core.specs.declared.ticket.Phase.TheVariants as phase
 use Rattle.sqlx_pool_core.specs.declared.steps.Idle.{Idle}
@@ -19,7 +19,7 @@ use Rattle.sqlx_log.proofs.Pushed.{loans_of-push, idle_of-push, tickets_of-push,
 
 -- ---- what the core keeps of births
 
-abbrev pub IsHeldBorn : List Mark → Held → Type 0
+abbrev pub IsHeldBorn : List Mark → OwnedConn → Type 0
 IsHeldBorn marks h = IsBorn marks h.conn h.created.0
 
 abbrev pub IsIdleBorn : {C : Type 0} → List Mark → Idle C → Type 0
@@ -91,7 +91,7 @@ tested_push marks n spares phase.Connecting h = tt
 tested_push marks n spares (phase.Backoff until) h = tt
 
 module _ (marks : List Mark) (n : Mark) (spares : (c : ℕ) → ends_conn c n ≡ false) where
-  pub held_spared : (held : List Held) → All (IsHeldBorn marks) held → All (IsHeldBorn (marks ++ n ∷ [])) held
+  pub held_spared : (held : List OwnedConn) → All (IsHeldBorn marks) held → All (IsHeldBorn (marks ++ n ∷ [])) held
   held_spared held h = All-weaker (IsHeldBorn marks) (IsHeldBorn (marks ++ n ∷ [])) (λ x b. IsBorn-push marks n x.conn x.created.0 (spares x.conn) b) held h
 
   pub idle_spared : {C : Type 0} (idle : List (Idle C)) → All (IsIdleBorn marks) idle → All (IsIdleBorn (marks ++ n ∷ [])) idle

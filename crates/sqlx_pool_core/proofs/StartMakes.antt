@@ -16,11 +16,11 @@ use Rattle.sqlx_log.specs.View.{view_of, before, free as free_in}
 use Rattle.sqlx_pool_core.specs.Core.{Core, asking, resting, is_out, is_of, ticket_of, free}
 use Rattle.sqlx_log.specs.PollTable.{in_time, first_idle, numbered}
 use Rattle.sqlx_pool_core.specs.PollTable.{is_at_rest, backs_off_until}
-use Rattle.sqlx_pool_core.specs.OwnTurn.{before as before_own, turn_of, InOwnLine}
+use Rattle.sqlx_pool_core.specs.CoreTurn.{before as before_own, turn_of, InOwnLine}
 use Rattle.sqlx_pool_core.specs.Sound.{IsSound}
 use Rattle.sqlx_log.specs.Born.{IsBorn}
 use Rattle.sqlx_pool_core.specs.StandsFor.{StandsIn}
-use Rattle.sqlx_pool_core.specs.Edits.{with_ticket, without_ticket, to_test, to_try, to_try_at, to_connect, ended, took, at_moment}
+use Rattle.sqlx_pool_core.specs.Edits.{with_ticket, without_ticket, to_test, to_try, to_try_at, to_connect, core_without_ticket, core_without_first, at_moment}
 use Rattle.sqlx_pool_core.specs.PollSteps.{phase_for, start_answer, start_marks, started}
 use Rattle.sqlx_log.specs.FairLog.{is_in_line, KeepsSize, GoesOn}
 use Rattle.sqlx_log.proofs.ListFacts.{found_passes}
@@ -59,10 +59,10 @@ alike-out f x leaves out = leaves x ∙ ap (λ (b : Bool). record (asking x) { l
 
 module _ {C : Type 0} (core : Core C) (marks : List Mark) (sound : IsSound core) (s : StandsIn core marks) (k t m : ℕ) (x : Ticket) (e : ticket_of k t core.tickets ≡ Some x) where
   -- the ticket ends where it stands
-  pub makes-ended : {W : Type 0} (last : ℕ) → MakesWhere W core.options.max_connections marks (Ended t ∷ []) (record (ended t core) { last = last })
+  pub makes-ended : {W : Type 0} (last : ℕ) → MakesWhere W core.options.max_connections marks (Ended t ∷ []) (record (core_without_ticket t core) { last = last })
   makes-ended last =
-      let new = record (ended t core) { last = last } in
-      let after : StandsIn new (marks ++ Ended t ∷ []) = stands-beside (ended t core) (marks ++ Ended t ∷ []) core.options core.places last (stands-ended core marks t (ticket-below core sound k t x e) s) in
+      let new = record (core_without_ticket t core) { last = last } in
+      let after : StandsIn new (marks ++ Ended t ∷ []) = stands-beside (core_without_ticket t core) (marks ++ Ended t ∷ []) core.options core.places last (stands-ended core marks t (ticket-below core sound k t x e) s) in
       makes-one core.options.max_connections marks (Ended t) new after
       (fair-ended core.options.max_connections core new marks s k t x None e after (let le = gone-ended_le t core.tickets in let all = sound.within in omega (arith, le, all)))
 
@@ -97,17 +97,17 @@ module _ {C : Type 0} (core : Core C) (marks : List Mark) (sound : IsSound core)
 
   module _ (open_yet : core.shut ≡ false) (waiting : x.phase ≡ phase.Waiting) (permit : 0 < free core) where
     -- the numbers of connections are used up
-    makes-exhausted : 2 ^ 63 < core.next_conn → MakesWhere (InOwnLine core marks t q) core.options.max_connections marks (Left t ∷ Ended t ∷ []) (at_moment m (ended t core))
+    makes-exhausted : 2 ^ 63 < core.next_conn → MakesWhere (InOwnLine core marks t q) core.options.max_connections marks (Left t ∷ Ended t ∷ []) (at_moment m (core_without_ticket t core))
     makes-exhausted used =
         let below = ticket-below core sound k t x e in
         let mid = record core { tickets = with_ticket t to_connect core.tickets } in
         let left : StandsIn mid (marks ++ Left t ∷ []) = stands-left core marks t to_connect (λ y. refl) (λ y. tt) below s in
         let there : ticket_of k t mid.tickets ≡ Some (to_connect x) = ticket-changed k t to_connect core.tickets x (λ y. (refl, refl)) e in
         let gone_too : without_ticket t (with_ticket t to_connect core.tickets) ≡ without_ticket t core.tickets = gone-changed t to_connect core.tickets (λ y. refl) in
-        let new = at_moment m (ended t core) in
-        let made : StandsIn (ended t mid) ((marks ++ Left t ∷ []) ++ Ended t ∷ []) = stands-ended mid (marks ++ Left t ∷ []) t below left in
+        let new = at_moment m (core_without_ticket t core) in
+        let made : StandsIn (core_without_ticket t mid) ((marks ++ Left t ∷ []) ++ Ended t ∷ []) = stands-ended mid (marks ++ Left t ∷ []) t below left in
         let after : StandsIn new ((marks ++ Left t ∷ []) ++ Ended t ∷ [])
-        = stands-beside (ended t core) ((marks ++ Left t ∷ []) ++ Ended t ∷ []) core.options core.places m (subst (λ l. StandsIn (record core { tickets = l }) ((marks ++ Left t ∷ []) ++ Ended t ∷ [])) gone_too made) in
+        = stands-beside (core_without_ticket t core) ((marks ++ Left t ∷ []) ++ Ended t ∷ []) core.options core.places m (subst (λ l. StandsIn (record core { tickets = l }) ((marks ++ Left t ∷ []) ++ Ended t ∷ [])) gone_too made) in
         makes-more core.options.max_connections marks (Left t) (Ended t ∷ []) new
         (fair-left (Some (Ended t)) open_yet waiting (λ w. goes w core.idle) tt)
         (makes-one core.options.max_connections (marks ++ Left t ∷ []) (Ended t) new after
@@ -120,7 +120,7 @@ module _ {C : Type 0} (core : Core C) (marks : List Mark) (sound : IsSound core)
 
     -- the first idle connection is tested
     makes-test : (i : Idle C) (rest : List (Idle C)) → core.idle ≡ i ∷ rest
-        → MakesWhere (InOwnLine core marks t q) core.options.max_connections marks (Left t ∷ Taken i.lent.id ∷ []) (at_moment m (took (record core { tickets = with_ticket t (to_test m i) core.tickets })))
+        → MakesWhere (InOwnLine core marks t q) core.options.max_connections marks (Left t ∷ Taken i.lent.id ∷ []) (at_moment m (core_without_first (record core { tickets = with_ticket t (to_test m i) core.tickets })))
     makes-test i rest first =
         let below = ticket-below core sound k t x e in
         let mid = record core { tickets = with_ticket t (to_test m i) core.tickets } in
@@ -128,9 +128,9 @@ module _ {C : Type 0} (core : Core C) (marks : List Mark) (sound : IsSound core)
         let left : StandsIn mid (marks ++ Left t ∷ []) = stands-left core marks t (to_test m i) (λ y. refl) (λ y. born) below s in
         let resting_one = idle-first core sound i rest first in
         let one = resting_one.idle in
-        let new = at_moment m (took mid) in
-        let made : StandsIn (took mid) ((marks ++ Left t ∷ []) ++ Taken i.lent.id ∷ []) = stands-taken mid (marks ++ Left t ∷ []) i rest first (omega (arith, one)) resting_one.below left in
-        let after : StandsIn new ((marks ++ Left t ∷ []) ++ Taken i.lent.id ∷ []) = stands-beside (took mid) ((marks ++ Left t ∷ []) ++ Taken i.lent.id ∷ []) core.options core.places m made in
+        let new = at_moment m (core_without_first mid) in
+        let made : StandsIn (core_without_first mid) ((marks ++ Left t ∷ []) ++ Taken i.lent.id ∷ []) = stands-taken mid (marks ++ Left t ∷ []) i rest first (omega (arith, one)) resting_one.below left in
+        let after : StandsIn new ((marks ++ Left t ∷ []) ++ Taken i.lent.id ∷ []) = stands-beside (core_without_first mid) ((marks ++ Left t ∷ []) ++ Taken i.lent.id ∷ []) core.options core.places m made in
         let long : length core.idle ≡ suc (length rest) = ap length first in
         let short : length (drop 1 core.idle) ≡ length rest = ap (λ l. length (drop 1 l)) first in
         let more = gone-left_le core sound t (to_test m i) in
@@ -164,7 +164,7 @@ module _ {C : Type 0} (core : Core C) (marks : List Mark) (sound : IsSound core)
   nothing = makes-none core.options.max_connections marks core s
 
   module _ (x : Ticket) (e : ticket_of k t core.tickets ≡ Some x) where
-    over : MakesWhere (InOwnLine core marks t q) core.options.max_connections marks (Ended t ∷ []) (at_moment m (ended t core))
+    over : MakesWhere (InOwnLine core marks t q) core.options.max_connections marks (Ended t ∷ []) (at_moment m (core_without_ticket t core))
     over = makes-ended core marks sound s k t m x e m
 
     start-idle : q ≡ true → core.shut ≡ false → x.phase ≡ phase.Waiting → 0 < free core → (idle : List (Idle C)) → core.idle ≡ idle

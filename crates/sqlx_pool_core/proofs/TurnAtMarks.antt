@@ -13,7 +13,7 @@ use Rattle.sqlx_log.specs.View.{view_of, free as free_in, size as size_in, waiti
 use Rattle.sqlx_pool_core.specs.Core.{Core, asking, loan, resting, is_out, is_of, gone, waiting, free, size, ticket_of}
 use Rattle.sqlx_log.specs.PollTable.{first_idle, numbered, turn_at_rest, is_first_at, turn, turn_of as turn_of_asked}
 use Rattle.sqlx_pool_core.specs.PollTable.{is_at_rest, backs_off_until, phase_turn}
-use Rattle.sqlx_pool_core.specs.OwnTurn.{before, is_first_in_line, turn_of, own_turn}
+use Rattle.sqlx_pool_core.specs.CoreTurn.{before, is_first_in_line, turn_of, core_turn}
 use Rattle.sqlx_pool_core.specs.PollSteps.{phase_for}
 use Rattle.sqlx_pool_core.specs.StandsFor.{StandsIn, StandsFor}
 use Rattle.sqlx_log.proofs.ListFacts.{count_by-map, length_map, find-map, found_passes}
@@ -104,5 +104,5 @@ module _ {C : Type 0} (core : Core C) (marks : List Mark) (s : StandsFor core ma
   turn-found (Some x) e = ap (λ (w : Turn). cond (is_at_rest x.phase) w turned.NotHeld) (rests-at x e)
 
   -- the turn that a core finds is the turn over its marks
-  pub own_turn-stands : own_turn core k t moment ≡ phase_turn core.options.max_connections core.places marks k t moment (phase_for k t core.tickets)
-  own_turn-stands = turn-found (ticket_of k t core.tickets) refl
+  pub core_turn-stands : core_turn core k t moment ≡ phase_turn core.options.max_connections core.places marks k t moment (phase_for k t core.tickets)
+  core_turn-stands = turn-found (ticket_of k t core.tickets) refl

@@ -10,7 +10,7 @@ use Rattle.sqlx_pool_core.specs.declared.steps.Idle.{Idle}
 use Rattle.sqlx_pool_core.specs.Core.{Core, is_out}
 use Rattle.sqlx_log.specs.PollTable.{in_time, numbered, first_idle}
 use Rattle.sqlx_pool_core.specs.PollTable.{is_at_rest, backs_off_until}
-use Rattle.sqlx_pool_core.specs.OwnTurn.{turn_of}
+use Rattle.sqlx_pool_core.specs.CoreTurn.{turn_of}
 
 -- where the first choice isn't it, the test was false and the other is it
 pub unless_first : (b : Bool) (a z w : Turn) → (if b then a else z) ≡ w → (a ≡ w → ⊥) → (b ≡ false) × (z ≡ w)

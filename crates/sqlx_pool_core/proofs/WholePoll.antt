@@ -10,29 +10,29 @@ use Rattle.sqlx_log.specs.declared.turn.Turn.{Turn}
 use Rattle.sqlx_log.specs.declared.turn.Turn.TheVariants as turn
 use Rattle.sqlx_pool_core.specs.declared.steps.Idle.{Idle}
 use Rattle.sqlx_pool_core.specs.declared.steps.Start.TheVariants as start
-use Rattle.sqlx_pool_core.specs.OwnTurn.{is_first_in_line, turn_of, own_turn}
+use Rattle.sqlx_pool_core.specs.CoreTurn.{is_first_in_line, turn_of, core_turn}
 use Rattle.sqlx_log.specs.PollTable.{in_time}
 use Rattle.sqlx_pool_core.specs.PollTable.{is_at_rest, backs_off_until}
 use Rattle.sqlx_pool_core.proofs.TurnCases.{unless_first, turn-test}
 use Rattle.sqlx_pool_core.specs.Edits.{with_ticket, to_test, to_try, to_try_at, to_connect}
 use Rattle.sqlx_pool_core.specs.PollSteps.{start_answer, started, connect_answer, try_answer_at, phase_for}
-use Rattle.sqlx_pool_core.specs.PollParts.{untested, due, tried_answer}
+use Rattle.sqlx_pool_core.specs.PollParts.{untested, next_try_at, tried_answer}
 
 -- ---- a ticket that connects
 
-open_answer : {C : Type 0} (x : Ticket) (n m : ℕ) (tried : Tried C) → try_answer_at phase.Connecting x false n m tried ≡ tried_answer n m (due m (Some x)) tried
+open_answer : {C : Type 0} (x : Ticket) (n m : ℕ) (tried : Tried C) → try_answer_at phase.Connecting x false n m tried ≡ tried_answer n m (next_try_at m (Some x)) tried
 open_answer x n m (tried.Opened raw) = refl
 open_answer x n m tried.Rejected = refl
 open_answer x n m tried.Transient = refl
 open_answer x n m tried.Fatal = refl
 
 connecting_at : {C : Type 0} (p : Phase) (shut : Bool) (x : Ticket) (n m : ℕ) (tried : Tried C) → p ≡ phase.Connecting → shut ≡ false
-    → try_answer_at p x shut n m tried ≡ tried_answer n m (due m (Some x)) tried
+    → try_answer_at p x shut n m tried ≡ tried_answer n m (next_try_at m (Some x)) tried
 connecting_at p shut x n m tried e open_is = rw (e, open_is) (open_answer x n m tried)
 
 -- the answer of the last step, where the ticket connects and the pool is open
 pub connecting-answer : {C : Type 0} (o : Option Ticket) (shut : Bool) (n m : ℕ) (tried : Tried C) → option_map (λ (x : Ticket). x.phase) o ≡ Some phase.Connecting → shut ≡ false
-    → connect_answer o shut n m tried ≡ tried_answer n m (due m o) tried
+    → connect_answer o shut n m tried ≡ tried_answer n m (next_try_at m o) tried
 connecting-answer None shut n m tried e open_is = absurd cc
 connecting-answer (Some x) shut n m tried e open_is = let p : x.phase ≡ phase.Connecting = cc in connecting_at x.phase shut x n m tried p open_is
 
@@ -52,7 +52,7 @@ open_turn q core m x w e held closed =
 pub record Takes {C : Type 0} (core : Core C) (k t m : ℕ) (i : Idle C) : Type 0 where
   pub x : Ticket
   pub found : ticket_of k t core.tickets ≡ Some x
-  pub tests : own_turn core k t m ≡ turn.Test
+  pub tests : core_turn core k t m ≡ turn.Test
   pub waits : x.phase ≡ phase.Waiting
   pub rest : List (Idle C)
   pub idle : core.idle ≡ i ∷ rest
@@ -62,7 +62,7 @@ pub record Takes {C : Type 0} (core : Core C) (k t m : ℕ) (i : Idle C) : Type 
 pub record Tries {C : Type 0} (core : Core C) (k t m : ℕ) : Type 0 where
   pub x : Ticket
   pub found : ticket_of k t core.tickets ≡ Some x
-  pub connects : own_turn core k t m ≡ turn.Connect
+  pub connects : core_turn core k t m ≡ turn.Connect
   pub open_is : core.shut ≡ false
 
 test_turn : {C : Type 0} (i : Idle C) (w : Turn) (idle : List (Idle C)) → start.Test i ≡ start_answer w idle → (w ≡ turn.Test) × ((rest : List (Idle C)) × (idle ≡ i ∷ rest))
@@ -100,9 +100,9 @@ takes_at core k t m i (Some x) found e rest idle = record {
   open_is = open_turn (is_first_in_line t core) core m x turn.Test e (λ q. cc) (λ q. cc);
 }
 
-pub takes : {C : Type 0} (core : Core C) (k t m : ℕ) (i : Idle C) → start.Test i ≡ start_answer (own_turn core k t m) core.idle → Takes core k t m i
+pub takes : {C : Type 0} (core : Core C) (k t m : ℕ) (i : Idle C) → start.Test i ≡ start_answer (core_turn core k t m) core.idle → Takes core k t m i
 takes core k t m i e =
-    let both = test_turn i (own_turn core k t m) core.idle e in
+    let both = test_turn i (core_turn core k t m) core.idle e in
     takes_at core k t m i (ticket_of k t core.tickets) refl both.0 both.1.0 both.1.1
 
 tries_at : {C : Type 0} (core : Core C) (k t m : ℕ) (o : Option Ticket) → ticket_of k t core.tickets ≡ o → (turn_of (is_first_in_line t core) core.shut m core o ≡ turn.Connect) ⊎ ((turn_of (is_first_in_line t core) core.shut m core o ≡ turn.Test) × (core.idle ≡ [])) → Tries core k t m
@@ -116,8 +116,8 @@ tries_at core k t m (Some x) found (inl e) = record {
 }
 tries_at {C} core k t m (Some x) found (inr e) = let is = turn-test (is_first_in_line t core) core.shut core m x e.0 in absurd (let no : ◌≡◌ {A = List (Idle C)} [] (is.first ∷ is.rest) = sym e.1 ∙ is.idle in cc)
 
-pub tries : {C : Type 0} (core : Core C) (k t m : ℕ) → start.Connect ≡ start_answer (own_turn core k t m) core.idle → Tries core k t m
-tries core k t m e = tries_at core k t m (ticket_of k t core.tickets) refl (connect_turn (own_turn core k t m) core.idle e)
+pub tries : {C : Type 0} (core : Core C) (k t m : ℕ) → start.Connect ≡ start_answer (core_turn core k t m) core.idle → Tries core k t m
+tries core k t m e = tries_at core k t m (ticket_of k t core.tickets) refl (connect_turn (core_turn core k t m) core.idle e)
 
 at_head : (k t : ℕ) (y : Ticket) (ys : List Ticket) (b : Bool) → is_of k t y ≡ b → ticket_of k t (y ∷ ys) ≡ cond b (Some y) (ticket_of k t ys)
 at_head k t y ys b h = ap (λ (c : Bool). cond c (Some y) (ticket_of k t ys)) h

@@ -8,10 +8,10 @@ use Rattle.sqlx_pool_core.specs.declared.steps.Idle.{Idle}
 use Rattle.sqlx_pool_core.specs.declared.steps.Verdict.{Verdict}
 use Rattle.sqlx_pool_core.specs.declared.steps.Verdict.TheVariants.{Accepted, Refused}
 use Rattle.sqlx_pool_core.specs.Outside.{is_transient, says_ok}
-use Rattle.sqlx_pool_core.specs.declared.probe.Check.{Check}
-use Rattle.sqlx_pool_core.specs.declared.probe.Check.TheVariants.{Pass, Close, CloseHard}
-use Rattle.sqlx_pool_core.specs.declared.probe.Opening.{Opening}
-use Rattle.sqlx_pool_core.specs.declared.probe.Opening.TheVariants.{Opened, Rejected, Transient, Failed}
+use Rattle.sqlx_pool_core.specs.declared.idle_check.Check.{Check}
+use Rattle.sqlx_pool_core.specs.declared.idle_check.Check.TheVariants.{Pass, Close, CloseHard}
+use Rattle.sqlx_pool_core.specs.declared.idle_check.Opening.{Opening}
+use Rattle.sqlx_pool_core.specs.declared.idle_check.Opening.TheVariants.{Opened, Rejected, Transient, Failed}
 use Rattle.sqlx_pool_core.specs.Calls.{Call, connect, ping, after_connect, before_acquire, close, close_hard}
 
 -- what a hook's answer, and the levels that are open after it, make of an idle connection

@@ -3,7 +3,7 @@ use Rattle.std.specs.Prelude.{ℕ, ◌+◌, Bool, true, false, not, ◌&&◌, �
 use Rattle.sqlx_pool_core.specs.declared.options.PoolOptions.{PoolOptions}
 use Rattle.sqlx_pool_core.specs.declared.steps.Idle.{Idle}
 use Rattle.sqlx_pool_core.specs.declared.ticket.Ticket.{Ticket}
-use Rattle.sqlx_pool_core.specs.declared.ticket.Held.{Held}
+use Rattle.sqlx_pool_core.specs.declared.ticket.OwnedConn.{OwnedConn}
 use Rattle.sqlx_pool_core.specs.declared.ticket.Phase.{Phase}
 use Rattle.sqlx_pool_core.specs.declared.ticket.Phase.TheVariants.{Waiting}
 use Rattle.sqlx_log.specs.Marks.{PendingTicket, Loan, IdleEntry}
@@ -13,7 +13,7 @@ use Rattle.sqlx_log.specs.Counts.{free_of}
 pub record Core (C : Type 0) : Type 0 where
   pub options : PoolOptions
   pub tickets : List Ticket
-  pub held : List Held
+  pub held : List OwnedConn
   pub idle : List (Idle C)
   pub leaked : ℕ
   pub shut : Bool
@@ -36,7 +36,7 @@ abbrev pub asking : Ticket → PendingTicket
 asking t = record { ticket = t.number; client = t.client; deadline = t.deadline; left = is_out t.phase }
 
 -- what a loan says of itself
-abbrev pub loan : Held → Loan
+abbrev pub loan : OwnedConn → Loan
 loan h = record { client = h.client; conn = h.conn }
 
 -- what an idle connection says of itself
@@ -84,15 +84,15 @@ abbrev pub ticket_of : ℕ → ℕ → List Ticket → Option Ticket
 ticket_of k t tickets = find (is_of k t) tickets
 
 -- it is this client's loan of this connection
-abbrev pub is_held_by : ℕ → ℕ → Held → Bool
+abbrev pub is_held_by : ℕ → ℕ → OwnedConn → Bool
 is_held_by k c h = (c == h.conn) && (k == h.client)
 
 -- this client's loan of this connection
-abbrev pub loan_of : ℕ → ℕ → List Held → Option Held
+abbrev pub loan_of : ℕ → ℕ → List OwnedConn → Option OwnedConn
 loan_of k c held = find (is_held_by k c) held
 
 -- the value of these fields
-abbrev pub core_of : {C : Type 0} → PoolOptions → List Ticket → List Held → List (Idle C) → ℕ → Bool → Bool → ℕ → ℕ → ℕ → ℕ → ℕ → Core C
+abbrev pub core_of : {C : Type 0} → PoolOptions → List Ticket → List OwnedConn → List (Idle C) → ℕ → Bool → Bool → ℕ → ℕ → ℕ → ℕ → ℕ → Core C
 core_of options tickets held idle leaked shut closed places permits next_ticket next_conn last = record {
   options = options;
   tickets = tickets;

@@ -2,7 +2,7 @@
 use Rattle.std.specs.Prelude.{ℕ, ◌+◌, Bool, not, ◌==◌, List, [], ◌∷◌, ◌++◌, Some, None, if◌then◌else◌, filter, map, drop}
 use Rattle.sqlx_text.specs.declared.Moment.{Moment}
 use Rattle.sqlx_pool_core.specs.declared.ticket.Ticket.{Ticket}
-use Rattle.sqlx_pool_core.specs.declared.ticket.Held.{Held}
+use Rattle.sqlx_pool_core.specs.declared.ticket.OwnedConn.{OwnedConn}
 use Rattle.sqlx_pool_core.specs.declared.ticket.Phase.{Phase}
 use Rattle.sqlx_pool_core.specs.declared.ticket.Phase.TheVariants as phase
 use Rattle.sqlx_pool_core.specs.declared.steps.Lent.{Lent}
@@ -24,11 +24,11 @@ abbrev pub with_ticket : ℕ → (Ticket → Ticket) → List Ticket → List Ti
 with_ticket t change tickets = map (λ x. if t == x.number then change x else x) tickets
 
 -- it is of another connection
-abbrev pub is_another_loan : ℕ → Held → Bool
+abbrev pub is_another_loan : ℕ → OwnedConn → Bool
 is_another_loan c h = not (c == h.conn)
 
 -- the loans of other connections
-abbrev pub without_loan : ℕ → List Held → List Held
+abbrev pub without_loan : ℕ → List OwnedConn → List OwnedConn
 without_loan c held = filter (is_another_loan c) held
 
 -- it is another connection
@@ -74,24 +74,24 @@ to_back_off wait until x = record x { phase = phase.Backoff until; last_wait = S
 -- ---- of a core
 
 -- the ticket ended
-abbrev pub ended : {C : Type 0} → ℕ → Core C → Core C
-ended t core = record core { tickets = without_ticket t core.tickets }
+abbrev pub core_without_ticket : {C : Type 0} → ℕ → Core C → Core C
+core_without_ticket t core = record core { tickets = without_ticket t core.tickets }
 
 -- the client owns the connection
 abbrev pub lent_to : {C : Type 0} → ℕ → ℕ → Moment → Core C → Core C
 lent_to k c created core = record core { held = core.held ++ (record { conn = c; client = k; created = created }) ∷ [] }
 
 -- nobody owns the connection
-abbrev pub unlent : {C : Type 0} → ℕ → Core C → Core C
-unlent c core = record core { held = without_loan c core.held }
+abbrev pub core_without_loan : {C : Type 0} → ℕ → Core C → Core C
+core_without_loan c core = record core { held = without_loan c core.held }
 
 -- the connection rests since this moment, as the last of the idle
 abbrev pub kept : {C : Type 0} → Lent C → ℕ → Core C → Core C
 kept lent m core = record core { idle = core.idle ++ (record { lent = lent; since = record { 0 = m } }) ∷ [] }
 
 -- the first idle connection was taken
-abbrev pub took : {C : Type 0} → Core C → Core C
-took core = record core { idle = drop 1 core.idle }
+abbrev pub core_without_first : {C : Type 0} → Core C → Core C
+core_without_first core = record core { idle = drop 1 core.idle }
 
 -- the last moment is this one
 abbrev pub at_moment : {C : Type 0} → ℕ → Core C → Core C

@@ -5,14 +5,14 @@ use Rattle.sqlx_pool_core.specs.declared.outside.PoolConnectionMetadata.{PoolCon
 use Rattle.sqlx_pool_core.specs.declared.steps.Lent.{Lent}
 use Rattle.sqlx_pool_core.specs.declared.steps.Given.{Given}
 use Rattle.sqlx_pool_core.specs.declared.steps.Given.TheVariants as given
-use Rattle.sqlx_pool_core.specs.declared.ticket.Held.{Held}
+use Rattle.sqlx_pool_core.specs.declared.ticket.OwnedConn.{OwnedConn}
 use Rattle.sqlx_pool_core.specs.Core.{Core}
 use Rattle.sqlx_pool_core.specs.Logs.{Logs}
 use Rattle.sqlx_pool_core.specs.Limits.{limits_of}
 use Rattle.sqlx_log.specs.EventTable.{closes}
-use Rattle.sqlx_pool_core.specs.ReturnSteps.{give_answer, give_marks, gave}
-use Rattle.sqlx_pool_core.specs.declared.probe.Check.{Check}
-use Rattle.sqlx_pool_core.specs.declared.probe.Check.TheVariants.{Pass, Close, CloseHard}
+use Rattle.sqlx_pool_core.specs.ReturnSteps.{give_answer, give_marks, core_after_give}
+use Rattle.sqlx_pool_core.specs.declared.idle_check.Check.{Check}
+use Rattle.sqlx_pool_core.specs.declared.idle_check.Check.TheVariants.{Pass, Close, CloseHard}
 use Rattle.sqlx_pool_core.specs.declared.steps.Returned.{Returned}
 use Rattle.sqlx_pool_core.specs.declared.steps.Returned.TheVariants as returned
 use Rattle.sqlx_pool_core.specs.Calls.{Call, ping, after_release, close, close_hard}
@@ -65,7 +65,7 @@ module _ {C O X : Type 0} (does : Call C O → X → X → Type 0) (depth : X �
   TestsIf false hook meta raw now check old new = Returns hook meta raw now check old new
 
   -- The owner's giving back at m, by the loan h that the pool keeps.
-  pub record Gives (h : Held) (m : ℕ) (lent : Lent C) (core new : Core C) (old out : X) (result : Returned C) : Type 0 where
+  pub record Gives (h : OwnedConn) (m : ℕ) (lent : Lent C) (core new : Core C) (old out : X) (result : Returned C) : Type 0 where
     pub now : C
     pub check : Check
     pub between : X
@@ -74,10 +74,10 @@ module _ {C O X : Type 0} (does : Call C O → X → X → Type 0) (depth : X �
     pub step : after ≡ give_answer core.options core.shut m (is_pass check) (Some h) (record lent { raw = now })
     pub ends : Ends check after between out
     pub answer : result ≡ returned_by after
-    pub becomes : new ≡ gave (Some h) (record lent { raw = now }) m after core
+    pub becomes : new ≡ core_after_give (Some h) (record lent { raw = now }) m after core
     pub makes : Logs core (give_marks lent.id m after) new
 
   -- a giving back, by the loan that the pool keeps of it for this client; where it keeps none, no call is made
-  abbrev pub GivesBack : Option Held → ℕ → Lent C → Core C → Core C → X → X → Returned C → Type 0
+  abbrev pub GivesBack : Option OwnedConn → ℕ → Lent C → Core C → Core C → X → X → Returned C → Type 0
   GivesBack (Some h) m lent core new old out result = Gives h m lent core new old out result
   GivesBack None m lent core new old out result = (result ≡ returned.NotHeld lent.raw) × (new ≡ core) × (out ≡ old)

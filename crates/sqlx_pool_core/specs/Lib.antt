@@ -7,7 +7,7 @@ pub mod Makes
 pub mod Numbers
 pub mod Alone
 pub mod PollTable
-pub mod OwnTurn
+pub mod CoreTurn
 pub mod Outside
 pub mod Edits
 pub mod Tickets
@@ -16,8 +16,8 @@ pub mod PollSteps
 pub mod ReturnSteps
 pub mod Calls
 pub mod PollParts
-pub mod KeepingSteps
-pub mod Moves
+pub mod MaintenanceSteps
+pub mod Balance
 pub mod Chain
 pub mod Walk
 pub mod Minimum

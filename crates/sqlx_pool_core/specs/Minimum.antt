@@ -6,9 +6,9 @@ use Rattle.sqlx_log.specs.declared.mark.Mark.{Mark}
 use Rattle.sqlx_log.specs.declared.mark.Mark.TheVariants as mark
 use Rattle.sqlx_pool_core.specs.Logs.{Logs}
 use Rattle.sqlx_pool_core.specs.Core.{Core}
-use Rattle.sqlx_pool_core.specs.KeepingSteps.{has_place, placed, done, done_marks}
-use Rattle.sqlx_pool_core.specs.declared.probe.Opening.{Opening}
-use Rattle.sqlx_pool_core.specs.declared.probe.Opening.TheVariants.{Opened, Failed}
+use Rattle.sqlx_pool_core.specs.MaintenanceSteps.{has_place, placed, done, done_marks}
+use Rattle.sqlx_pool_core.specs.declared.idle_check.Opening.{Opening}
+use Rattle.sqlx_pool_core.specs.declared.idle_check.Opening.TheVariants.{Opened, Failed}
 use Rattle.sqlx_pool_core.specs.Outside.{is_want}
 use Rattle.sqlx_pool_core.specs.Calls.{Call}
 use Rattle.sqlx_pool_core.specs.Chain.{Tries}

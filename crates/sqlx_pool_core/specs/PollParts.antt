@@ -6,8 +6,8 @@ use Rattle.sqlx_pool_core.specs.declared.steps.Lent.{Lent}
 use Rattle.sqlx_pool_core.specs.declared.steps.Idle.{Idle}
 use Rattle.sqlx_pool_core.specs.declared.steps.Polled.{Polled}
 use Rattle.sqlx_pool_core.specs.declared.steps.Polled.TheVariants as polled
-use Rattle.sqlx_pool_core.specs.declared.probe.Opening.{Opening}
-use Rattle.sqlx_pool_core.specs.declared.probe.Opening.TheVariants as opening
+use Rattle.sqlx_pool_core.specs.declared.idle_check.Opening.{Opening}
+use Rattle.sqlx_pool_core.specs.declared.idle_check.Opening.TheVariants as opening
 use Rattle.sqlx_pool_core.specs.declared.steps.Verdict.{Verdict}
 use Rattle.sqlx_pool_core.specs.declared.steps.Verdict.TheVariants as verdict
 use Rattle.sqlx_pool_core.specs.declared.steps.Tried.{Tried}
@@ -65,9 +65,9 @@ abbrev pub untested : {C : Type 0} → ℕ → Core C → Core C
 untested t core = record core { tickets = with_ticket t to_connect core.tickets }
 
 -- until when a refused try at m makes the ticket wait
-abbrev pub due : ℕ → Option Ticket → ℕ
-due m None = 0
-due m (Some x) = m + wait_of x
+abbrev pub next_try_at : ℕ → Option Ticket → ℕ
+next_try_at m None = 0
+next_try_at m (Some x) = m + wait_of x
 
 -- the answer of a ticket that connects, in an open pool; n is the next number
 abbrev pub tried_answer : {C : Type 0} → ℕ → ℕ → ℕ → Tried C → AfterConnect C

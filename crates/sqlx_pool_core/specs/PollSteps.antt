@@ -22,7 +22,7 @@ use Rattle.sqlx_pool_core.specs.declared.steps.AfterConnect.{AfterConnect}
 use Rattle.sqlx_pool_core.specs.declared.steps.AfterConnect.TheVariants as connected
 use Rattle.sqlx_pool_core.specs.Core.{Core, ticket_of}
 use Rattle.sqlx_log.specs.Backoff.{cap, next_wait}
-use Rattle.sqlx_pool_core.specs.Edits.{with_ticket, to_test, tested_so_far, to_next, to_try, to_connect, to_back_off, ended, lent_to, took, opened, at_moment}
+use Rattle.sqlx_pool_core.specs.Edits.{with_ticket, to_test, tested_so_far, to_next, to_try, to_connect, to_back_off, core_without_ticket, lent_to, core_without_first, opened, at_moment}
 
 -- the phase of this client's ticket
 abbrev pub phase_for : ℕ → ℕ → List Ticket → Option Phase
@@ -63,10 +63,10 @@ start_marks t phase other = []
 
 -- the core after the start of a poll
 abbrev pub started : {C : Type 0} → ℕ → ℕ → Start C → Core C → Core C
-started t m start.Closed core = at_moment m (ended t core)
-started t m start.TimedOut core = at_moment m (ended t core)
-started t m start.Exhausted core = at_moment m (ended t core)
-started t m (start.Test i) core = at_moment m (took (record core { tickets = with_ticket t (to_test m i) core.tickets }))
+started t m start.Closed core = at_moment m (core_without_ticket t core)
+started t m start.TimedOut core = at_moment m (core_without_ticket t core)
+started t m start.Exhausted core = at_moment m (core_without_ticket t core)
+started t m (start.Test i) core = at_moment m (core_without_first (record core { tickets = with_ticket t (to_test m i) core.tickets }))
 started t m start.Connect core = at_moment m (record core { tickets = with_ticket t (to_try m) core.tickets })
 started t m other core = core
 
@@ -119,9 +119,9 @@ test_marks k t c tested.Connect = Closed c ∷ []
 -- the core after a test
 abbrev pub after_test : {C : Type 0} → ℕ → ℕ → AfterTest C → Core C → Core C
 after_test k t (tested.NotHeld verdict) core = core
-after_test k t (tested.Closed raw) core = ended t core
-after_test k t (tested.Ready lent) core = ended t (lent_to k lent.id lent.created core)
-after_test k t (tested.Test i) core = took (record core { tickets = with_ticket t (to_next i) core.tickets })
+after_test k t (tested.Closed raw) core = core_without_ticket t core
+after_test k t (tested.Ready lent) core = core_without_ticket t (lent_to k lent.id lent.created core)
+after_test k t (tested.Test i) core = core_without_first (record core { tickets = with_ticket t (to_next i) core.tickets })
 after_test k t tested.Connect core = record core { tickets = with_ticket t to_connect core.tickets }
 
 -- ---- finish_connect
@@ -164,10 +164,10 @@ connect_marks k t m connected.Ended = Ended t ∷ []
 -- the core after a try
 abbrev pub after_connect : {C : Type 0} → ℕ → ℕ → ℕ → AfterConnect C → Core C → Core C
 after_connect k t m (connected.NotHeld tried) core = core
-after_connect k t m (connected.Closed raw) core = at_moment m (ended t core)
-after_connect k t m (connected.Ready lent) core = at_moment m (ended t (lent_to k lent.id lent.created (opened core)))
+after_connect k t m (connected.Closed raw) core = at_moment m (core_without_ticket t core)
+after_connect k t m (connected.Ready lent) core = at_moment m (core_without_ticket t (lent_to k lent.id lent.created (opened core)))
 after_connect k t m (connected.Backoff until) core = at_moment m (record core { tickets = with_ticket t (λ x. to_back_off (wait_of x) until x) core.tickets })
-after_connect k t m connected.Ended core = at_moment m (ended t core)
+after_connect k t m connected.Ended core = at_moment m (core_without_ticket t core)
 
 -- ---- cancel
 
@@ -184,7 +184,7 @@ cancel_marks t false = []
 
 -- the core after a cancel
 abbrev pub cancelled : {C : Type 0} → ℕ → Bool → Core C → Core C
-cancelled t true core = ended t core
+cancelled t true core = core_without_ticket t core
 cancelled t false core = core
 
 -- ---- try_acquire
@@ -201,5 +201,5 @@ try_marks k None = []
 
 -- the core after a loan past the line
 abbrev pub after_try : {C : Type 0} → ℕ → ℕ → Option (LentValue C) → Core C → Core C
-after_try k m (Some lent) core = at_moment m (lent_to k lent.id lent.created (took core))
+after_try k m (Some lent) core = at_moment m (lent_to k lent.id lent.created (core_without_first core))
 after_try k m None core = core

@@ -4,17 +4,17 @@ use Rattle.sqlx_pool_core.specs.Limits.{limits_of}
 use Rattle.sqlx_log.specs.declared.mark.Mark.{Mark}
 use Rattle.sqlx_log.specs.declared.mark.Mark.TheVariants.{Kept, Closed, Detached, Leaked}
 use Rattle.sqlx_pool_core.specs.declared.options.PoolOptions.{PoolOptions}
-use Rattle.sqlx_pool_core.specs.declared.ticket.Held.{Held}
+use Rattle.sqlx_pool_core.specs.declared.ticket.OwnedConn.{OwnedConn}
 use Rattle.sqlx_pool_core.specs.declared.steps.Lent.{Lent as LentValue}
 use Rattle.sqlx_pool_core.specs.declared.steps.Given.{Given}
 use Rattle.sqlx_pool_core.specs.declared.steps.Given.TheVariants as given
 use Rattle.sqlx_pool_core.specs.Core.{Core}
 use Rattle.sqlx_log.specs.EventTable.{closes}
 use Rattle.sqlx_pool_core.specs.PollSteps.{lent_since}
-use Rattle.sqlx_pool_core.specs.Edits.{unlent, kept, at_moment}
+use Rattle.sqlx_pool_core.specs.Edits.{core_without_loan, kept, at_moment}
 
 -- the answer to a connection that comes back, by the loan that the pool keeps of it
-abbrev pub give_answer : {C : Type 0} → PoolOptions → Bool → ℕ → Bool → Option Held → LentValue C → Given C
+abbrev pub give_answer : {C : Type 0} → PoolOptions → Bool → ℕ → Bool → Option OwnedConn → LentValue C → Given C
 give_answer options shut m accepted None lent = given.NotHeld lent.raw
 give_answer options shut m accepted (Some h) lent = if accepted && not (closes (limits_of options) shut h.created.0 m) then given.Kept else given.Closed lent.raw
 
@@ -25,15 +25,15 @@ give_marks c m (given.Closed raw) = Closed c ∷ []
 give_marks c m (given.NotHeld raw) = []
 
 -- the connection rests with the moment of opening that the pool keeps
-abbrev pub rested : {C : Type 0} → Option Held → LentValue C → ℕ → Core C → Core C
+abbrev pub rested : {C : Type 0} → Option OwnedConn → LentValue C → ℕ → Core C → Core C
 rested (Some h) lent m core = kept (lent_since h.created lent) m core
 rested None lent m core = core
 
 -- the core after a return
-abbrev pub gave : {C : Type 0} → Option Held → LentValue C → ℕ → Given C → Core C → Core C
-gave h lent m given.Kept core = at_moment m (rested h lent m (unlent lent.id core))
-gave h lent m (given.Closed raw) core = at_moment m (unlent lent.id core)
-gave h lent m (given.NotHeld raw) core = core
+abbrev pub core_after_give : {C : Type 0} → Option OwnedConn → LentValue C → ℕ → Given C → Core C → Core C
+core_after_give h lent m given.Kept core = at_moment m (rested h lent m (core_without_loan lent.id core))
+core_after_give h lent m (given.Closed raw) core = at_moment m (core_without_loan lent.id core)
+core_after_give h lent m (given.NotHeld raw) core = core
 
 -- ---- end, detach, leak
 
@@ -54,10 +54,10 @@ leak_marks c false = []
 
 -- the connection left the pool
 abbrev pub released : {C : Type 0} → ℕ → Bool → Core C → Core C
-released c true core = unlent c core
+released c true core = core_without_loan c core
 released c false core = core
 
 -- the connection left the pool, which keeps its place and its permit
 abbrev pub leaked : {C : Type 0} → ℕ → Bool → Core C → Core C
-leaked c true core = record (unlent c core) { leaked = core.leaked + 1 }
+leaked c true core = record (core_without_loan c core) { leaked = core.leaked + 1 }
 leaked c false core = core

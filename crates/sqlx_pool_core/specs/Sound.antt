@@ -1,7 +1,7 @@
 -- What holds of every core's value by itself, without a word of marks.
 use Rattle.std.specs.Prelude.{◌≡◌, ℕ, ◌+◌, ◌^◌, ◌<◌, ◌≤◌, Bool, false, ◌==◌, if◌then◌else◌, List, [], ◌∷◌, map, count_by}
 use Rattle.sqlx_pool_core.specs.declared.ticket.Ticket.{Ticket}
-use Rattle.sqlx_pool_core.specs.declared.ticket.Held.{Held}
+use Rattle.sqlx_pool_core.specs.declared.ticket.OwnedConn.{OwnedConn}
 use Rattle.sqlx_pool_core.specs.declared.ticket.Phase.{Phase}
 use Rattle.sqlx_pool_core.specs.declared.ticket.Phase.TheVariants as phase
 use Rattle.sqlx_pool_core.specs.declared.steps.Idle.{Idle}
@@ -26,7 +26,7 @@ abbrev pub tests : ℕ → Ticket → Bool
 tests c t = is_tested c t.phase
 
 -- the loan is of this connection
-abbrev pub holds : ℕ → Held → Bool
+abbrev pub holds : ℕ → OwnedConn → Bool
 holds c h = c == h.conn
 
 -- it is this connection that rests
@@ -34,7 +34,7 @@ abbrev pub rests : {C : Type 0} → ℕ → Idle C → Bool
 rests c i = c == i.lent.id
 
 -- at how many places the connection is: under test, owned or idle
-abbrev pub places_of : {C : Type 0} → ℕ → List Ticket → List Held → List (Idle C) → ℕ
+abbrev pub places_of : {C : Type 0} → ℕ → List Ticket → List OwnedConn → List (Idle C) → ℕ
 places_of c tickets held idle = count_by (tests c) tickets + count_by (holds c) held + count_by (rests c) idle
 
 -- The pool keeps its maximum, numbers tickets and connections in rising order, and has each connection at one place at most.

@@ -4,7 +4,7 @@ use Rattle.std.specs.List.{list_any}
 use Rattle.sqlx_log.specs.declared.mark.Mark.{Mark}
 use Rattle.sqlx_pool_core.specs.declared.steps.Idle.{Idle}
 use Rattle.sqlx_pool_core.specs.declared.ticket.Ticket.{Ticket}
-use Rattle.sqlx_pool_core.specs.declared.ticket.Held.{Held}
+use Rattle.sqlx_pool_core.specs.declared.ticket.OwnedConn.{OwnedConn}
 use Rattle.sqlx_pool_core.specs.declared.ticket.Phase.{Phase}
 use Rattle.sqlx_pool_core.specs.declared.ticket.Phase.TheVariants as phase
 use Rattle.sqlx_log.specs.Marks.{tickets_of, loans_of, idle_of, leaked_of, is_shut, next_ticket, next_conn}
@@ -26,7 +26,7 @@ pub record StandsIn {C : Type 0} (core : Core C) (marks : List Mark) : Type 0 wh
   pub ticket_number : next_ticket marks ≤ core.next_ticket
   pub conn_number : next_conn marks ≤ core.next_conn
   pub named : All (IsNamedBelow core.next_ticket core.next_conn) marks
-  pub held_born : All (λ (h : Held). IsBorn marks h.conn h.created.0) core.held
+  pub held_born : All (λ (h : OwnedConn). IsBorn marks h.conn h.created.0) core.held
   pub idle_born : All (λ (i : Idle C). IsBorn marks i.lent.id i.lent.created.0) core.idle
   pub tested_born : All (λ (t : Ticket). IsTestedBorn marks t.phase) core.tickets
 
@@ -40,7 +40,7 @@ pub record StandsFor {C : Type 0} (core : Core C) (marks : List Mark) : Type 0 w
   pub ticket_number : core.next_ticket ≡ next_ticket marks
   pub conn_number : core.next_conn ≡ next_conn marks
   pub named : All (IsNamedBelow core.next_ticket core.next_conn) marks
-  pub held_born : All (λ (h : Held). IsBorn marks h.conn h.created.0) core.held
+  pub held_born : All (λ (h : OwnedConn). IsBorn marks h.conn h.created.0) core.held
   pub idle_born : All (λ (i : Idle C). IsBorn marks i.lent.id i.lent.created.0) core.idle
   pub tested_born : All (λ (t : Ticket). IsTestedBorn marks t.phase) core.tickets
   pub permits : core.permits ≡ core.options.max_connections

@@ -16,10 +16,10 @@ use Rattle.sqlx_pool_core.specs.declared.steps.Polled.TheVariants as polled
 use Rattle.sqlx_pool_core.specs.declared.ticket.Ticket.{Ticket}
 use Rattle.sqlx_pool_core.specs.Core.{Core, ticket_of}
 use Rattle.sqlx_pool_core.specs.PollSteps.{phase_for, start_answer, start_marks, started, may_test_next, test_answer, test_marks, after_test, try_answer, connect_marks, after_connect}
-use Rattle.sqlx_pool_core.specs.OwnTurn.{own_turn}
+use Rattle.sqlx_pool_core.specs.CoreTurn.{core_turn}
 use Rattle.sqlx_pool_core.specs.Logs.{Logs}
-use Rattle.sqlx_pool_core.specs.declared.probe.Opening.{Opening}
-use Rattle.sqlx_pool_core.specs.declared.probe.Opening.TheVariants as opening
+use Rattle.sqlx_pool_core.specs.declared.idle_check.Opening.{Opening}
+use Rattle.sqlx_pool_core.specs.declared.idle_check.Opening.TheVariants as opening
 use Rattle.sqlx_pool_core.specs.Calls.{Call}
 use Rattle.sqlx_pool_core.specs.Chain.{Tests, Tries}
 
@@ -101,7 +101,7 @@ module _ {C O X : Type 0} (does : Call C O → X → X → Type 0) (depth : X �
   -- A whole poll.
   pub record Polls (core new : Core C) (old now : X) (result : Polled C) : Type 0 where
     pub begun : Start C
-    pub step : begun ≡ start_answer (own_turn core k t m) core.idle
+    pub step : begun ≡ start_answer (core_turn core k t m) core.idle
     pub verdicts : List (Verdict C)
     pub later : List Mark
     pub goes : Goes verdicts (first begun) (started t m begun core) new old now result later

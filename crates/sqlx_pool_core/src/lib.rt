@@ -10,7 +10,7 @@ mod member;
 mod options;
 mod outside;
 mod pool_core;
-pub mod probe;
+pub mod idle_check;
 mod steps;
 mod ticket;
 mod tickets;

@@ -6,12 +6,12 @@ ghost use Rattle.sqlx_pool_core.specs.Core.{loan_of};
 ghost use Rattle.sqlx_pool_core.specs.Edits.{without_loan};
 
 use crate::steps::{Idle, Lent};
-use crate::ticket::Held;
+use crate::ticket::OwnedConn;
 use sqlx_text::Moment;
 use std::collections::VecDeque;
 
 /// This client's loan of this connection.
-pub fn loan_for(held: &[Held], client: u32, conn: u64) -> Option<Held>
+pub fn loan_for(held: &[OwnedConn], client: u32, conn: u64) -> Option<OwnedConn>
     ensures { result ≡ loan_of client conn held.now }
 {
     held.iter()
@@ -20,7 +20,7 @@ pub fn loan_for(held: &[Held], client: u32, conn: u64) -> Option<Held>
 }
 
 /// Ends a loan.
-pub fn end_loan(held: &mut Vec<Held>, conn: u64)
+pub fn end_loan(held: &mut Vec<OwnedConn>, conn: u64)
     ensures rest { held.new.items ≡ without_loan conn held.old.items }
     ensures capacity { vec_capacity held.new ≡ vec_capacity held.old }
 {

@@ -5,22 +5,22 @@
 
 ghost use Rattle.std.specs.Prelude.{◌≡◌, ℕ, ◌+◌, ◌*◌, ◌<◌, ◌≤◌, max, List, [], Option, Some, None, IfOk, IfSome, length, if◌then◌else◌, not, false, is_some};
 ghost use Rattle.sqlx_pool_core.specs.Core.{waiting, gone, free, size, loan_of};
-ghost use Rattle.sqlx_pool_core.specs.Moves.{due};
+ghost use Rattle.sqlx_pool_core.specs.Balance.{marks_due};
 ghost use Rattle.sqlx_pool_core.specs.Sound.{IsSound};
 ghost use Rattle.sqlx_pool_core.specs.StandsFor.{StandsIn};
 ghost use Rattle.sqlx_pool_core.specs.PollSteps.{phase_for, is_in_line};
-ghost use Rattle.sqlx_pool_core.specs.KeepingSteps.{close_state};
+ghost use Rattle.sqlx_pool_core.specs.MaintenanceSteps.{close_state};
 
 mod ask;
 mod finish;
 mod give;
-mod keeping;
+mod maintenance;
 mod poll;
 
 use crate::lists;
 use crate::options::PoolOptions;
 use crate::steps::{CloseState, Idle, Numbers};
-use crate::ticket::{Held, Phase, Ticket};
+use crate::ticket::{OwnedConn, Phase, Ticket};
 use crate::tickets::Tickets;
 use sqlx_text::{Moment, OutOfMemory};
 use std::alloc::Global;
@@ -35,7 +35,7 @@ const NUMBERS: u64 = 1 << 63;
 pub struct Member<C> {
     options: PoolOptions,
     tickets: Tickets,
-    held: Vec<Held>,
+    held: Vec<OwnedConn>,
     idle: VecDeque<Idle<C>>,
     leaked: u32,
     // A close came to this pool.
@@ -150,7 +150,7 @@ impl<C> Member<C> {
 
     /// How many marks are made at most before the pool is closed and empty, where nothing new begins.
     pub fn due(&self) -> usize
-        ensures { result ≡ due self.now }
+        ensures { result ≡ marks_due self.now }
     {
         let waiting = self.tickets.waiting();
         let testing = self.tickets.testing();

@@ -8,7 +8,7 @@ ghost use Rattle.sqlx_log.specs.Marks.{idle_of};
 ghost use Rattle.sqlx_log.specs.EventTable.{size_at};
 ghost use Rattle.sqlx_pool_core.specs.Logs.{moment_of};
 ghost use Rattle.sqlx_pool_core.specs.Core.{waiting, gone, free, size};
-ghost use Rattle.sqlx_pool_core.specs.Moves.{due, IsBounded};
+ghost use Rattle.sqlx_pool_core.specs.Balance.{marks_due, IsBounded};
 ghost use Rattle.sqlx_pool_core.specs.Sound.{IsSound};
 ghost use Rattle.sqlx_pool_core.specs.StandsFor.{StandsFor};
 
@@ -19,7 +19,7 @@ mod finish;
 mod give;
 mod give_with;
 mod keep_minimum;
-mod keeping;
+mod maintenance;
 mod poll;
 mod poll_with;
 
@@ -95,7 +95,7 @@ impl<C> PoolCore<C> {
     /// How many marks are made at most before the pool is closed and empty, where no ticket is asked, none is lent
     /// past the line and no place is held any more: what a log should have room for.
     pub fn due(&self) -> usize
-        ensures { result ≡ due self.now }
+        ensures { result ≡ marks_due self.now }
     {
         self.pool.due()
     }

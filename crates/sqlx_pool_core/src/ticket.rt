@@ -37,7 +37,7 @@ pub struct Ticket {
 
 /// A connection that a client owns.
 #[derive(Clone, Copy, PartialEq, Eq)]
-pub struct Held {
+pub struct OwnedConn {
     pub conn: u64,
     pub client: u32,
     pub created: Moment,

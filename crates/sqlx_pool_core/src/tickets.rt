@@ -1,8 +1,8 @@
 //! The tickets that haven't ended, by their numbers: none of them is found, changed or ended by a look at the others.
 ghost use Rattle.std.specs.Prelude.{◌≡◌, ◌==◌, ◌*◌, ◌^◌, ◌<◌, ◌≤◌, nat_lt, true, if◌then◌else◌, [], ◌∷◌, ◌++◌, length, All, OnOk, OnErr};
 ghost use Rattle.sqlx_pool_core.specs.Core.{waiting, gone, ticket_of, has_gone, is_out, waits};
-ghost use Rattle.sqlx_pool_core.specs.Moves.{testing, left_to_test, all_left_to_test};
-ghost use Rattle.sqlx_pool_core.specs.OwnTurn.{before};
+ghost use Rattle.sqlx_pool_core.specs.Balance.{testing, left_to_test, all_left_to_test};
+ghost use Rattle.sqlx_pool_core.specs.CoreTurn.{before};
 ghost use Rattle.sqlx_pool_core.specs.Edits.{without_ticket, with_ticket};
 
 use crate::ticket::{Phase, Ticket};

@@ -1,7 +1,7 @@
 //! The links of the connections that clients own.
 ghost use Rattle.std.specs.Prelude.{◌≡◌, ◌≤◌, find, length, nat_lt, if◌then◌else◌, Some, None, OnOk, IfErr};
 ghost use Rattle.std.specs.List.{position_or_len, insert};
-ghost use Rattle.sqlx_pool_core.specs.KeepingSteps.{without_first};
+ghost use Rattle.sqlx_pool_core.specs.MaintenanceSteps.{without_first};
 ghost use Rattle.sqlx_play.specs.LentLinks.{is_lent};
 
 use crate::error::PlayError;

@@ -7,7 +7,7 @@ ghost use Rattle.sqlx_pool_core.specs.Answers.{is_kept, is_held};
 ghost use Rattle.sqlx_pool_core.specs.Core.{loan_of};
 ghost use Rattle.sqlx_pool_core.specs.Limits.{limits_of};
 ghost use Rattle.sqlx_pool_core.specs.Logs.{moment_of};
-ghost use Rattle.sqlx_pool_core.specs.ReturnSteps.{give_answer, give_marks, gave, end_marks, detach_marks, leak_marks, released, leaked};
+ghost use Rattle.sqlx_pool_core.specs.ReturnSteps.{give_answer, give_marks, core_after_give, end_marks, detach_marks, leak_marks, released, leaked};
 
 use super::Locked;
 use crate::{Held, Loans, record};
@@ -42,7 +42,7 @@ impl<C: Depth, O, H: Ledger, L: Loans> Locked<C, O, H, L> {
         ensures refused { accepted ≡ false → is_kept result.0 ≡ false }
         ensures answer { result.0 ≡ give_answer self.old.core.options self.old.core.shut (moment_of self.old.core now) accepted (loan_of client lent.id self.old.core.held) lent }
         ensures marks { self.new.marks ≡ self.old.marks ++ give_marks lent.id (moment_of self.old.core now) result.0 }
-        ensures becomes { self.new.core ≡ gave (loan_of client lent.id self.old.core.held) lent (moment_of self.old.core now) result.0 self.old.core }
+        ensures becomes { self.new.core ≡ core_after_give (loan_of client lent.id self.old.core.held) lent (moment_of self.old.core now) result.0 self.old.core }
         ensures connect { self.new.connect ≡ self.old.connect }
         ensures held { is_some result.1 ≡ not (is_held result.0) }
     {

@@ -4,12 +4,12 @@ ghost use Rattle.std.specs.Prelude.{◌≡◌, ◌≤◌, ℕ, IfErr, IfOk};
 ghost use Rattle.sqlx_pool.specs.Opened.{IsOpenRefusal};
 
 use super::PoolOf;
-use super::keeping::close_all;
+use super::maintenance::close_all;
 use crate::Loans;
 use crate::checks::{self, close_by};
 use crate::filled::Filled;
 use sqlx_pool_core::Outside;
-use sqlx_pool_core::probe::Check;
+use sqlx_pool_core::idle_check::Check;
 use sqlx_text::{Depth, Error, Moment};
 use std::alloc::Global;
 use std::sync::Wait;

@@ -1,7 +1,7 @@
 //! The parts of a poll that take the lock, and what is asked of the outside between them.
 
 ghost use Rattle.std.specs.Prelude.{◌≡◌, ℕ, ◌+◌, ◌<◌, ◌≤◌, false};
-ghost use Rattle.sqlx_pool_core.specs.Moves.{one_if};
+ghost use Rattle.sqlx_pool_core.specs.Balance.{one_if};
 ghost use Rattle.sqlx_pool_core.specs.PollParts.{IfOpened};
 ghost use Rattle.sqlx_pool.specs.Answers.{IfTried, is_fatal};
 ghost use Rattle.sqlx_pool.specs.Booked.{CountsIf};
@@ -10,7 +10,7 @@ ghost use Rattle.sqlx_pool.specs.Stage.{has_lent, IfLent, wants_test, wants_conn
 use super::PoolOf;
 use crate::stage::{Stage, after_test, after_try};
 use crate::{Held, Loans, Tally, checks};
-use sqlx_pool_core::probe::Opening;
+use sqlx_pool_core::idle_check::Opening;
 use sqlx_pool_core::{AfterConnect, Idle, Outside, Tried};
 use sqlx_text::{Depth, Error, Moment};
 use std::alloc::Global;

@@ -9,14 +9,14 @@ ghost use Rattle.sqlx_pool_core.specs.Sound.{IsSound};
 ghost use Rattle.sqlx_pool_core.specs.StandsFor.{StandsIn};
 ghost use Rattle.sqlx_pool_core.specs.Makes.{MakesIn, MakesWhere};
 ghost use Rattle.sqlx_pool_core.specs.Numbers.{Draws, Stays};
-ghost use Rattle.sqlx_pool_core.specs.Moves.{Moves, ask_room, try_room};
-ghost use Rattle.sqlx_pool_core.specs.OwnTurn.{PastOwnLine};
+ghost use Rattle.sqlx_pool_core.specs.Balance.{Balance, ask_room, try_room};
+ghost use Rattle.sqlx_pool_core.specs.CoreTurn.{PastOwnLine};
 ghost use Rattle.sqlx_pool_core.specs.PollSteps.{phase_for, may_cancel, cancel_marks, cancelled, try_lent, try_marks, after_try};
 ghost use Rattle.sqlx_pool_core.specs.Edits.{at_moment, asked};
 
 use super::{Member, NUMBERS};
 use crate::steps::Lent;
-use crate::ticket::{Held, Phase, Ticket};
+use crate::ticket::{OwnedConn, Phase, Ticket};
 use sqlx_text::{Error, Moment};
 
 impl<C> Member<C> {
@@ -29,7 +29,7 @@ impl<C> Member<C> {
         ensures makes { (marks : List Mark) → StandsIn self.old marks → IfOk result (λ ticket. MakesIn self.old.options.max_connections marks (Mark.Asked ticket client (moment.0 + self.old.options.acquire_timeout) ∷ []) self.new) }
         ensures stays { Stays self.old self.new }
         ensures draws { IfOk result (λ ticket. Draws self.old self.new (Mark.Asked ticket client (moment.0 + self.old.options.acquire_timeout) ∷ [])) }
-        ensures moves { IfOk result (λ ticket. Moves self.old self.new (Mark.Asked ticket client (moment.0 + self.old.options.acquire_timeout) ∷ []) 0 (ask_room self.old.options.idle_tries)) }
+        ensures balance { IfOk result (λ ticket. Balance self.old self.new (Mark.Asked ticket client (moment.0 + self.old.options.acquire_timeout) ∷ []) 0 (ask_room self.old.options.idle_tries)) }
         ensures becomes { OnOk result (self.new ≡ at_moment moment.0 (asked client (moment.0 + self.old.options.acquire_timeout) self.old)) }
         ensures err { OnErr result (self.new ≡ self.old) }
     {
@@ -50,7 +50,7 @@ impl<C> Member<C> {
         ensures numbered { IfOk result (λ ticket. ticket ≡ self.old.next_ticket) }
         ensures makes { (marks : List Mark) → StandsIn self.old marks → OnOk result (MakesIn self.old.options.max_connections marks (Mark.Asked self.old.next_ticket client deadline ∷ []) self.new) }
         ensures draws { OnOk result (Draws self.old self.new (Mark.Asked self.old.next_ticket client deadline ∷ [])) }
-        ensures moves { OnOk result (Moves self.old self.new (Mark.Asked self.old.next_ticket client deadline ∷ []) 0 (ask_room self.old.options.idle_tries)) }
+        ensures balance { OnOk result (Balance self.old self.new (Mark.Asked self.old.next_ticket client deadline ∷ []) 0 (ask_room self.old.options.idle_tries)) }
         ensures becomes { OnOk result (self.new ≡ at_moment moment.0 (asked client deadline self.old)) }
         ensures memory { IfErr result (λ e. e ≡ Error.OutOfMemory) }
         ensures err { OnErr result (self.new ≡ self.old) }
@@ -78,7 +78,7 @@ impl<C> Member<C> {
         ensures makes { (marks : List Mark) → StandsIn self.old marks → MakesIn self.old.options.max_connections marks (cancel_marks ticket result) self.new }
         ensures stays { Stays self.old self.new }
         ensures draws { Draws self.old self.new (cancel_marks ticket result) }
-        ensures moves { Moves self.old self.new (cancel_marks ticket result) 0 0 }
+        ensures balance { Balance self.old self.new (cancel_marks ticket result) 0 0 }
         ensures becomes { self.new ≡ cancelled ticket result self.old }
     {
         self.end_at_rest(client, ticket)
@@ -122,7 +122,7 @@ impl<C> Member<C> {
         ensures makes { (marks : List Mark) → StandsIn self.old marks → MakesWhere (PastOwnLine self.old passes) self.old.options.max_connections marks (try_marks client result) self.new }
         ensures stays { Stays self.old self.new }
         ensures draws { Draws self.old self.new (try_marks client result) }
-        ensures moves { Moves self.old self.new (try_marks client result) 0 (try_room result) }
+        ensures balance { Balance self.old self.new (try_marks client result) 0 (try_room result) }
         ensures becomes { self.new ≡ after_try client moment.0 result self.old }
     {
         self.sound();
@@ -139,7 +139,7 @@ impl<C> Member<C> {
             return None;
         }
         let lent = self.idle.pop_front()?.lent;
-        self.held.push_reserved(Held {
+        self.held.push_reserved(OwnedConn {
             conn: lent.id,
             client,
             created: lent.created,

@@ -10,13 +10,13 @@ ghost use Rattle.sqlx_pool_core.specs.Sound.{IsSound};
 ghost use Rattle.sqlx_pool_core.specs.StandsFor.{StandsIn};
 ghost use Rattle.sqlx_pool_core.specs.Makes.{MakesIn};
 ghost use Rattle.sqlx_pool_core.specs.Numbers.{Draws, Stays};
-ghost use Rattle.sqlx_pool_core.specs.Moves.{Moves};
+ghost use Rattle.sqlx_pool_core.specs.Balance.{Balance};
 ghost use Rattle.sqlx_pool_core.specs.PollSteps.{phase_for, accepted_raw, opened_raw, tested_at, judged, may_test_next, after_refusal, test_answer, test_marks, after_test, connect_answer, connect_marks, after_connect, wait_of};
-ghost use Rattle.sqlx_pool_core.specs.Edits.{at_moment, ended, tested_so_far, to_connect, to_back_off, with_ticket, lent_to, opened};
+ghost use Rattle.sqlx_pool_core.specs.Edits.{at_moment, core_without_ticket, tested_so_far, to_connect, to_back_off, with_ticket, lent_to, opened};
 
 use super::Member;
 use crate::steps::{AfterConnect, AfterTest, Idle, Lent, Tried, Verdict};
-use crate::ticket::{Held, Phase, Ticket};
+use crate::ticket::{OwnedConn, Phase, Ticket};
 use sqlx_text::Moment;
 
 // The first wait after a refused connect, in nanoseconds.
@@ -73,7 +73,7 @@ fn wait_after(ticket: &Ticket) -> u128
 impl<C> Member<C> {
     // Ends a ticket.
     pub(super) fn end_ticket(&mut self, number: u64)
-        ensures { self.new ≡ ended number self.old }
+        ensures { self.new ≡ core_without_ticket number self.old }
     {
         self.tickets.end(number);
     }
@@ -82,10 +82,10 @@ impl<C> Member<C> {
     fn lend_tested(&mut self, found: Ticket, conn: u64, created: Moment)
         requires tested { tested_at conn (Some found.phase) ≡ Some created }
         requires found { ticket_of found.client found.number self.old.tickets ≡ Some found }
-        ensures { self.new ≡ ended found.number (lent_to found.client conn created self.old) }
+        ensures { self.new ≡ core_without_ticket found.number (lent_to found.client conn created self.old) }
     {
         let client = found.client;
-        self.held.push_reserved(Held {
+        self.held.push_reserved(OwnedConn {
             conn,
             client,
             created,
@@ -146,7 +146,7 @@ impl<C> Member<C> {
         ensures makes { (marks : List Mark) → StandsIn self.old marks → MakesIn self.old.options.max_connections marks (test_marks client ticket (judged verdict) result) self.new }
         ensures stays { Stays self.old self.new }
         ensures draws { Draws self.old self.new (test_marks client ticket (judged verdict) result) }
-        ensures moves { Moves self.old self.new (test_marks client ticket (judged verdict) result) 0 0 }
+        ensures balance { Balance self.old self.new (test_marks client ticket (judged verdict) result) 0 0 }
         ensures becomes { self.new ≡ after_test client ticket result self.old }
     {
         self.test_done(client, ticket, verdict)
@@ -183,10 +183,10 @@ impl<C> Member<C> {
         requires connects { found.phase ≡ Phase.Connecting }
         requires found { ticket_of found.client found.number self.old.tickets ≡ Some found }
         ensures lent { result ≡ record { id = self.old.next_conn; created = moment; raw = raw } }
-        ensures becomes { self.new ≡ at_moment moment.0 (ended found.number (lent_to found.client self.old.next_conn moment (opened self.old))) }
+        ensures becomes { self.new ≡ at_moment moment.0 (core_without_ticket found.number (lent_to found.client self.old.next_conn moment (opened self.old))) }
     {
         let conn = self.next_conn;
-        self.held.push_reserved(Held {
+        self.held.push_reserved(OwnedConn {
             conn,
             client: found.client,
             created: moment,
@@ -233,7 +233,7 @@ impl<C> Member<C> {
         ensures makes { (marks : List Mark) → StandsIn self.old marks → MakesIn self.old.options.max_connections marks (connect_marks client ticket moment.0 result) self.new }
         ensures stays { Stays self.old self.new }
         ensures draws { Draws self.old self.new (connect_marks client ticket moment.0 result) }
-        ensures moves { Moves self.old self.new (connect_marks client ticket moment.0 result) 0 0 }
+        ensures balance { Balance self.old self.new (connect_marks client ticket moment.0 result) 0 0 }
         ensures becomes { self.new ≡ after_connect client ticket moment.0 result self.old }
     {
         self.connect_done(client, ticket, moment, tried)

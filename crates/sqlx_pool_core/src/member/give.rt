@@ -9,15 +9,15 @@ ghost use Rattle.sqlx_pool_core.specs.Sound.{IsSound};
 ghost use Rattle.sqlx_pool_core.specs.StandsFor.{StandsIn};
 ghost use Rattle.sqlx_pool_core.specs.Makes.{MakesIn};
 ghost use Rattle.sqlx_pool_core.specs.Numbers.{Draws, Stays};
-ghost use Rattle.sqlx_pool_core.specs.Moves.{Moves, given_back, one_if};
-ghost use Rattle.sqlx_pool_core.specs.ReturnSteps.{give_answer, give_marks, gave, end_marks, detach_marks, leak_marks, released, leaked, rested};
+ghost use Rattle.sqlx_pool_core.specs.Balance.{Balance, given_back, one_if};
+ghost use Rattle.sqlx_pool_core.specs.ReturnSteps.{give_answer, give_marks, core_after_give, end_marks, detach_marks, leak_marks, released, leaked, rested};
 ghost use Rattle.sqlx_pool_core.specs.PollSteps.{lent_since};
-ghost use Rattle.sqlx_pool_core.specs.Edits.{at_moment, unlent, kept};
+ghost use Rattle.sqlx_pool_core.specs.Edits.{at_moment, core_without_loan, kept};
 
 use super::Member;
 use crate::lists;
 use crate::steps::{Given, Lent};
-use crate::ticket::Held;
+use crate::ticket::OwnedConn;
 use sqlx_text::Moment;
 
 // A duration is above its limit; without a limit none is.
@@ -47,7 +47,7 @@ impl<C> Member<C> {
     }
 
     /// This client's loan of this connection.
-    pub fn loan(&self, client: u32, conn: u64) -> Option<Held>
+    pub fn loan(&self, client: u32, conn: u64) -> Option<OwnedConn>
         ensures found { result ≡ loan_of client conn self.now.held }
         ensures own { IfSome result (λ h. loan_of h.client h.conn self.now.held ≡ Some h) }
         ensures conn { IfSome result (λ h. h.conn ≡ conn) }
@@ -57,10 +57,10 @@ impl<C> Member<C> {
     }
 
     // Puts an owned connection last among the idle.
-    fn keep(&mut self, loan: Held, raw: C, moment: Moment)
+    fn keep(&mut self, loan: OwnedConn, raw: C, moment: Moment)
         requires found { loan_of loan.client loan.conn self.old.held ≡ Some loan }
         requires open { self.old.shut ≡ false }
-        ensures { self.new ≡ at_moment moment.0 (kept (record { id = loan.conn; created = loan.created; raw = raw }) moment.0 (unlent loan.conn self.old)) }
+        ensures { self.new ≡ at_moment moment.0 (kept (record { id = loan.conn; created = loan.created; raw = raw }) moment.0 (core_without_loan loan.conn self.old)) }
     {
         let lent = Lent {
             id: loan.conn,
@@ -74,14 +74,14 @@ impl<C> Member<C> {
 
     // Ends a loan.
     fn unlend(&mut self, conn: u64)
-        ensures { self.new ≡ unlent conn self.old }
+        ensures { self.new ≡ core_without_loan conn self.old }
     {
         lists::end_loan(&mut self.held, conn);
     }
 
     // Ends a loan at a moment.
     fn unlend_at(&mut self, conn: u64, moment: Moment)
-        ensures { self.new ≡ at_moment moment.0 (unlent conn self.old) }
+        ensures { self.new ≡ at_moment moment.0 (core_without_loan conn self.old) }
     {
         lists::end_loan(&mut self.held, conn);
         self.last = moment;
@@ -93,8 +93,8 @@ impl<C> Member<C> {
         ensures makes { (marks : List Mark) → StandsIn self.old marks → MakesIn self.old.options.max_connections marks (give_marks lent.id moment.0 result) self.new }
         ensures stays { Stays self.old self.new }
         ensures draws { Draws self.old self.new (give_marks lent.id moment.0 result) }
-        ensures moves { Moves self.old self.new (give_marks lent.id moment.0 result) (given_back result) 0 }
-        ensures becomes { self.new ≡ gave (loan_of client lent.id self.old.held) lent moment.0 result self.old }
+        ensures balance { Balance self.old self.new (give_marks lent.id moment.0 result) (given_back result) 0 }
+        ensures becomes { self.new ≡ core_after_give (loan_of client lent.id self.old.held) lent moment.0 result self.old }
     {
         self.take_back(client, lent, moment, accepted)
     }
@@ -102,7 +102,7 @@ impl<C> Member<C> {
     // Takes a connection back at a moment.
     fn take_back(&mut self, client: u32, lent: Lent<C>, moment: Moment, accepted: bool) -> Given<C>
         ensures answer { result ≡ give_answer self.old.options self.old.closed moment.0 accepted (loan_of client lent.id self.old.held) lent }
-        ensures becomes { self.new ≡ gave (loan_of client lent.id self.old.held) lent moment.0 result self.old }
+        ensures becomes { self.new ≡ core_after_give (loan_of client lent.id self.old.held) lent moment.0 result self.old }
         ensures sound { IsSound self.old }
     {
         let Some(loan) = self.loan(client, lent.id) else {
@@ -136,7 +136,7 @@ impl<C> Member<C> {
         ensures makes { (marks : List Mark) → StandsIn self.old marks → MakesIn self.old.options.max_connections marks (end_marks id result) self.new }
         ensures stays { Stays self.old self.new }
         ensures draws { Draws self.old self.new (end_marks id result) }
-        ensures moves { Moves self.old self.new (end_marks id result) (one_if result) 0 }
+        ensures balance { Balance self.old self.new (end_marks id result) (one_if result) 0 }
         ensures becomes { self.new ≡ released id result self.old }
     {
         self.release(client, id)
@@ -148,7 +148,7 @@ impl<C> Member<C> {
         ensures makes { (marks : List Mark) → StandsIn self.old marks → MakesIn self.old.options.max_connections marks (detach_marks id result) self.new }
         ensures stays { Stays self.old self.new }
         ensures draws { Draws self.old self.new (detach_marks id result) }
-        ensures moves { Moves self.old self.new (detach_marks id result) (one_if result) 0 }
+        ensures balance { Balance self.old self.new (detach_marks id result) (one_if result) 0 }
         ensures becomes { self.new ≡ released id result self.old }
     {
         self.release(client, id)
@@ -182,7 +182,7 @@ impl<C> Member<C> {
         ensures makes { (marks : List Mark) → StandsIn self.old marks → MakesIn self.old.options.max_connections marks (leak_marks id result) self.new }
         ensures stays { Stays self.old self.new }
         ensures draws { Draws self.old self.new (leak_marks id result) }
-        ensures moves { Moves self.old self.new (leak_marks id result) (one_if result) 0 }
+        ensures balance { Balance self.old self.new (leak_marks id result) (one_if result) 0 }
         ensures becomes { self.new ≡ leaked id result self.old }
     {
         self.lose(client, id)

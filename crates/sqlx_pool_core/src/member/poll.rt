@@ -9,10 +9,10 @@ ghost use Rattle.sqlx_pool_core.specs.Sound.{IsSound};
 ghost use Rattle.sqlx_pool_core.specs.StandsFor.{StandsIn};
 ghost use Rattle.sqlx_pool_core.specs.Makes.{MakesWhere};
 ghost use Rattle.sqlx_pool_core.specs.Numbers.{Draws, Stays};
-ghost use Rattle.sqlx_pool_core.specs.Moves.{Moves};
-ghost use Rattle.sqlx_pool_core.specs.OwnTurn.{is_first_in_line, turn_of, InOwnLine};
+ghost use Rattle.sqlx_pool_core.specs.Balance.{Balance};
+ghost use Rattle.sqlx_pool_core.specs.CoreTurn.{is_first_in_line, turn_of, InOwnLine};
 ghost use Rattle.sqlx_pool_core.specs.PollSteps.{start_answer, start_marks, started, phase_for};
-ghost use Rattle.sqlx_pool_core.specs.Edits.{at_moment, ended, to_try};
+ghost use Rattle.sqlx_pool_core.specs.Edits.{at_moment, core_without_ticket, to_try};
 ghost use Rattle.sqlx_pool_core.specs.declared.steps.Start.TheVariants as start;
 
 use super::{Member, NUMBERS};
@@ -87,7 +87,7 @@ impl<C> Member<C> {
 
     // Ends a ticket at a moment.
     pub(super) fn end_at(&mut self, number: u64, moment: Moment)
-        ensures { self.new ≡ at_moment moment.0 (ended number self.old) }
+        ensures { self.new ≡ at_moment moment.0 (core_without_ticket number self.old) }
     {
         self.tickets.end(number);
         self.last = moment;
@@ -100,7 +100,7 @@ impl<C> Member<C> {
         ensures makes { (marks : List Mark) → StandsIn self.old marks → MakesWhere (InOwnLine self.old marks ticket entitled) self.old.options.max_connections marks (start_marks ticket (phase_for client ticket self.old.tickets) result) self.new }
         ensures stays { Stays self.old self.new }
         ensures draws { Draws self.old self.new (start_marks ticket (phase_for client ticket self.old.tickets) result) }
-        ensures moves { Moves self.old self.new (start_marks ticket (phase_for client ticket self.old.tickets) result) 0 0 }
+        ensures balance { Balance self.old self.new (start_marks ticket (phase_for client ticket self.old.tickets) result) 0 0 }
         ensures becomes { self.new ≡ started ticket moment.0 result self.old }
     {
         self.start_at(client, ticket, moment, entitled)

@@ -10,7 +10,7 @@ ghost use Rattle.sqlx_pool_core.specs.Answers.{is_busy, lent_conn};
 ghost use Rattle.sqlx_pool_core.specs.Core.{waiting, free};
 ghost use Rattle.sqlx_log.specs.declared.mark.Mark.{Mark};
 ghost use Rattle.sqlx_pool_core.specs.Makes.{Makes};
-ghost use Rattle.sqlx_pool_core.specs.Moves.{Moves, ask_room, try_room};
+ghost use Rattle.sqlx_pool_core.specs.Balance.{Balance, ask_room, try_room};
 ghost use Rattle.sqlx_pool_core.specs.StandsFor.{StandsFor};
 ghost use Rattle.sqlx_log.specs.EventTable.{may_pass};
 ghost use Rattle.sqlx_pool_core.specs.PollSteps.{phase_for, may_cancel, cancel_marks, cancelled, try_lent, try_marks, after_try};
@@ -32,7 +32,7 @@ impl<C> PoolCore<C> {
         ensures exhausted { (result ≡ Err Error.Exhausted) ↔ ((self.old.shut ≡ false) × (2 ^ 63 < self.old.next_ticket)) }
         ensures causes { IfErr result (λ e. (e ≡ Error.PoolClosed) ⊎ ((e ≡ Error.Exhausted) ⊎ (e ≡ Error.OutOfMemory))) }
         ensures makes { (marks : List Mark) → StandsFor self.old marks → IfOk result (λ ticket. Makes self.old.options.max_connections marks (Mark.Asked ticket client (moment_of self.old now + self.old.options.acquire_timeout) ∷ []) self.new) }
-        ensures moves { IfOk result (λ ticket. Moves self.old self.new (Mark.Asked ticket client (moment_of self.old now + self.old.options.acquire_timeout) ∷ []) 0 (ask_room self.old.options.idle_tries)) }
+        ensures balance { IfOk result (λ ticket. Balance self.old self.new (Mark.Asked ticket client (moment_of self.old now + self.old.options.acquire_timeout) ∷ []) 0 (ask_room self.old.options.idle_tries)) }
         ensures becomes { OnOk result (self.new ≡ at_moment (moment_of self.old now) (asked client (moment_of self.old now + self.old.options.acquire_timeout) self.old)) }
         ensures err { OnErr result (self.new ≡ self.old) }
     {
@@ -48,7 +48,7 @@ impl<C> PoolCore<C> {
         ensures marks { (marks : List Mark) → StandsFor self.old marks → result ≡ (is_some (asked_in client ticket (tickets_of marks)) && not (is_busy (phase_for client ticket self.old.tickets))) }
         ensures answer { result ≡ may_cancel (phase_for client ticket self.old.tickets) }
         ensures makes { Logs self.old (cancel_marks ticket result) self.new }
-        ensures moves { Moves self.old self.new (cancel_marks ticket result) 0 0 }
+        ensures balance { Balance self.old self.new (cancel_marks ticket result) 0 0 }
         ensures becomes { self.new ≡ cancelled ticket result self.old }
     {
         let done = self.pool.cancel(client, ticket);
@@ -62,7 +62,7 @@ impl<C> PoolCore<C> {
         ensures marks { (marks : List Mark) → StandsFor self.old marks → option_map lent_conn result ≡ lent_past_at self.old.options.max_connections self.old.places marks }
         ensures answer { result ≡ try_lent (may_pass self.old.shut (waiting self.old.tickets) (free self.old)) self.old.idle }
         ensures makes { Logs self.old (try_marks client result) self.new }
-        ensures moves { Moves self.old self.new (try_marks client result) 0 (try_room result) }
+        ensures balance { Balance self.old self.new (try_marks client result) 0 (try_room result) }
         ensures becomes { self.new ≡ after_try client (moment_of self.old now) result self.old }
     {
         let moment = self.pool.moment(now);

@@ -5,8 +5,8 @@ ghost use Rattle.sqlx_log.specs.declared.mark.Mark.{Mark};
 ghost use Rattle.sqlx_log.specs.Marks.{is_open};
 ghost use Rattle.sqlx_log.specs.EventTable.{closed_at};
 ghost use Rattle.sqlx_pool_core.specs.Logs.{Logs};
-ghost use Rattle.sqlx_pool_core.specs.KeepingSteps.{idle_conn, close_marks, close_answer, closed_from, close_state, close_state_of};
-ghost use Rattle.sqlx_pool_core.specs.Moves.{Moves};
+ghost use Rattle.sqlx_pool_core.specs.MaintenanceSteps.{idle_conn, close_marks, close_answer, closed_from, close_state, close_state_of};
+ghost use Rattle.sqlx_pool_core.specs.Balance.{Balance};
 ghost use Rattle.sqlx_pool_core.specs.StandsFor.{StandsFor};
 
 use super::PoolCore;
@@ -22,7 +22,7 @@ impl<C> PoolCore<C> {
         ensures answer { result.items ≡ close_answer self.old.shut self.old.idle }
         ensures becomes { self.new ≡ closed_from self.old.shut self.old }
         ensures closed { self.new.shut ≡ true }
-        ensures moves { Moves self.old self.new (close_marks self.old.shut result.items) 0 0 }
+        ensures balance { Balance self.old self.new (close_marks self.old.shut result.items) 0 0 }
     {
         let idle = self.pool.close();
         self.pool.sound();

@@ -6,7 +6,7 @@ ghost use Rattle.sqlx_log.specs.declared.mark.Mark.{Mark};
 ghost use Rattle.sqlx_log.specs.Marks.{is_shut, next_conn};
 ghost use Rattle.sqlx_pool_core.specs.Logs.{Logs, moment_of};
 ghost use Rattle.sqlx_pool_core.specs.Core.{ticket_of};
-ghost use Rattle.sqlx_pool_core.specs.Moves.{Moves};
+ghost use Rattle.sqlx_pool_core.specs.Balance.{Balance};
 ghost use Rattle.sqlx_pool_core.specs.StandsFor.{StandsFor};
 ghost use Rattle.sqlx_pool_core.specs.PollSteps.{phase_for, tested_at, judged, may_test_next, test_answer, test_marks, after_test, connect_answer, connect_marks, after_connect};
 
@@ -22,7 +22,7 @@ impl<C> PoolCore<C> {
         ensures marks { (marks : List Mark) → StandsFor self.old marks → result ≡ test_answer (tested_at (judged verdict) (phase_for client ticket self.old.tickets)) (list_any is_shut marks) (may_test_next self.old.options.idle_tries (phase_for client ticket self.old.tickets)) self.old.idle verdict }
         ensures answer { result ≡ test_answer (tested_at (judged verdict) (phase_for client ticket self.old.tickets)) self.old.shut (may_test_next self.old.options.idle_tries (phase_for client ticket self.old.tickets)) self.old.idle verdict }
         ensures makes { Logs self.old (test_marks client ticket (judged verdict) result) self.new }
-        ensures moves { Moves self.old self.new (test_marks client ticket (judged verdict) result) 0 0 }
+        ensures balance { Balance self.old self.new (test_marks client ticket (judged verdict) result) 0 0 }
         ensures becomes { self.new ≡ after_test client ticket result self.old }
     {
         let after = self.pool.finish_test(client, ticket, verdict);
@@ -41,7 +41,7 @@ impl<C> PoolCore<C> {
         ensures marks { (marks : List Mark) → StandsFor self.old marks → result ≡ connect_answer (ticket_of client ticket self.old.tickets) (list_any is_shut marks) (next_conn marks) (moment_of self.old now) tried }
         ensures answer { result ≡ connect_answer (ticket_of client ticket self.old.tickets) self.old.shut self.old.next_conn (moment_of self.old now) tried }
         ensures makes { Logs self.old (connect_marks client ticket (moment_of self.old now) result) self.new }
-        ensures moves { Moves self.old self.new (connect_marks client ticket (moment_of self.old now) result) 0 0 }
+        ensures balance { Balance self.old self.new (connect_marks client ticket (moment_of self.old now) result) 0 0 }
         ensures becomes { self.new ≡ after_connect client ticket (moment_of self.old now) result self.old }
     {
         let moment = self.pool.moment(now);

@@ -10,14 +10,14 @@ ghost use Rattle.sqlx_pool_core.specs.Logs.{Logs, moment_of};
 ghost use Rattle.sqlx_pool_core.specs.Answers.{is_kept, is_held};
 ghost use Rattle.sqlx_pool_core.specs.Limits.{limits_of};
 ghost use Rattle.sqlx_pool_core.specs.Core.{loan_of};
-ghost use Rattle.sqlx_pool_core.specs.Moves.{Moves, given_back, one_if};
+ghost use Rattle.sqlx_pool_core.specs.Balance.{Balance, given_back, one_if};
 ghost use Rattle.sqlx_pool_core.specs.Sound.{IsSound};
 ghost use Rattle.sqlx_pool_core.specs.StandsFor.{StandsFor};
-ghost use Rattle.sqlx_pool_core.specs.ReturnSteps.{give_answer, give_marks, gave, end_marks, detach_marks, leak_marks, released, leaked};
+ghost use Rattle.sqlx_pool_core.specs.ReturnSteps.{give_answer, give_marks, core_after_give, end_marks, detach_marks, leak_marks, released, leaked};
 
 use super::PoolCore;
 use crate::steps::{Given, Lent};
-use crate::ticket::Held;
+use crate::ticket::OwnedConn;
 use sqlx_text::Moment;
 
 impl<C> PoolCore<C> {
@@ -32,7 +32,7 @@ impl<C> PoolCore<C> {
     }
 
     // This client's loan of this connection.
-    pub(super) fn loan(&self, client: u32, conn: u64) -> Option<Held>
+    pub(super) fn loan(&self, client: u32, conn: u64) -> Option<OwnedConn>
         ensures found { result ≡ loan_of client conn self.now.held }
         ensures sound { IsSound self.now }
     {
@@ -47,8 +47,8 @@ impl<C> PoolCore<C> {
         ensures marks { (marks : List Mark) → StandsFor self.old marks → (is_kept result ≡ is_kept_at (limits_of self.old.options) marks client lent.id (moment_of self.old now) accepted) × (is_held result ≡ owns client (owner_of lent.id marks)) }
         ensures answer { result ≡ give_answer self.old.options self.old.shut (moment_of self.old now) accepted (loan_of client lent.id self.old.held) lent }
         ensures makes { Logs self.old (give_marks lent.id (moment_of self.old now) result) self.new }
-        ensures moves { Moves self.old self.new (give_marks lent.id (moment_of self.old now) result) (given_back result) 0 }
-        ensures becomes { self.new ≡ gave (loan_of client lent.id self.old.held) lent (moment_of self.old now) result self.old }
+        ensures balance { Balance self.old self.new (give_marks lent.id (moment_of self.old now) result) (given_back result) 0 }
+        ensures becomes { self.new ≡ core_after_give (loan_of client lent.id self.old.held) lent (moment_of self.old now) result self.old }
     {
         let moment = self.pool.moment(now);
         self.pool.sound();
@@ -63,7 +63,7 @@ impl<C> PoolCore<C> {
         ensures marks { (marks : List Mark) → StandsFor self.old marks → result ≡ owns client (owner_of id marks) }
         ensures answer { result ≡ is_some (loan_of client id self.old.held) }
         ensures makes { Logs self.old (end_marks id result) self.new }
-        ensures moves { Moves self.old self.new (end_marks id result) (one_if result) 0 }
+        ensures balance { Balance self.old self.new (end_marks id result) (one_if result) 0 }
         ensures becomes { self.new ≡ released id result self.old }
     {
         self.pool.sound();
@@ -78,7 +78,7 @@ impl<C> PoolCore<C> {
         ensures marks { (marks : List Mark) → StandsFor self.old marks → result ≡ owns client (owner_of id marks) }
         ensures answer { result ≡ is_some (loan_of client id self.old.held) }
         ensures makes { Logs self.old (detach_marks id result) self.new }
-        ensures moves { Moves self.old self.new (detach_marks id result) (one_if result) 0 }
+        ensures balance { Balance self.old self.new (detach_marks id result) (one_if result) 0 }
         ensures becomes { self.new ≡ released id result self.old }
     {
         self.pool.sound();
@@ -93,7 +93,7 @@ impl<C> PoolCore<C> {
         ensures marks { (marks : List Mark) → StandsFor self.old marks → result ≡ owns client (owner_of id marks) }
         ensures answer { result ≡ is_some (loan_of client id self.old.held) }
         ensures makes { Logs self.old (leak_marks id result) self.new }
-        ensures moves { Moves self.old self.new (leak_marks id result) (one_if result) 0 }
+        ensures balance { Balance self.old self.new (leak_marks id result) (one_if result) 0 }
         ensures becomes { self.new ≡ leaked id result self.old }
     {
         self.pool.sound();

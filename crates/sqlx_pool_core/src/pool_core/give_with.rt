@@ -7,7 +7,7 @@ ghost use Rattle.sqlx_pool_core.specs.Logs.{moment_of};
 
 use super::PoolCore;
 use crate::outside::{Outside, PoolConnectionMetadata};
-use crate::probe::{self, Check};
+use crate::idle_check::{self, Check};
 use crate::steps::{Given, Lent, Returned};
 use sqlx_text::Moment;
 
@@ -24,7 +24,7 @@ fn tests_if<C, O, X: Outside<C, O>>(
     if closes {
         Check::Close
     } else {
-        probe::returns::<C, O, X>(hook, raw, meta, out)
+        idle_check::returns::<C, O, X>(hook, raw, meta, out)
     }
 }
 

@@ -6,13 +6,13 @@ ghost use Rattle.sqlx_log.specs.EventTable.{lacking_at};
 ghost use Rattle.sqlx_pool_core.specs.Limits.{limits_of};
 ghost use Rattle.sqlx_pool_core.specs.StandsFor.{StandsFor};
 ghost use Rattle.sqlx_pool_core.specs.Logs.{Logs, moment_of};
-ghost use Rattle.sqlx_pool_core.specs.KeepingSteps.{done, done_marks, has_place, lacks};
+ghost use Rattle.sqlx_pool_core.specs.MaintenanceSteps.{done, done_marks, has_place, lacks};
 ghost use Rattle.sqlx_pool_core.specs.Minimum.{KeepsMinimum, Opens, openings_made};
 ghost use Rattle.sqlx_pool_core.specs.Outside.{HasRisen, is_want};
 
 use super::PoolCore;
 use crate::outside::Outside;
-use crate::probe::{self, Opening};
+use crate::idle_check::{self, Opening};
 use crate::steps::Openings;
 use sqlx_text::{Error, Moment};
 use std::alloc::Global;
@@ -68,7 +68,7 @@ impl<C> PoolCore<C> {
         let _max = self.options().get_max_connections();
         let mut opened = 0;
         'places: while self.minimum_place() {
-            match probe::try_connect::<C, O, X>(alloc, hook, options, out) {
+            match idle_check::try_connect::<C, O, X>(alloc, hook, options, out) {
                 Opening::Opened(raw) => {
                     self.fill(now, Some(raw));
                     opened += 1;

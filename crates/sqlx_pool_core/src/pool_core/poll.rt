@@ -3,10 +3,10 @@
 ghost use Rattle.std.specs.Prelude.{◌≡◌, ℕ, max, List, Option};
 ghost use Rattle.sqlx_log.specs.declared.mark.Mark.{Mark};
 ghost use Rattle.sqlx_pool_core.specs.Logs.{Logs, moment_of};
-ghost use Rattle.sqlx_pool_core.specs.OwnTurn.{own_turn};
+ghost use Rattle.sqlx_pool_core.specs.CoreTurn.{core_turn};
 ghost use Rattle.sqlx_pool_core.specs.PollSteps.{start_answer, start_marks, started, phase_for};
 ghost use Rattle.sqlx_pool_core.specs.PollTable.{phase_turn};
-ghost use Rattle.sqlx_pool_core.specs.Moves.{Moves};
+ghost use Rattle.sqlx_pool_core.specs.Balance.{Balance};
 ghost use Rattle.sqlx_pool_core.specs.StandsFor.{StandsFor};
 
 use super::PoolCore;
@@ -19,8 +19,8 @@ impl<C> PoolCore<C> {
         // The answer is the poll table's, by the tickets, permits and idle connections of the marks and the ticket's own phase.
         ensures answer { (marks : List Mark) → StandsFor self.old marks → result ≡ start_answer (phase_turn self.old.options.max_connections self.old.places marks client ticket (moment_of self.old now) (phase_for client ticket self.old.tickets)) self.old.idle }
         ensures makes { Logs self.old (start_marks ticket (phase_for client ticket self.old.tickets) result) self.new }
-        ensures moves { Moves self.old self.new (start_marks ticket (phase_for client ticket self.old.tickets) result) 0 0 }
-        ensures own { result ≡ start_answer (own_turn self.old client ticket (moment_of self.old now)) self.old.idle }
+        ensures balance { Balance self.old self.new (start_marks ticket (phase_for client ticket self.old.tickets) result) 0 0 }
+        ensures own { result ≡ start_answer (core_turn self.old client ticket (moment_of self.old now)) self.old.idle }
         ensures becomes { self.new ≡ started ticket (moment_of self.old now) result self.old }
     {
         let moment = self.pool.moment(now);

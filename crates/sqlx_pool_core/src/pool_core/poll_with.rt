@@ -6,15 +6,15 @@ ghost use Rattle.sqlx_pool_core.specs.declared.ticket.Phase.TheVariants.{Connect
 ghost use Rattle.sqlx_pool_core.specs.Core.{ticket_of};
 ghost use Rattle.sqlx_pool_core.specs.Logs.{Logs, moment_of};
 ghost use Rattle.sqlx_pool_core.specs.StandsFor.{StandsFor};
-ghost use Rattle.sqlx_pool_core.specs.OwnTurn.{own_turn};
+ghost use Rattle.sqlx_pool_core.specs.CoreTurn.{core_turn};
 ghost use Rattle.sqlx_pool_core.specs.PollTable.{phase_turn};
-ghost use Rattle.sqlx_pool_core.specs.PollParts.{IfReady, IfRefused, IsForGood, StayAtRest, first_depth, tried_answer, due};
+ghost use Rattle.sqlx_pool_core.specs.PollParts.{IfReady, IfRefused, IsForGood, StayAtRest, first_depth, tried_answer, next_try_at};
 ghost use Rattle.sqlx_pool_core.specs.PollSteps.{phase_for, judged, tested_at, may_test_next, test_answer, test_marks, after_test, connect_answer, connect_marks, after_connect};
 ghost use Rattle.sqlx_pool_core.specs.Walk.{GoesOn, Polls, Test, Connect, last, tried_of};
 
 use super::PoolCore;
 use crate::outside::Outside;
-use crate::probe::{self, Opening};
+use crate::idle_check::{self, Opening};
 use crate::steps::{AfterConnect, AfterTest, Idle, Polled, Start, Tried, Verdict};
 use sqlx_text::Moment;
 use std::alloc::Global;
@@ -49,7 +49,7 @@ impl<C> PoolCore<C> {
         requires open { self.old.shut ≡ false }
         requires at { moment.0 ≡ self.old.last }
         ensures tells { result ≡ connect_answer (ticket_of client ticket self.old.tickets) self.old.shut self.old.next_conn moment.0 tried }
-        ensures answer { result ≡ tried_answer self.old.next_conn moment.0 (due moment.0 (ticket_of client ticket self.old.tickets)) tried }
+        ensures answer { result ≡ tried_answer self.old.next_conn moment.0 (next_try_at moment.0 (ticket_of client ticket self.old.tickets)) tried }
         ensures makes { Logs self.old (connect_marks client ticket moment.0 result) self.new }
         ensures becomes { self.new ≡ after_connect client ticket moment.0 result self.old }
     {
@@ -116,7 +116,7 @@ impl<C> PoolCore<C> {
         ensures { GoesOn X.does X.depth options.now client ticket moment.0 Connect self.old self.new out.old out.new result }
     {
         let hook = self.options().get_after_connect();
-        let opening = probe::try_connect::<C, O, X>(alloc, hook, options, out);
+        let opening = idle_check::try_connect::<C, O, X>(alloc, hook, options, out);
         self.tell(client, ticket, moment, opening)
     }
 
@@ -138,7 +138,7 @@ impl<C> PoolCore<C> {
     {
         let set = *self.options();
         let created = idle.lent.created;
-        let verdict = probe::test::<C, O, X>(&set, idle, moment, out);
+        let verdict = idle_check::test::<C, O, X>(&set, idle, moment, out);
         match self.test_ended(client, ticket, created, verdict) {
             AfterTest::Ready(lent) => Polled::Ready(lent),
             AfterTest::Test(next) => self.test_taken::<O, X>(
@@ -163,7 +163,7 @@ impl<C> PoolCore<C> {
     ) -> Polled<C>
         ensures polls { Polls X.does X.depth options.now client ticket (moment_of self.old now) self.old self.new out.old out.new result }
         // The turn is the poll table's, by the marks that the core stands for.
-        ensures turn { (marks : List Mark) → StandsFor self.old marks → own_turn self.old client ticket (moment_of self.old now) ≡ phase_turn self.old.options.max_connections self.old.places marks client ticket (moment_of self.old now) (phase_for client ticket self.old.tickets) }
+        ensures turn { (marks : List Mark) → StandsFor self.old marks → core_turn self.old client ticket (moment_of self.old now) ≡ phase_turn self.old.options.max_connections self.old.places marks client ticket (moment_of self.old now) (phase_for client ticket self.old.tickets) }
         // A connect is refused for good for want of memory, or a fault was counted; it isn't a refusal that may pass.
         ensures cause { IfRefused result (λ e. IsForGood (X.faults out.old) (X.faults out.new) e) }
         // The counts never fall.

@@ -3,7 +3,7 @@ use Rattle.std.specs.List.{insert}
 use Rattle.std.proofs.Math.Nat.{max-eq_right}
 use Rattle.sqlx_pool_core.specs.Core.{loan_of}
 use Rattle.sqlx_pool_core.specs.Logs.{Logs}
-use Rattle.sqlx_pool_core.specs.ReturnSteps.{give_answer, give_marks, gave}
+use Rattle.sqlx_pool_core.specs.ReturnSteps.{give_answer, give_marks, core_after_give}
 use Rattle.sqlx_pool_core.specs.declared.steps.Given.{Given}
 use Rattle.sqlx_pool_core.specs.declared.steps.Given.TheVariants as given
 use Rattle.mem_store.specs.Store.{Link}
@@ -31,7 +31,7 @@ returns-in-Kept-clause-ok c = λ marks past at.
     _ m (max-eq_right c.requires.in_order) refl refl (w.store ∙ ap (λ (g : Given Link). given_store g c.begin_give.new.self.store) made ∙ c.begin_give.ensures.store) taken.1
     (sym made ∙ w.answer ∙ ap (λ (hook : Bool). give_answer old.core.options old.core.shut m (may_rest hook c.args.answers l.raw.depth) (loan_of c.args.client l.id old.core.held) l) at.set_up.after_release)
     (subst (λ (g : Given Link). Logs old.core (give_marks l.id m g) c.give_with.new.self) made w.makes)
-    (w.becomes ∙ ap (λ (g : Given Link). gave (loan_of c.args.client l.id old.core.held) l m g old.core) made) marks past at
+    (w.becomes ∙ ap (λ (g : Given Link). core_after_give (loan_of c.args.client l.id old.core.held) l m g old.core) made) marks past at
 
 pub returns-in-Closed-clause-ok : goal.returns-in-Closed-clause-ok
 returns-in-Closed-clause-ok c = λ marks past at.
@@ -47,7 +47,7 @@ returns-in-Closed-clause-ok c = λ marks past at.
     _ m raw (max-eq_right c.requires.in_order) refl refl (w.store ∙ ap (λ (g : Given Link). given_store g c.begin_give.new.self.store) made ∙ ap (closed_in raw.depth) c.begin_give.ensures.store) taken.1
     (sym made ∙ w.answer ∙ ap (λ (hook : Bool). give_answer old.core.options old.core.shut m (may_rest hook c.args.answers l.raw.depth) (loan_of c.args.client l.id old.core.held) l) at.set_up.after_release)
     (subst (λ (g : Given Link). Logs old.core (give_marks l.id m g) c.give_with.new.self) made w.makes)
-    (w.becomes ∙ ap (λ (g : Given Link). gave (loan_of c.args.client l.id old.core.held) l m g old.core) made) marks past at
+    (w.becomes ∙ ap (λ (g : Given Link). core_after_give (loan_of c.args.client l.id old.core.held) l m g old.core) made) marks past at
 
 pub returns-in_ok-put_lent-in-NotHeld-clause-ok : goal.returns-in_ok-put_lent-in-NotHeld-clause-ok
 returns-in_ok-put_lent-in-NotHeld-clause-ok c = λ marks past at.
@@ -63,4 +63,4 @@ returns-in_ok-put_lent-in-NotHeld-clause-ok c = λ marks past at.
     _ m raw refl refl (w.store ∙ ap (λ (g : Given Link). given_store g c.begin_give.new.self.store) made ∙ c.begin_give.ensures.store) c.in-Some.at (place-below (is_lent c.args.conn) old.lent.items _ c.in-Some.at c.deref.ensures.value place) c.remove-lent.ensures.value
     (c.in_ok-put_lent-in-NotHeld.ensures.ok ∙ ap (λ (items : _). insert items c.in-Some.at (record { id = c.args.conn; created = l.created; raw = raw })) c.remove-lent.ensures.items)
     (sym made ∙ w.answer ∙ ap (λ (hook : Bool). give_answer old.core.options old.core.shut m (may_rest hook c.args.answers l.raw.depth) (loan_of c.args.client l.id old.core.held) l) at.set_up.after_release)
-    (w.becomes ∙ ap (λ (g : Given Link). gave (loan_of c.args.client l.id old.core.held) l m g old.core) made) marks past at
+    (w.becomes ∙ ap (λ (g : Given Link). core_after_give (loan_of c.args.client l.id old.core.held) l m g old.core) made) marks past at

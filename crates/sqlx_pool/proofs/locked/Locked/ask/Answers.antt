@@ -23,7 +23,7 @@ invariant_of-self-2 g c =
     let due = c.due.ensures in
     let len = c.in-Ok.ensures.len in
     let capacity = c.push_reserved.ensures.capacity in
-    stepped c.self.invariant c.in_ok-ticket.ensures.moves c.in_ok-ticket.ensures.makes
+    stepped c.self.invariant c.in_ok-ticket.ensures.balance c.in_ok-ticket.ensures.makes
     (leaves-along g.C.Depth.levels core _ _ c.in_ok-ticket.ensures.becomes (asked-leaves g.C.Depth.levels (moment_of core c.args.now) c.args.client deadline core))
     c.self.inside.connect c.self.inside.books (kept-books c.self.inside.books (Asked ticket c.args.client deadline ∷ []) refl)
     c.push_reserved.new.self.items _ (c.push_reserved.ensures.items ∙ (ap (λ l. l ++ Asked ticket c.args.client (c.from.result + c.from-2.result) ∷ []) c.in-Ok.ensures.items ∙ ap (λ (n : ℕ). c.self.inside.log.items ++ Asked ticket c.args.client n ∷ []) e))

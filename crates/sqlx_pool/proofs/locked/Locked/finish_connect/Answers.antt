@@ -1,6 +1,6 @@
 use Rattle.std.proofs.Common.{ℕ, ◌++◌, inl, ap, ◌∙◌, arith}
 use Rattle.sqlx_pool_core.specs.Logs.{moment_of}
-use Rattle.sqlx_pool_core.specs.Moves.{one_if}
+use Rattle.sqlx_pool_core.specs.Balance.{one_if}
 use Rattle.sqlx_pool_core.specs.PollSteps.{connect_marks}
 use Rattle.sqlx_pool_core.specs.Core.{ticket_of}
 use Rattle.sqlx_pool.specs.Answers.{is_ended}
@@ -18,7 +18,7 @@ invariant_of-self g c =
     let made = c.lend_if-held.ensures.made in
     let capacity = c.connect.ensures.capacity in
     let room = c.self.invariant.room in
-    stepped c.self.invariant c.finish_connect-after.ensures.moves c.finish_connect-after.ensures.makes
+    stepped c.self.invariant c.finish_connect-after.ensures.balance c.finish_connect-after.ensures.makes
     (leaves-along g.C.Depth.levels core _ _ c.finish_connect-after.ensures.becomes (connect-leaves g.C.Depth.levels c.args.client c.args.ticket (moment_of core c.args.now) answer core))
     c.self.inside.connect c.lend_if-held.new.self (record { owned = omega (arith, lends, same, owned); made_is = omega (arith, lends, same, made); few = inl (connect-few c.args.client c.args.ticket (moment_of core c.args.now) answer) })
     c.connect.new.log.items _ (c.connect.ensures.marks ∙ ap (λ (n : ℕ). c.self.inside.log.items ++ connect_marks c.args.client c.args.ticket n answer) c.moment-moment.ensures.moment) (omega (arith, room, capacity))

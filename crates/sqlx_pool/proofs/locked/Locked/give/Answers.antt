@@ -1,7 +1,7 @@
 use Rattle.std.proofs.Common.{ℕ, ◌++◌, inl, ap, ◌∙◌, arith}
 use Rattle.sqlx_pool_core.specs.Core.{loan_of}
 use Rattle.sqlx_pool_core.specs.Logs.{moment_of}
-use Rattle.sqlx_pool_core.specs.Moves.{one_if}
+use Rattle.sqlx_pool_core.specs.Balance.{one_if}
 use Rattle.sqlx_pool_core.specs.ReturnSteps.{give_marks}
 use Rattle.sqlx_pool_core.specs.Answers.{is_kept}
 use Rattle.sqlx_pool.proofs.LeavesLemmas.{leaves-along, give-leaves}
@@ -20,7 +20,7 @@ invariant_of-self g c =
     let made = c.take_back_if-left.ensures.made in
     let capacity = c.give.ensures.capacity in
     let room = c.self.invariant.room in
-    stepped c.self.invariant c.give-given.ensures.moves c.give-given.ensures.makes
+    stepped c.self.invariant c.give-given.ensures.balance c.give-given.ensures.makes
     (leaves-along g.C.Depth.levels core _ _ c.give-given.ensures.becomes (give-leaves g.C.Depth.levels core.options core.shut moment c.args.accepted (loan_of c.args.client c.args.lent.id core.held) c.args.lent answer core c.give-given.ensures.answer c.requires.flat))
     c.self.inside.connect c.take_back_if-left.new.self (record { owned = omega (arith, none, same, back, owned); made_is = omega (arith, none, made); few = inl (omega (arith, none)) })
     c.give.new.log.items _ (c.give.ensures.marks ∙ ap (λ (n : ℕ). c.self.inside.log.items ++ give_marks c.args.lent.id n answer) c.moment-moment.ensures.moment) (omega (arith, room, capacity))

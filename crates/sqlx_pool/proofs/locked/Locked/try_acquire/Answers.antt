@@ -19,7 +19,7 @@ invariant_of-self-2 g c =
     let due = c.due.ensures in
     let len = c.in-Ok.ensures.len in
     let capacity = c.lend_past.ensures.capacity in
-    stepped c.self.invariant c.in-Some.ensures.moves c.in-Some.ensures.makes
+    stepped c.self.invariant c.in-Some.ensures.balance c.in-Some.ensures.makes
     (leaves-along g.C.Depth.levels core _ _ c.in-Some.ensures.becomes (try-leaves g.C.Depth.levels c.args.client (moment_of core c.args.now) (Some lent) core))
     c.self.inside.connect c.lend-held.new.self (record { owned = omega (arith, owned); made_is = made; few = inr (omega (arith, made, few, made_is)) })
     c.lend_past.new.log.items _ (c.lend_past.ensures.marks ∙ ap (λ l. l ++ Taken lent.id ∷ Lent c.args.client lent.id ∷ []) c.in-Ok.ensures.items)

@@ -1,5 +1,5 @@
 use Rattle.sqlx_pool_core.proofs.Answered.{connect-answered}
-use Rattle.sqlx_pool_core.proofs.Moving.{connect-moves}
+use Rattle.sqlx_pool_core.proofs.BalanceLemmas.{connect-moves}
 use Rattle.sqlx_pool_core.proofs.Drawn.{connect-draws, connect-stays}
 use Rattle.sqlx_pool_core.proofs.member.Member.finish_connect.Goals as goal
 
@@ -7,8 +7,8 @@ pub returns-clause-makes : goal.returns-clause-makes
 returns-clause-makes g c = λ marks s.
     connect-answered c.args.self.now c.connect_done.new.self marks c.connect_done.ensures.sound s c.args.client c.args.ticket c.args.moment.0 c.args.tried c.connect_done.result c.connect_done.ensures.answer c.connect_done.ensures.becomes
 
-pub returns-clause-moves : goal.returns-clause-moves
-returns-clause-moves g c =
+pub returns-clause-balance : goal.returns-clause-balance
+returns-clause-balance g c =
     connect-moves c.args.self.now c.connect_done.new.self c.connect_done.ensures.sound c.args.client c.args.ticket c.args.moment.0 c.args.tried c.connect_done.result c.connect_done.ensures.answer c.connect_done.ensures.becomes
 
 pub returns-clause-draws : goal.returns-clause-draws

@@ -1,5 +1,5 @@
 use Rattle.sqlx_pool_core.proofs.Answered.{test-answered}
-use Rattle.sqlx_pool_core.proofs.Moving.{test-moves}
+use Rattle.sqlx_pool_core.proofs.BalanceLemmas.{test-moves}
 use Rattle.sqlx_pool_core.proofs.Drawn.{test-draws, test-stays}
 use Rattle.sqlx_pool_core.proofs.member.Member.finish_test.Goals as goal
 
@@ -7,8 +7,8 @@ pub returns-clause-makes : goal.returns-clause-makes
 returns-clause-makes g c = λ marks s.
     test-answered c.args.self.now c.test_done.new.self marks c.test_done.ensures.sound s c.args.client c.args.ticket c.args.verdict c.test_done.result c.test_done.ensures.answer c.test_done.ensures.becomes
 
-pub returns-clause-moves : goal.returns-clause-moves
-returns-clause-moves g c =
+pub returns-clause-balance : goal.returns-clause-balance
+returns-clause-balance g c =
     test-moves c.args.self.now c.test_done.new.self c.test_done.ensures.sound c.args.client c.args.ticket c.args.verdict c.test_done.result c.test_done.ensures.answer c.test_done.ensures.becomes
 
 pub returns-clause-draws : goal.returns-clause-draws

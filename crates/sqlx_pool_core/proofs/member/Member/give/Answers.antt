@@ -1,5 +1,5 @@
 use Rattle.sqlx_pool_core.proofs.Answered.{give-answered}
-use Rattle.sqlx_pool_core.proofs.Moving.{give-moves}
+use Rattle.sqlx_pool_core.proofs.BalanceLemmas.{give-moves}
 use Rattle.sqlx_pool_core.proofs.Drawn.{give-draws, give-stays}
 use Rattle.sqlx_pool_core.proofs.member.Member.give.Goals as goal
 
@@ -7,8 +7,8 @@ pub returns-clause-makes : goal.returns-clause-makes
 returns-clause-makes g c = λ marks s.
     give-answered c.args.self.now c.take_back.new.self marks c.take_back.ensures.sound s c.args.client c.args.moment.0 c.args.lent c.args.accepted c.take_back.result c.take_back.ensures.answer c.take_back.ensures.becomes
 
-pub returns-clause-moves : goal.returns-clause-moves
-returns-clause-moves g c =
+pub returns-clause-balance : goal.returns-clause-balance
+returns-clause-balance g c =
     give-moves c.args.self.now c.take_back.new.self c.take_back.ensures.sound c.args.client c.args.moment.0 c.args.lent c.args.accepted c.take_back.result c.take_back.ensures.answer c.take_back.ensures.becomes
 
 pub returns-clause-draws : goal.returns-clause-draws

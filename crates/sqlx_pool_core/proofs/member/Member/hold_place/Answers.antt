@@ -1,5 +1,5 @@
 use Rattle.sqlx_pool_core.proofs.Answered.{place-answered}
-use Rattle.sqlx_pool_core.proofs.Moving.{place-moves}
+use Rattle.sqlx_pool_core.proofs.BalanceLemmas.{place-moves}
 use Rattle.sqlx_pool_core.proofs.Drawn.{place-draws, place-stays}
 use Rattle.sqlx_pool_core.proofs.member.Member.hold_place.Goals as goal
 
@@ -7,8 +7,8 @@ pub returns-clause-makes : goal.returns-clause-makes
 returns-clause-makes g c = λ marks s.
     place-answered c.args.self.now c.hold_if.new.self marks c.hold_if.ensures.sound s c.hold_if.result c.hold_if.ensures.becomes
 
-pub returns-clause-moves : goal.returns-clause-moves
-returns-clause-moves g c =
+pub returns-clause-balance : goal.returns-clause-balance
+returns-clause-balance g c =
     place-moves c.args.self.now c.hold_if.new.self c.hold_if.ensures.sound c.hold_if.result c.hold_if.ensures.becomes
 
 pub returns-clause-draws : goal.returns-clause-draws

@@ -1,5 +1,5 @@
 use Rattle.std.proofs.Common.{◌≤◌, arith, refl}
-use Rattle.sqlx_pool_core.proofs.KeepingCode.{sound-kept_new}
+use Rattle.sqlx_pool_core.proofs.MaintenanceCode.{sound-kept_new}
 use Rattle.sqlx_pool_core.proofs.member.Member.keep_new.Goals as goal
 
 pub invariant_of-self : goal.invariant_of-self

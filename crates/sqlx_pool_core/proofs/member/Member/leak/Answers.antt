@@ -1,5 +1,5 @@
 use Rattle.sqlx_pool_core.proofs.Answered.{leak-answered}
-use Rattle.sqlx_pool_core.proofs.Moving.{leak-moves}
+use Rattle.sqlx_pool_core.proofs.BalanceLemmas.{leak-moves}
 use Rattle.sqlx_pool_core.proofs.Drawn.{leak-draws, leak-stays}
 use Rattle.sqlx_pool_core.proofs.member.Member.leak.Goals as goal
 
@@ -7,8 +7,8 @@ pub returns-clause-makes : goal.returns-clause-makes
 returns-clause-makes g c = λ marks s.
     leak-answered c.args.self.now c.lose.new.self marks c.lose.ensures.sound s c.args.client c.args.id c.lose.result c.lose.ensures.answer c.lose.ensures.becomes
 
-pub returns-clause-moves : goal.returns-clause-moves
-returns-clause-moves g c =
+pub returns-clause-balance : goal.returns-clause-balance
+returns-clause-balance g c =
     leak-moves c.args.self.now c.lose.new.self c.lose.ensures.sound c.args.client c.args.id c.lose.result c.lose.ensures.answer c.lose.ensures.becomes
 
 pub returns-clause-draws : goal.returns-clause-draws

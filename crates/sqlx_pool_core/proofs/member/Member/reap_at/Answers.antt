@@ -1,6 +1,6 @@
 use Rattle.std.proofs.Common.{ap, sym, ◌∙◌, arith, Some}
-use Rattle.sqlx_pool_core.specs.KeepingSteps.{reaped}
-use Rattle.sqlx_pool_core.proofs.KeepingCode.{reaping, reaping-none}
+use Rattle.sqlx_pool_core.specs.MaintenanceSteps.{reaped}
+use Rattle.sqlx_pool_core.proofs.MaintenanceCode.{reaping, reaping-none}
 use Rattle.sqlx_pool_core.proofs.member.Member.reap_at.Goals as goal
 
 pub invariant_of-self : goal.invariant_of-self

@@ -1,5 +1,5 @@
 use Rattle.std.proofs.Common.{ap, ◌∙◌, arith}
-use Rattle.sqlx_pool_core.proofs.KeepingCode.{sound-shut}
+use Rattle.sqlx_pool_core.proofs.MaintenanceCode.{sound-shut}
 use Rattle.sqlx_pool_core.proofs.member.Member.shut_first.Goals as goal
 
 pub invariant_of-self : goal.invariant_of-self

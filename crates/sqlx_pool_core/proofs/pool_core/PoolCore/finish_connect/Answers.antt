@@ -8,8 +8,8 @@ pub returns-clause-makes : goal.returns-clause-makes
 returns-clause-makes g c =
     plain-alone _ _ _ c.self.view_is (λ core. connect_marks c.args.client c.args.ticket (max core.last c.args.now.0) c.finish_connect-after.result) _ (ap (λ (m : ℕ). connect_marks c.args.client c.args.ticket m c.finish_connect-after.result) c.moment-moment.ensures) c.self.invariant c.sound-2.ensures c.finish_connect-after.ensures.stays c.finish_connect-after.ensures.draws c.finish_connect-after.ensures.makes
 
-pub returns-clause-moves : goal.returns-clause-moves
-returns-clause-moves g c = moves-alone _ _ _ c.self.view_is (λ core. connect_marks c.args.client c.args.ticket (max core.last c.args.now.0) c.finish_connect-after.result) _ 0 0 (ap (λ (m : ℕ). connect_marks c.args.client c.args.ticket m c.finish_connect-after.result) c.moment-moment.ensures) c.finish_connect-after.ensures.moves
+pub returns-clause-balance : goal.returns-clause-balance
+returns-clause-balance g c = moves-alone _ _ _ c.self.view_is (λ core. connect_marks c.args.client c.args.ticket (max core.last c.args.now.0) c.finish_connect-after.result) _ 0 0 (ap (λ (m : ℕ). connect_marks c.args.client c.args.ticket m c.finish_connect-after.result) c.moment-moment.ensures) c.finish_connect-after.ensures.balance
 
 pub returns-clause-marks : goal.returns-clause-marks
 returns-clause-marks g c = λ marks s.

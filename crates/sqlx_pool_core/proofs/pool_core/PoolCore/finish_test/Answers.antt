@@ -7,8 +7,8 @@ pub returns-clause-makes : goal.returns-clause-makes
 returns-clause-makes g c =
     plain-alone _ _ _ c.self.view_is (λ core. test_marks c.args.client c.args.ticket (judged c.args.verdict) c.finish_test-after.result) _ refl c.self.invariant c.sound.ensures c.finish_test-after.ensures.stays c.finish_test-after.ensures.draws c.finish_test-after.ensures.makes
 
-pub returns-clause-moves : goal.returns-clause-moves
-returns-clause-moves g c = moves-alone _ _ _ c.self.view_is (λ core. test_marks c.args.client c.args.ticket (judged c.args.verdict) c.finish_test-after.result) _ 0 0 refl c.finish_test-after.ensures.moves
+pub returns-clause-balance : goal.returns-clause-balance
+returns-clause-balance g c = moves-alone _ _ _ c.self.view_is (λ core. test_marks c.args.client c.args.ticket (judged c.args.verdict) c.finish_test-after.result) _ 0 0 refl c.finish_test-after.ensures.balance
 
 pub returns-clause-marks : goal.returns-clause-marks
 returns-clause-marks g c = λ marks s.

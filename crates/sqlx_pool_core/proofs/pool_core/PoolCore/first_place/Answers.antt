@@ -1,16 +1,16 @@
 use Rattle.sqlx_pool_core.proofs.Alone.{plain-alone, moves-alone}
 use Rattle.std.proofs.Common.{rules, refl, ◌≡◌, ◌∙◌, max, []}
-use Rattle.sqlx_pool_core.specs.Moves.{place_room}
-use Rattle.sqlx_pool_core.specs.KeepingSteps.{has_place}
-use Rattle.sqlx_pool_core.proofs.KeepingAtMarks.{place-at}
+use Rattle.sqlx_pool_core.specs.Balance.{place_room}
+use Rattle.sqlx_pool_core.specs.MaintenanceSteps.{has_place}
+use Rattle.sqlx_pool_core.proofs.MaintenanceAtMarks.{place-at}
 use Rattle.sqlx_pool_core.proofs.pool_core.PoolCore.first_place.Goals as goal
 
 pub returns-clause-makes : goal.returns-clause-makes
 returns-clause-makes g c =
     plain-alone _ _ _ c.self.view_is (λ core. []) _ refl c.self.invariant c.sound.ensures c.hold_place-held.ensures.stays c.hold_place-held.ensures.draws c.hold_place-held.ensures.makes
 
-pub returns-clause-moves : goal.returns-clause-moves
-returns-clause-moves g c = moves-alone _ _ _ c.self.view_is (λ core. []) _ 0 (place_room c.hold_place-held.result) refl c.hold_place-held.ensures.moves
+pub returns-clause-balance : goal.returns-clause-balance
+returns-clause-balance g c = moves-alone _ _ _ c.self.view_is (λ core. []) _ 0 (place_room c.hold_place-held.result) refl c.hold_place-held.ensures.balance
 
 pub returns-clause-marks : goal.returns-clause-marks
 returns-clause-marks g c = λ marks s.

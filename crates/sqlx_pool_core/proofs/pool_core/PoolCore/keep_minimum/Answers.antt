@@ -1,9 +1,9 @@
 use Rattle.std.proofs.Common.{◌≡◌, ◌+◌, max, ℕ, Bool, true, [], ◌∷◌, None, Option, refl, sym, ap, ◌∙◌, subst, arith, inl, inr}
 use Rattle.sqlx_pool_core.specs.Core.{Core}
-use Rattle.sqlx_pool_core.specs.KeepingSteps.{done, done_marks, placed}
+use Rattle.sqlx_pool_core.specs.MaintenanceSteps.{done, done_marks, placed}
 use Rattle.sqlx_pool_core.specs.declared.options.PoolOptions.{PoolOptions}
-use Rattle.sqlx_pool_core.specs.declared.probe.Opening.{Opening}
-use Rattle.sqlx_pool_core.specs.declared.probe.Opening.TheVariants.{Opened, Rejected, Transient, Failed}
+use Rattle.sqlx_pool_core.specs.declared.idle_check.Opening.{Opening}
+use Rattle.sqlx_pool_core.specs.declared.idle_check.Opening.TheVariants.{Opened, Rejected, Transient, Failed}
 use Rattle.sqlx_pool_core.specs.Chain.{Tries}
 use Rattle.sqlx_pool_core.specs.Minimum.{filled, raw_of}
 use Rattle.sqlx_pool_core.specs.Logs.{Logs}
@@ -11,7 +11,7 @@ use Rattle.sqlx_pool_core.proofs.Polling.{logs-by}
 use Rattle.sqlx_pool_core.proofs.CallsKeep.{minimum-more}
 use Rattle.sqlx_pool_core.proofs.KeepRuns.{kept-so, kept-place}
 use Rattle.sqlx_pool_core.proofs.KeepEnds.{kept-ends, kept-short}
-use Rattle.sqlx_pool_core.proofs.Keeping.{step-marked, step-unmarked, before-more, keeps-ended, place-open, place-room, filled-size, filled-options}
+use Rattle.sqlx_pool_core.proofs.Maintenance.{step-marked, step-unmarked, before-more, keeps-ended, place-open, place-room, filled-size, filled-options}
 use Rattle.sqlx_pool_core.proofs.pool_core.PoolCore.keep_minimum.Goals as goal
 
 -- a place that was held, and what became of it

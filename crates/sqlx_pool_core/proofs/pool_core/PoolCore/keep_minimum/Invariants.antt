@@ -1,6 +1,6 @@
 use Rattle.std.proofs.Common.{◌≡◌, ◌-◌, ◌≤◌}
 use Rattle.sqlx_pool_core.specs.Core.{size}
-use Rattle.sqlx_pool_core.proofs.Keeping.{Before}
+use Rattle.sqlx_pool_core.proofs.Maintenance.{Before}
 use Rattle.sqlx_pool_core.proofs.pool_core.PoolCore.keep_minimum.Given as goal
 
 abbrev pub invariant-places : goal.invariant-places

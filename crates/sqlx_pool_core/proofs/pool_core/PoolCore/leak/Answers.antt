@@ -1,7 +1,7 @@
 use Rattle.sqlx_pool_core.proofs.Alone.{plain-alone, moves-alone}
 use Rattle.std.proofs.Common.{rules, subst, refl, ◌∙◌}
 use Rattle.sqlx_pool_core.specs.Sound.{IsSound}
-use Rattle.sqlx_pool_core.specs.Moves.{one_if}
+use Rattle.sqlx_pool_core.specs.Balance.{one_if}
 use Rattle.sqlx_pool_core.specs.ReturnSteps.{leak_marks}
 use Rattle.sqlx_pool_core.proofs.AnswersAtMarks.{owner-at}
 use Rattle.sqlx_pool_core.proofs.pool_core.PoolCore.leak.Goals as goal
@@ -10,8 +10,8 @@ pub returns-clause-makes : goal.returns-clause-makes
 returns-clause-makes g c =
     plain-alone _ _ _ c.self.view_is (λ core. leak_marks c.args.id c.leak-held.result) _ refl c.self.invariant c.sound-2.ensures c.leak-held.ensures.stays c.leak-held.ensures.draws c.leak-held.ensures.makes
 
-pub returns-clause-moves : goal.returns-clause-moves
-returns-clause-moves g c = moves-alone _ _ _ c.self.view_is (λ core. leak_marks c.args.id c.leak-held.result) _ (one_if c.leak-held.result) 0 refl c.leak-held.ensures.moves
+pub returns-clause-balance : goal.returns-clause-balance
+returns-clause-balance g c = moves-alone _ _ _ c.self.view_is (λ core. leak_marks c.args.id c.leak-held.result) _ (one_if c.leak-held.result) 0 refl c.leak-held.ensures.balance
 
 pub returns-clause-marks : goal.returns-clause-marks
 returns-clause-marks g c = λ marks s.

@@ -2,7 +2,7 @@ use Rattle.std.proofs.Common.{ℕ, max, ap, refl, subst}
 use Rattle.sqlx_pool_core.specs.declared.steps.Start.TheVariants as start
 use Rattle.sqlx_pool_core.specs.Core.{Core}
 use Rattle.sqlx_pool_core.specs.Walk.{Test, Connect, GoesOn}
-use Rattle.sqlx_pool_core.proofs.TurnAtMarks.{own_turn-stands}
+use Rattle.sqlx_pool_core.proofs.TurnAtMarks.{core_turn-stands}
 use Rattle.sqlx_pool_core.proofs.WholePoll.{takes, tries, taken-phase, trying-phase}
 use Rattle.sqlx_pool_core.proofs.Polling.{tested-found, plain-polls, begun-polls}
 use Rattle.sqlx_pool_core.proofs.CallsKeep.{polls-more}
@@ -63,10 +63,10 @@ pub returns-in-Connect-clause-cause : goal.returns-in-Connect-clause-cause
 returns-in-Connect-clause-cause g c = polls-cause g.X.Outside.does g.X.Outside.depth g.X.Outside.faults g.X.Outside.refusals g.X.Outside.IsShort g.met.X.Outside.facts _ _ _ _ _ _ _ _ _ (returns-in-Connect-clause-polls g c)
 
 pub returns-in-Waiting-clause-turn : goal.returns-in-Waiting-clause-turn
-returns-in-Waiting-clause-turn g c = λ marks s. own_turn-stands c.args.self.now marks s c.args.client c.args.ticket (max c.args.self.now.last c.args.now.0)
+returns-in-Waiting-clause-turn g c = λ marks s. core_turn-stands c.args.self.now marks s c.args.client c.args.ticket (max c.args.self.now.last c.args.now.0)
 
 pub returns-in-Backoff-clause-turn : goal.returns-in-Backoff-clause-turn
-returns-in-Backoff-clause-turn g c = λ marks s. own_turn-stands c.args.self.now marks s c.args.client c.args.ticket (max c.args.self.now.last c.args.now.0)
+returns-in-Backoff-clause-turn g c = λ marks s. core_turn-stands c.args.self.now marks s c.args.client c.args.ticket (max c.args.self.now.last c.args.now.0)
 
 pub returns-in-Test-clause-counts : goal.returns-in-Test-clause-counts
 returns-in-Test-clause-counts g c =

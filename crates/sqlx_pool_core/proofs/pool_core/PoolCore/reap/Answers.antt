@@ -2,16 +2,16 @@ use Rattle.sqlx_pool_core.proofs.Alone.{plain-alone, moves-alone}
 use Rattle.std.proofs.Common.{rules, refl, ◌≡◌, max}
 use Rattle.sqlx_pool_core.specs.Core.{waiting, free}
 use Rattle.sqlx_log.specs.EventTable.{may_pass}
-use Rattle.sqlx_pool_core.specs.KeepingSteps.{reap_answer, reap_marks}
-use Rattle.sqlx_pool_core.proofs.KeepingAtMarks.{reap-at}
+use Rattle.sqlx_pool_core.specs.MaintenanceSteps.{reap_answer, reap_marks}
+use Rattle.sqlx_pool_core.proofs.MaintenanceAtMarks.{reap-at}
 use Rattle.sqlx_pool_core.proofs.pool_core.PoolCore.reap.Goals as goal
 
 pub returns-clause-makes : goal.returns-clause-makes
 returns-clause-makes g c =
     plain-alone _ _ _ c.self.view_is (λ core. reap_marks c.reap-reaped.result) _ refl c.self.invariant c.sound.ensures c.reap-reaped.ensures.stays c.reap-reaped.ensures.draws c.reap-reaped.ensures.makes
 
-pub returns-clause-moves : goal.returns-clause-moves
-returns-clause-moves g c = moves-alone _ _ _ c.self.view_is (λ core. reap_marks c.reap-reaped.result) _ 0 0 refl c.reap-reaped.ensures.moves
+pub returns-clause-balance : goal.returns-clause-balance
+returns-clause-balance g c = moves-alone _ _ _ c.self.view_is (λ core. reap_marks c.reap-reaped.result) _ 0 0 refl c.reap-reaped.ensures.balance
 
 pub returns-clause-marks : goal.returns-clause-marks
 returns-clause-marks g c = λ marks s.

@@ -3,7 +3,7 @@ use Rattle.std.proofs.Common.{rules, refl, ◌≡◌, ◌∙◌, ap, option_map}
 use Rattle.sqlx_pool_core.specs.Core.{waiting, free}
 use Rattle.sqlx_log.specs.EventTable.{may_pass}
 use Rattle.sqlx_pool_core.specs.Answers.{lent_conn}
-use Rattle.sqlx_pool_core.specs.Moves.{try_room}
+use Rattle.sqlx_pool_core.specs.Balance.{try_room}
 use Rattle.sqlx_pool_core.specs.PollSteps.{try_marks, try_lent}
 use Rattle.sqlx_pool_core.proofs.AnswersAtMarks.{try-at}
 use Rattle.sqlx_pool_core.proofs.pool_core.PoolCore.try_acquire.Goals as goal
@@ -12,8 +12,8 @@ pub returns-clause-makes : goal.returns-clause-makes
 returns-clause-makes g c =
     try-alone _ _ _ c.self.view_is c.may_pass-passes.result (λ core. try_marks c.args.client c.try_acquire-lent.result) _ refl c.self.invariant c.sound.ensures c.try_acquire-lent.ensures.stays c.may_pass-passes.ensures c.try_acquire-lent.ensures.draws c.try_acquire-lent.ensures.makes
 
-pub returns-clause-moves : goal.returns-clause-moves
-returns-clause-moves g c = moves-alone _ _ _ c.self.view_is (λ core. try_marks c.args.client c.try_acquire-lent.result) _ 0 (try_room c.try_acquire-lent.result) refl c.try_acquire-lent.ensures.moves
+pub returns-clause-balance : goal.returns-clause-balance
+returns-clause-balance g c = moves-alone _ _ _ c.self.view_is (λ core. try_marks c.args.client c.try_acquire-lent.result) _ 0 (try_room c.try_acquire-lent.result) refl c.try_acquire-lent.ensures.balance
 
 pub returns-clause-marks : goal.returns-clause-marks
 returns-clause-marks g c = λ marks s.

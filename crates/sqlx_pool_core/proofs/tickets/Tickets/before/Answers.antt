@@ -5,7 +5,7 @@ use Rattle.std.proofs.lemmas.Iterator.Consumers.{YieldsList-from_rest, YieldsLis
 use Rattle.std.proofs.lemmas.Iterator.Search.{YieldsList-from_take_while}
 use Rattle.std.proofs.lemmas.List.Sums.{length-filter}
 use Rattle.sqlx_pool_core.specs.Core.{waits}
-use Rattle.sqlx_pool_core.specs.OwnTurn.{is_another}
+use Rattle.sqlx_pool_core.specs.CoreTurn.{is_another}
 use Rattle.sqlx_pool_core.proofs.tickets.Tickets.before.Goals as goal
 
 pub returns : goal.returns

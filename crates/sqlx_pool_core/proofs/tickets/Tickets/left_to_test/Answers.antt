@@ -2,7 +2,7 @@ use Rattle.std.proofs.Common.{rules, arith, ◌≡◌, ◌^◌, ◌≤◌, lengt
 use Rattle.std.proofs.lemmas.Iterator.Adapters.{fits_from_length, at_most_from_yields_List}
 use Rattle.std.proofs.lemmas.Iterator.Consumers.{YieldsList-from_rest}
 use Rattle.std.proofs.lemmas.List.{length-map}
-use Rattle.sqlx_pool_core.specs.Moves.{all_left_to_test}
+use Rattle.sqlx_pool_core.specs.Balance.{all_left_to_test}
 use Rattle.sqlx_pool_core.proofs.Counting.{few-left}
 use Rattle.sqlx_pool_core.proofs.tickets.Tickets.left_to_test.Goals as goal
 

@@ -1,7 +1,7 @@
 use Rattle.std.proofs.Common.{rules, tests, ◌∙◌}
 use Rattle.std.proofs.lemmas.Iterator.Consumers.{YieldsList-from_rest, YieldsList-from_filter, count_from_yields_List}
 use Rattle.std.proofs.lemmas.List.Sums.{length-filter}
-use Rattle.sqlx_pool_core.specs.Moves.{is_testing}
+use Rattle.sqlx_pool_core.specs.Balance.{is_testing}
 use Rattle.sqlx_pool_core.proofs.tickets.Tickets.testing.Goals as goal
 
 pub returns : goal.returns

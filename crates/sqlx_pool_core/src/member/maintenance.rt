@@ -8,8 +8,8 @@ ghost use Rattle.sqlx_pool_core.specs.Sound.{IsSound};
 ghost use Rattle.sqlx_pool_core.specs.StandsFor.{StandsIn};
 ghost use Rattle.sqlx_pool_core.specs.Makes.{MakesIn};
 ghost use Rattle.sqlx_pool_core.specs.Numbers.{Draws, Stays};
-ghost use Rattle.sqlx_pool_core.specs.Moves.{Moves, place_room};
-ghost use Rattle.sqlx_pool_core.specs.KeepingSteps.{is_reaped_at, without_first, reap_answer, reap_marks, reaped, has_place_if, placed, handed_back, done_marks, placed_back, done, close_marks, close_answer, closed_from};
+ghost use Rattle.sqlx_pool_core.specs.Balance.{Balance, place_room};
+ghost use Rattle.sqlx_pool_core.specs.MaintenanceSteps.{is_reaped_at, without_first, reap_answer, reap_marks, reaped, has_place_if, placed, handed_back, done_marks, placed_back, done, close_marks, close_answer, closed_from};
 ghost use Rattle.sqlx_pool_core.specs.Edits.{at_moment, kept, opened};
 
 use super::give::beyond;
@@ -52,7 +52,7 @@ impl<C> Member<C> {
         ensures makes { (marks : List Mark) → StandsIn self.old marks → MakesIn self.old.options.max_connections marks (reap_marks result) self.new }
         ensures stays { Stays self.old self.new }
         ensures draws { Draws self.old self.new (reap_marks result) }
-        ensures moves { Moves self.old self.new (reap_marks result) 0 0 }
+        ensures balance { Balance self.old self.new (reap_marks result) 0 0 }
         ensures becomes { self.new ≡ reaped moment.0 result self.old }
     {
         self.sound();
@@ -79,7 +79,7 @@ impl<C> Member<C> {
         ensures makes { (marks : List Mark) → StandsIn self.old marks → MakesIn self.old.options.max_connections marks [] self.new }
         ensures stays { Stays self.old self.new }
         ensures draws { Draws self.old self.new [] }
-        ensures moves { Moves self.old self.new [] 0 (place_room result) }
+        ensures balance { Balance self.old self.new [] 0 (place_room result) }
         ensures becomes { self.new ≡ placed result self.old }
     {
         self.hold_if(minimum, passes)
@@ -135,7 +135,7 @@ impl<C> Member<C> {
         ensures makes { (marks : List Mark) → StandsIn self.old marks → MakesIn self.old.options.max_connections marks (done_marks self.old.closed self.old.next_conn moment.0 raw) self.new }
         ensures stays { Stays self.old self.new }
         ensures draws { Draws self.old self.new (done_marks self.old.closed self.old.next_conn moment.0 raw) }
-        ensures moves { Moves self.old self.new (done_marks self.old.closed self.old.next_conn moment.0 raw) 0 0 }
+        ensures balance { Balance self.old self.new (done_marks self.old.closed self.old.next_conn moment.0 raw) 0 0 }
         ensures becomes { self.new ≡ done self.old.closed moment.0 raw self.old }
     {
         self.done_at(moment, raw)
@@ -165,7 +165,7 @@ impl<C> Member<C> {
         ensures answer { result.items ≡ close_answer self.old.shut self.old.idle }
         ensures makes { (marks : List Mark) → StandsIn self.old marks → MakesIn self.old.options.max_connections marks (close_marks self.old.shut result.items) self.new }
         ensures draws { Draws self.old self.new (close_marks self.old.shut result.items) }
-        ensures moves { Moves self.old self.new (close_marks self.old.shut result.items) 0 0 }
+        ensures balance { Balance self.old self.new (close_marks self.old.shut result.items) 0 0 }
         ensures becomes { self.new ≡ closed_from self.old.shut self.old }
         ensures shut { self.new.shut ≡ true }
     {

@@ -1,9 +1,9 @@
 use Rattle.std.proofs.Common.{rules, tests, ◌∙◌, sym, arith}
 use Rattle.std.proofs.lemmas.Iterator.Consumers.{YieldsList-from_deque}
 use Rattle.std.proofs.lemmas.Iterator.Search.{position_from_yields_List}
-use Rattle.sqlx_pool_core.specs.KeepingSteps.{is_reaped_at}
-use Rattle.sqlx_pool_core.proofs.KeepingCode.{none-taken, first-taken}
-use Rattle.sqlx_pool_core.proofs.member.keeping.take_reaped.Goals as goal
+use Rattle.sqlx_pool_core.specs.MaintenanceSteps.{is_reaped_at}
+use Rattle.sqlx_pool_core.proofs.MaintenanceCode.{none-taken, first-taken}
+use Rattle.sqlx_pool_core.proofs.member.maintenance.take_reaped.Goals as goal
 
 pub returns-in_err-at-clause-first : goal.returns-in_err-at-clause-first
 returns-in_err-at-clause-first g c =

@@ -28,8 +28,8 @@ turn_of entitled closed moment core (Some x) =
     if is_at_rest x.phase then turn_at_rest moment entitled closed core.next_conn core.idle x.deadline (is_out x.phase) (backs_off_until x.phase) else NotHeld
 
 -- what the poll of a client's ticket comes to at a moment, by the pool's own line
-abbrev pub own_turn : {C : Type 0} → Core C → ℕ → ℕ → ℕ → Turn
-own_turn core k t moment = turn_of (is_first_in_line t core) core.shut moment core (ticket_of k t core.tickets)
+abbrev pub core_turn : {C : Type 0} → Core C → ℕ → ℕ → ℕ → Turn
+core_turn core k t moment = turn_of (is_first_in_line t core) core.shut moment core (ticket_of k t core.tickets)
 
 -- A lone pool, which owns all its permits and draws its own numbers, entitles by its own line alone.
 pub record InOwnLine {C : Type 0} (core : Core C) (marks : List Mark) (t : ℕ) (entitled : Bool) : Type 0 where

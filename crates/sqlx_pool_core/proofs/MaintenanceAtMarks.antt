@@ -10,9 +10,9 @@ use Rattle.sqlx_log.specs.Counts.{left_in, free_of}
 use Rattle.sqlx_pool_core.specs.Core.{Core, resting, waiting, free}
 use Rattle.sqlx_pool_core.specs.StandsFor.{StandsIn, StandsFor}
 use Rattle.sqlx_log.specs.EventTable.{is_idle_too_long, may_pass, may_open, lacking}
-use Rattle.sqlx_pool_core.specs.KeepingSteps.{is_reaped_at, reap_answer, has_place, lacks, close_answer}
+use Rattle.sqlx_pool_core.specs.MaintenanceSteps.{is_reaped_at, reap_answer, has_place, lacks, close_answer}
 use Rattle.sqlx_log.specs.EventTable.{may_pass_at, is_old_since, is_beyond_at, entry_conn, reaped_at, has_place_at, lacking_at, closed_at}
-use Rattle.sqlx_pool_core.specs.KeepingSteps.{idle_conn}
+use Rattle.sqlx_pool_core.specs.MaintenanceSteps.{idle_conn}
 use Rattle.sqlx_pool_core.proofs.Stands.{IsIdleBorn, stands-in}
 use Rattle.sqlx_pool_core.proofs.TurnAtMarks.{gone-stands, waiting-stands, owned-stands, size-stands}
 

@@ -12,7 +12,7 @@ use Rattle.sqlx_log.specs.Born.{IsBorn}
 use Rattle.sqlx_pool_core.specs.StandsFor.{StandsIn}
 use Rattle.sqlx_log.specs.FairLog.{opens_it, first_of_marks}
 use Rattle.sqlx_pool_core.specs.Edits.{without_idle, kept, opened, at_moment}
-use Rattle.sqlx_pool_core.specs.KeepingSteps.{is_reaped_at, reap_answer, reap_marks, reaped, placed, done_marks, placed_back, done_at, done, closed_idle, close_marks, closed, closed_from}
+use Rattle.sqlx_pool_core.specs.MaintenanceSteps.{is_reaped_at, reap_answer, reap_marks, reaped, placed, done_marks, placed_back, done_at, done, closed_idle, close_marks, closed, closed_from}
 use Rattle.sqlx_log.proofs.ListFacts.{found_counts, found_any, length-filter_not, length-push, count_by-cons, same_number}
 use Rattle.sqlx_log.proofs.Pushed.{last_mark-push}
 use Rattle.sqlx_pool_core.proofs.Stands.{stands-beside, stands-counted, IsIdleBorn}

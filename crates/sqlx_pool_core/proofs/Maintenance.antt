@@ -4,9 +4,9 @@ use Rattle.sqlx_pool_core.specs.declared.steps.Openings.{Openings}
 use Rattle.sqlx_pool_core.specs.Edits.{at_moment}
 use Rattle.std.proofs.lemmas.Bool.{ltb-true}
 use Rattle.sqlx_pool_core.specs.Core.{Core, size}
-use Rattle.sqlx_pool_core.specs.KeepingSteps.{has_place, placed, placed_back, done_at, done_marks}
-use Rattle.sqlx_pool_core.specs.declared.probe.Opening.{Opening}
-use Rattle.sqlx_pool_core.specs.declared.probe.Opening.TheVariants.{Opened}
+use Rattle.sqlx_pool_core.specs.MaintenanceSteps.{has_place, placed, placed_back, done_at, done_marks}
+use Rattle.sqlx_pool_core.specs.declared.idle_check.Opening.{Opening}
+use Rattle.sqlx_pool_core.specs.declared.idle_check.Opening.TheVariants.{Opened}
 use Rattle.sqlx_pool_core.specs.Logs.{Logs}
 use Rattle.sqlx_pool_core.proofs.Polling.{logs-then, logs-by}
 use Rattle.sqlx_pool_core.specs.Calls.{Call}

@@ -71,18 +71,18 @@ all_left_to_test tries tickets = sum_by (left_to_test tries) tickets
 -- At most so many marks are made before the pool is closed and empty, where no ticket is asked, none is lent past the line and no place is held any more:
 -- eight for a ticket that waits, seven for one whose connection is under test, six for another, and two for each test that it may have yet;
 -- two for a loan, one for an idle connection, three for a place, one for the close.
-abbrev pub due : {C : Type 0} → Core C → ℕ
-due core = 6 * length core.tickets + 2 * waiting core.tickets + testing core.tickets + 2 * all_left_to_test core.options.idle_tries core.tickets
+abbrev pub marks_due : {C : Type 0} → Core C → ℕ
+marks_due core = 6 * length core.tickets + 2 * waiting core.tickets + testing core.tickets + 2 * all_left_to_test core.options.idle_tries core.tickets
     + 2 * length core.held + length core.idle + 3 * core.places + (if core.shut then 0 else 1)
 
 -- ---- steps
 
 -- A step that makes these marks, ends so many loans, and adds so many at most to what is due.
-pub record Moves {C : Type 0} (old new : Core C) (made : List Mark) (backs room : ℕ) : Type 0 where
+pub record Balance {C : Type 0} (old new : Core C) (made : List Mark) (backs room : ℕ) : Type 0 where
   pub tickets : length new.tickets + ends made ≡ length old.tickets + asks made
   pub numbers : new.next_ticket ≡ old.next_ticket + asks made
   pub held : length new.held + backs ≡ length old.held + lents made
-  pub paid : due new + length made ≤ due old + room
+  pub paid : marks_due new + length made ≤ marks_due old + room
 
 -- the loans that a step ends which tells so by its answer
 abbrev pub one_if : Bool → ℕ

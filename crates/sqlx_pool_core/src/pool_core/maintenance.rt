@@ -8,8 +8,8 @@ ghost use Rattle.sqlx_log.specs.EventTable.{may_pass, reaped_at, has_place_at};
 ghost use Rattle.sqlx_pool_core.specs.Logs.{Logs, moment_of};
 ghost use Rattle.sqlx_pool_core.specs.Limits.{limits_of};
 ghost use Rattle.sqlx_pool_core.specs.Core.{waiting, free};
-ghost use Rattle.sqlx_pool_core.specs.KeepingSteps.{idle_conn, reap_answer, reap_marks, reaped, has_place, placed, handed_back, done_marks, done};
-ghost use Rattle.sqlx_pool_core.specs.Moves.{Moves, place_room};
+ghost use Rattle.sqlx_pool_core.specs.MaintenanceSteps.{idle_conn, reap_answer, reap_marks, reaped, has_place, placed, handed_back, done_marks, done};
+ghost use Rattle.sqlx_pool_core.specs.Balance.{Balance, place_room};
 ghost use Rattle.sqlx_pool_core.specs.StandsFor.{StandsFor};
 
 use super::PoolCore;
@@ -25,7 +25,7 @@ impl<C> PoolCore<C> {
         ensures makes { Logs self.old (reap_marks result) self.new }
         ensures answer { result ≡ reap_answer (may_pass self.old.shut (waiting self.old.tickets) (free self.old)) self.old.options (moment_of self.old now) self.old.idle }
         ensures becomes { self.new ≡ reaped (moment_of self.old now) result self.old }
-        ensures moves { Moves self.old self.new (reap_marks result) 0 0 }
+        ensures balance { Balance self.old self.new (reap_marks result) 0 0 }
     {
         let moment = self.pool.moment(now);
         let passes = self.pool.may_pass();
@@ -41,7 +41,7 @@ impl<C> PoolCore<C> {
         ensures makes { Logs self.old [] self.new }
         ensures answer { result ≡ has_place (max self.old.options.min_connections 1) self.old }
         ensures becomes { self.new ≡ placed result self.old }
-        ensures moves { Moves self.old self.new [] 0 (place_room result) }
+        ensures balance { Balance self.old self.new [] 0 (place_room result) }
     {
         let minimum = self.options().get_min_connections().max(1);
         let passes = self.pool.may_pass();
@@ -58,7 +58,7 @@ impl<C> PoolCore<C> {
         ensures makes { Logs self.old [] self.new }
         ensures answer { result ≡ has_place self.old.options.min_connections self.old }
         ensures becomes { self.new ≡ placed result self.old }
-        ensures moves { Moves self.old self.new [] 0 (place_room result) }
+        ensures balance { Balance self.old self.new [] 0 (place_room result) }
     {
         let minimum = self.options().get_min_connections();
         let passes = self.pool.may_pass();
@@ -76,7 +76,7 @@ impl<C> PoolCore<C> {
         ensures marks { (marks : List Mark) → StandsFor self.old marks → result ≡ handed_back (list_any is_shut marks) raw }
         ensures answer { result ≡ handed_back self.old.shut raw }
         ensures becomes { self.new ≡ done self.old.shut (moment_of self.old now) raw self.old }
-        ensures moves { Moves self.old self.new (done_marks self.old.shut self.old.next_conn (moment_of self.old now) raw) 0 0 }
+        ensures balance { Balance self.old self.new (done_marks self.old.shut self.old.next_conn (moment_of self.old now) raw) 0 0 }
     {
         let moment = self.pool.moment(now);
         self.pool.sound();

@@ -6,7 +6,7 @@ use Rattle.sqlx_pool_core.specs.declared.steps.Idle.{Idle}
 use Rattle.sqlx_pool_core.specs.Core.{Core}
 use Rattle.sqlx_pool_core.specs.Sound.{IsSound, rests}
 use Rattle.sqlx_pool_core.specs.Edits.{without_idle, is_another_idle}
-use Rattle.sqlx_pool_core.specs.KeepingSteps.{is_reaped_at, without_first, reaped}
+use Rattle.sqlx_pool_core.specs.MaintenanceSteps.{is_reaped_at, without_first, reaped}
 use Rattle.sqlx_log.proofs.ListFacts.{found_counts, filter_none, length-filter_not, count_by-cons, same_number}
 use Rattle.sqlx_log.proofs.Counting.{one, count-filter, count-push}
 use Rattle.sqlx_pool_core.proofs.Soundness.{one-le}

@@ -7,7 +7,7 @@ ghost use Rattle.sqlx_pool.specs.Checks.{IfPassed};
 use super::PoolOf;
 use crate::filled::Filled;
 use crate::{Loans, Locked, checks};
-use sqlx_pool_core::probe::{Check, Opening};
+use sqlx_pool_core::idle_check::{Check, Opening};
 use sqlx_pool_core::{Idle, Openings, Outside, PoolConnectionMetadata};
 use sqlx_text::{Depth, Error, Moment};
 use std::alloc::Global;
