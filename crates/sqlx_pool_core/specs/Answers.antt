@@ -1,5 +1,10 @@
 -- What is asked of a call's answer, and of a ticket, where marks tell the rest.
-use Rattle.std.specs.Prelude.{ℕ, Bool, true, false, Option, Some}
+use Rattle.std.specs.Prelude.{◌≡◌, ℕ, Bool, true, false, Option, Some, List}
+use Rattle.sqlx_log.specs.declared.mark.Mark.{Mark}
+use Rattle.sqlx_log.specs.Marks.{owner_of}
+use Rattle.sqlx_log.specs.Answers.{owns, is_kept_at}
+use Rattle.sqlx_pool_core.specs.declared.options.PoolOptions.{PoolOptions}
+use Rattle.sqlx_pool_core.specs.Limits.{limits_of}
 use Rattle.sqlx_pool_core.specs.declared.ticket.Phase.{Phase}
 use Rattle.sqlx_pool_core.specs.declared.ticket.Phase.TheVariants as phase
 use Rattle.sqlx_pool_core.specs.declared.steps.Lent.{Lent}
@@ -25,3 +30,7 @@ is_kept other = false
 abbrev pub is_held : {C : Type 0} → Given C → Bool
 is_held (given.NotHeld raw) = false
 is_held other = true
+
+-- A return by the marks: it is kept where the marks say so, and is the client's where they say who owns it.
+abbrev pub IsGivenAt : {C : Type 0} → PoolOptions → List Mark → ℕ → ℕ → ℕ → Bool → Given C → Type 0
+IsGivenAt options marks k c m accepted given = (is_kept given ≡ is_kept_at (limits_of options) marks k c m accepted) × (is_held given ≡ owns k (owner_of c marks))

@@ -7,7 +7,9 @@ use Rattle.sqlx_log.specs.declared.turn.Turn.{Turn}
 use Rattle.sqlx_log.specs.declared.turn.Turn.TheVariants.{NotHeld}
 use Rattle.sqlx_log.specs.PollTable.{turn_at_rest}
 use Rattle.sqlx_pool_core.specs.Core.{Core, is_out, free, waiting, ticket_of}
-use Rattle.sqlx_pool_core.specs.PollTable.{is_at_rest, backs_off_until}
+use Rattle.sqlx_pool_core.specs.PollTable.{is_at_rest, backs_off_until, phase_turn}
+use Rattle.sqlx_pool_core.specs.PollSteps.{phase_for}
+use Rattle.sqlx_pool_core.specs.Makes.{MakesWhere}
 
 -- it has another number
 abbrev pub is_another : ℕ → Ticket → Bool
@@ -31,11 +33,19 @@ turn_of entitled closed moment core (Some x) =
 abbrev pub core_turn : {C : Type 0} → Core C → ℕ → ℕ → ℕ → Turn
 core_turn core k t moment = turn_of (is_first_in_line t core) core.shut moment core (ticket_of k t core.tickets)
 
+-- what it comes to by marks that the pool stands for, and the ticket's own phase
+abbrev pub turn_at_marks : {C : Type 0} → Core C → List Mark → ℕ → ℕ → ℕ → Turn
+turn_at_marks core marks k t moment = phase_turn core.options.max_connections core.places marks k t moment (phase_for k t core.tickets)
+
 -- A lone pool, which owns all its permits and draws its own numbers, entitles by its own line alone.
 pub record InOwnLine {C : Type 0} (core : Core C) (marks : List Mark) (t : ℕ) (entitled : Bool) : Type 0 where
   pub all : core.permits ≡ core.options.max_connections
   pub conns : core.next_conn ≡ next_conn marks
   pub first : entitled ≡ true → before t core.tickets < free core
+
+-- What the start of a poll makes: safe marks, in order where the pool is alone and the ticket entitled by its own line.
+abbrev pub StartMakes : {C : Type 0} → Core C → List Mark → ℕ → Bool → List Mark → Core C → Type 0
+StartMakes core marks t entitled made new = MakesWhere (InOwnLine core marks t entitled) core.options.max_connections marks made new
 
 -- A lone pool, which owns all its permits, lends past its own line alone: where fewer tickets wait than permits are free.
 pub record PastOwnLine {C : Type 0} (core : Core C) (passes : Bool) : Type 0 where

@@ -1,5 +1,5 @@
 -- What is said of the parts of a whole poll.
-use Rattle.std.specs.Prelude.{◌≡◌, ℕ, ◌+◌, false, ◌⊎◌, ⊤, List, [], ◌∷◌, Option, Some, None, All}
+use Rattle.std.specs.Prelude.{◌≡◌, ◌<◌, drop, ℕ, ◌+◌, false, ◌⊎◌, ⊤, List, [], ◌∷◌, Option, Some, None, All}
 use Rattle.sqlx_text.specs.declared.error.Error.{Error}
 use Rattle.sqlx_text.specs.declared.error.Error.TheVariants.{OutOfMemory}
 use Rattle.sqlx_pool_core.specs.declared.steps.Lent.{Lent}
@@ -59,6 +59,10 @@ first_depth depth (i ∷ rest) = depth i.lent.raw
 pub record StayAtRest {C O X : Type 0} (does : Call C O → X → X → Type 0) (depth : X → C → ℕ) (idle : List (Idle C)) (out : X) : Type 0 where
   pub now : All (λ i. depth out i.lent.raw ≡ 0) idle
   pub later : (c : Call C O) (old new : X) → does c old new → All (λ i. depth old i.lent.raw ≡ 0) idle → All (λ i. depth new i.lent.raw ≡ 0) idle
+
+-- This holds where the first idle connection has no level open and, if a poll tests more of them, the others stay at rest.
+abbrev pub WhereIdleRests : {C O X : Type 0} → (Call C O → X → X → Type 0) → (X → C → ℕ) → Core C → X → Type 0 → Type 0
+WhereIdleRests does depth core out This = first_depth (depth out) core.idle ≡ 0 → (1 < core.options.idle_tries → StayAtRest does depth (drop 1 core.idle) out) → This
 
 -- the connection under test is gone: its ticket connects
 abbrev pub untested : {C : Type 0} → ℕ → Core C → Core C

@@ -2,7 +2,7 @@
 use Rattle.std.specs.Prelude.{ℕ, ◌+◌, Bool, true, false, ◌==◌, List, [], ◌∷◌, Option, Some, None, if◌then◌else◌, nat_lt, option_map}
 use Rattle.sqlx_text.specs.declared.Moment.{Moment}
 use Rattle.sqlx_log.specs.declared.mark.Mark.{Mark}
-use Rattle.sqlx_log.specs.declared.mark.Mark.TheVariants.{Left, Taken, Opened, Lent, Closed, Ended}
+use Rattle.sqlx_log.specs.declared.mark.Mark.TheVariants.{Asked, Left, Taken, Opened, Lent, Closed, Ended}
 use Rattle.sqlx_pool_core.specs.declared.ticket.Ticket.{Ticket}
 use Rattle.sqlx_pool_core.specs.declared.ticket.Phase.{Phase}
 use Rattle.sqlx_pool_core.specs.declared.ticket.Phase.TheVariants as phase
@@ -23,6 +23,10 @@ use Rattle.sqlx_pool_core.specs.declared.steps.AfterConnect.TheVariants as conne
 use Rattle.sqlx_pool_core.specs.Core.{Core, ticket_of}
 use Rattle.sqlx_log.specs.Backoff.{cap, next_wait}
 use Rattle.sqlx_pool_core.specs.Edits.{with_ticket, to_test, tested_so_far, to_next, to_try, to_connect, to_back_off, core_without_ticket, lent_to, core_without_first, opened, at_moment}
+
+-- the mark of an ask of this moment
+abbrev pub asked_marks : {C : Type 0} → Core C → ℕ → ℕ → ℕ → List Mark
+asked_marks core k moment t = Asked t k (moment + core.options.acquire_timeout) ∷ []
 
 -- the phase of this client's ticket
 abbrev pub phase_for : ℕ → ℕ → List Ticket → Option Phase
@@ -107,6 +111,10 @@ test_answer None shut next idle verdict = tested.NotHeld verdict
 test_answer (Some created) true next idle verdict = tested.Closed (accepted_raw verdict)
 test_answer (Some created) false next idle (verdict.Accepted lent) = tested.Ready (lent_since created lent)
 test_answer (Some created) false next idle (verdict.Refused c) = after_refusal next idle
+
+-- what a verdict comes to for a client's ticket, in a pool that counts as closed or not
+abbrev pub verdict_answer : {C : Type 0} → ℕ → ℕ → Bool → Core C → Verdict C → AfterTest C
+verdict_answer k t closed core verdict = test_answer (tested_at (judged verdict) (phase_for k t core.tickets)) closed (may_test_next core.options.idle_tries (phase_for k t core.tickets)) core.idle verdict
 
 -- the marks of a test
 abbrev pub test_marks : {C : Type 0} → ℕ → ℕ → ℕ → AfterTest C → List Mark

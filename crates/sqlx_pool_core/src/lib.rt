@@ -5,12 +5,12 @@
 //! by a list of [`Mark`]s, and every rule of the pool is a definition over such a list (`specs/`).
 #![tactic(auto)]
 
+pub mod idle_check;
 mod lists;
 mod member;
 mod options;
 mod outside;
 mod pool_core;
-pub mod idle_check;
 mod steps;
 mod ticket;
 mod tickets;

@@ -11,7 +11,7 @@ ghost use Rattle.sqlx_pool_core.specs.Makes.{MakesIn, MakesWhere};
 ghost use Rattle.sqlx_pool_core.specs.Numbers.{Draws, Stays};
 ghost use Rattle.sqlx_pool_core.specs.Balance.{Balance, ask_room, try_room};
 ghost use Rattle.sqlx_pool_core.specs.CoreTurn.{PastOwnLine};
-ghost use Rattle.sqlx_pool_core.specs.PollSteps.{phase_for, may_cancel, cancel_marks, cancelled, try_lent, try_marks, after_try};
+ghost use Rattle.sqlx_pool_core.specs.PollSteps.{phase_for, asked_marks, may_cancel, cancel_marks, cancelled, try_lent, try_marks, after_try};
 ghost use Rattle.sqlx_pool_core.specs.Edits.{at_moment, asked};
 
 use super::{Member, NUMBERS};
@@ -26,10 +26,10 @@ impl<C> Member<C> {
         ensures closed { (result ≡ Err Error.PoolClosed) ↔ (self.old.closed ≡ true) }
         ensures exhausted { (result ≡ Err Error.Exhausted) ↔ ((self.old.closed ≡ false) × (2 ^ 63 < self.old.next_ticket)) }
         ensures causes { IfErr result (λ e. (e ≡ Error.PoolClosed) ⊎ ((e ≡ Error.Exhausted) ⊎ (e ≡ Error.OutOfMemory))) }
-        ensures makes { (marks : List Mark) → StandsIn self.old marks → IfOk result (λ ticket. MakesIn self.old.options.max_connections marks (Mark.Asked ticket client (moment.0 + self.old.options.acquire_timeout) ∷ []) self.new) }
+        ensures makes { (marks : List Mark) → StandsIn self.old marks → IfOk result (λ ticket. MakesIn self.old.options.max_connections marks (asked_marks self.old client moment.0 ticket) self.new) }
         ensures stays { Stays self.old self.new }
-        ensures draws { IfOk result (λ ticket. Draws self.old self.new (Mark.Asked ticket client (moment.0 + self.old.options.acquire_timeout) ∷ [])) }
-        ensures balance { IfOk result (λ ticket. Balance self.old self.new (Mark.Asked ticket client (moment.0 + self.old.options.acquire_timeout) ∷ []) 0 (ask_room self.old.options.idle_tries)) }
+        ensures draws { IfOk result (λ ticket. Draws self.old self.new (asked_marks self.old client moment.0 ticket)) }
+        ensures balance { IfOk result (λ ticket. Balance self.old self.new (asked_marks self.old client moment.0 ticket) 0 (ask_room self.old.options.idle_tries)) }
         ensures becomes { OnOk result (self.new ≡ at_moment moment.0 (asked client (moment.0 + self.old.options.acquire_timeout) self.old)) }
         ensures err { OnErr result (self.new ≡ self.old) }
     {

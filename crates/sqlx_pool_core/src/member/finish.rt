@@ -11,7 +11,7 @@ ghost use Rattle.sqlx_pool_core.specs.StandsFor.{StandsIn};
 ghost use Rattle.sqlx_pool_core.specs.Makes.{MakesIn};
 ghost use Rattle.sqlx_pool_core.specs.Numbers.{Draws, Stays};
 ghost use Rattle.sqlx_pool_core.specs.Balance.{Balance};
-ghost use Rattle.sqlx_pool_core.specs.PollSteps.{phase_for, accepted_raw, opened_raw, tested_at, judged, may_test_next, after_refusal, test_answer, test_marks, after_test, connect_answer, connect_marks, after_connect, wait_of};
+ghost use Rattle.sqlx_pool_core.specs.PollSteps.{phase_for, accepted_raw, opened_raw, tested_at, judged, may_test_next, after_refusal, test_answer, verdict_answer, test_marks, after_test, connect_answer, connect_marks, after_connect, wait_of};
 ghost use Rattle.sqlx_pool_core.specs.Edits.{at_moment, core_without_ticket, tested_so_far, to_connect, to_back_off, with_ticket, lent_to, opened};
 
 use super::Member;
@@ -142,7 +142,7 @@ impl<C> Member<C> {
 
     /// Tells what the test of an idle connection came to.
     pub fn finish_test(&mut self, client: u32, ticket: u64, verdict: Verdict<C>) -> AfterTest<C>
-        ensures answer { result ≡ test_answer (tested_at (judged verdict) (phase_for client ticket self.old.tickets)) self.old.closed (may_test_next self.old.options.idle_tries (phase_for client ticket self.old.tickets)) self.old.idle verdict }
+        ensures answer { result ≡ verdict_answer client ticket self.old.closed self.old verdict }
         ensures makes { (marks : List Mark) → StandsIn self.old marks → MakesIn self.old.options.max_connections marks (test_marks client ticket (judged verdict) result) self.new }
         ensures stays { Stays self.old self.new }
         ensures draws { Draws self.old self.new (test_marks client ticket (judged verdict) result) }
@@ -154,7 +154,7 @@ impl<C> Member<C> {
 
     // What a test came to.
     fn test_done(&mut self, client: u32, ticket: u64, verdict: Verdict<C>) -> AfterTest<C>
-        ensures answer { result ≡ test_answer (tested_at (judged verdict) (phase_for client ticket self.old.tickets)) self.old.closed (may_test_next self.old.options.idle_tries (phase_for client ticket self.old.tickets)) self.old.idle verdict }
+        ensures answer { result ≡ verdict_answer client ticket self.old.closed self.old verdict }
         ensures becomes { self.new ≡ after_test client ticket result self.old }
         ensures sound { IsSound self.old }
     {

@@ -7,10 +7,9 @@ ghost use Rattle.sqlx_log.specs.PollTable.{numbered, first_idle};
 ghost use Rattle.sqlx_pool_core.specs.Core.{ticket_of, free};
 ghost use Rattle.sqlx_pool_core.specs.Sound.{IsSound};
 ghost use Rattle.sqlx_pool_core.specs.StandsFor.{StandsIn};
-ghost use Rattle.sqlx_pool_core.specs.Makes.{MakesWhere};
 ghost use Rattle.sqlx_pool_core.specs.Numbers.{Draws, Stays};
 ghost use Rattle.sqlx_pool_core.specs.Balance.{Balance};
-ghost use Rattle.sqlx_pool_core.specs.CoreTurn.{is_first_in_line, turn_of, InOwnLine};
+ghost use Rattle.sqlx_pool_core.specs.CoreTurn.{is_first_in_line, turn_of, StartMakes};
 ghost use Rattle.sqlx_pool_core.specs.PollSteps.{start_answer, start_marks, started, phase_for};
 ghost use Rattle.sqlx_pool_core.specs.Edits.{at_moment, core_without_ticket, to_try};
 ghost use Rattle.sqlx_pool_core.specs.declared.steps.Start.TheVariants as start;
@@ -97,7 +96,7 @@ impl<C> Member<C> {
     pub fn start(&mut self, client: u32, ticket: u64, moment: Moment, entitled: bool) -> Start<C>
         requires permit { entitled ≡ true → 0 < free self.old }
         ensures answer { result ≡ start_answer (turn_of entitled self.old.closed moment.0 self.old (ticket_of client ticket self.old.tickets)) self.old.idle }
-        ensures makes { (marks : List Mark) → StandsIn self.old marks → MakesWhere (InOwnLine self.old marks ticket entitled) self.old.options.max_connections marks (start_marks ticket (phase_for client ticket self.old.tickets) result) self.new }
+        ensures makes { (marks : List Mark) → StandsIn self.old marks → StartMakes self.old marks ticket entitled (start_marks ticket (phase_for client ticket self.old.tickets) result) self.new }
         ensures stays { Stays self.old self.new }
         ensures draws { Draws self.old self.new (start_marks ticket (phase_for client ticket self.old.tickets) result) }
         ensures balance { Balance self.old self.new (start_marks ticket (phase_for client ticket self.old.tickets) result) 0 0 }

@@ -13,7 +13,7 @@ ghost use Rattle.sqlx_pool_core.specs.Makes.{Makes};
 ghost use Rattle.sqlx_pool_core.specs.Balance.{Balance, ask_room, try_room};
 ghost use Rattle.sqlx_pool_core.specs.StandsFor.{StandsFor};
 ghost use Rattle.sqlx_log.specs.EventTable.{may_pass};
-ghost use Rattle.sqlx_pool_core.specs.PollSteps.{phase_for, may_cancel, cancel_marks, cancelled, try_lent, try_marks, after_try};
+ghost use Rattle.sqlx_pool_core.specs.PollSteps.{phase_for, asked_marks, may_cancel, cancel_marks, cancelled, try_lent, try_marks, after_try};
 ghost use Rattle.sqlx_pool_core.specs.Edits.{at_moment, asked};
 
 use super::PoolCore;
@@ -31,8 +31,8 @@ impl<C> PoolCore<C> {
         ensures closed { (result ≡ Err Error.PoolClosed) ↔ (self.old.shut ≡ true) }
         ensures exhausted { (result ≡ Err Error.Exhausted) ↔ ((self.old.shut ≡ false) × (2 ^ 63 < self.old.next_ticket)) }
         ensures causes { IfErr result (λ e. (e ≡ Error.PoolClosed) ⊎ ((e ≡ Error.Exhausted) ⊎ (e ≡ Error.OutOfMemory))) }
-        ensures makes { (marks : List Mark) → StandsFor self.old marks → IfOk result (λ ticket. Makes self.old.options.max_connections marks (Mark.Asked ticket client (moment_of self.old now + self.old.options.acquire_timeout) ∷ []) self.new) }
-        ensures balance { IfOk result (λ ticket. Balance self.old self.new (Mark.Asked ticket client (moment_of self.old now + self.old.options.acquire_timeout) ∷ []) 0 (ask_room self.old.options.idle_tries)) }
+        ensures makes { (marks : List Mark) → StandsFor self.old marks → IfOk result (λ ticket. Makes self.old.options.max_connections marks (asked_marks self.old client (moment_of self.old now) ticket) self.new) }
+        ensures balance { IfOk result (λ ticket. Balance self.old self.new (asked_marks self.old client (moment_of self.old now) ticket) 0 (ask_room self.old.options.idle_tries)) }
         ensures becomes { OnOk result (self.new ≡ at_moment (moment_of self.old now) (asked client (moment_of self.old now + self.old.options.acquire_timeout) self.old)) }
         ensures err { OnErr result (self.new ≡ self.old) }
     {

@@ -8,7 +8,7 @@ ghost use Rattle.sqlx_pool_core.specs.Logs.{Logs, moment_of};
 ghost use Rattle.sqlx_pool_core.specs.Core.{ticket_of};
 ghost use Rattle.sqlx_pool_core.specs.Balance.{Balance};
 ghost use Rattle.sqlx_pool_core.specs.StandsFor.{StandsFor};
-ghost use Rattle.sqlx_pool_core.specs.PollSteps.{phase_for, tested_at, judged, may_test_next, test_answer, test_marks, after_test, connect_answer, connect_marks, after_connect};
+ghost use Rattle.sqlx_pool_core.specs.PollSteps.{judged, verdict_answer, test_marks, after_test, connect_answer, connect_marks, after_connect};
 
 use super::PoolCore;
 use crate::steps::{AfterConnect, AfterTest, Tried, Verdict};
@@ -19,8 +19,8 @@ impl<C> PoolCore<C> {
     /// where fewer than `idle_tries` were tested in this poll; else a connection is opened. The moment of opening is the one that the pool keeps,
     /// whatever `lent.created` says.
     pub fn finish_test(&mut self, client: u32, ticket: u64, verdict: Verdict<C>) -> AfterTest<C>
-        ensures marks { (marks : List Mark) → StandsFor self.old marks → result ≡ test_answer (tested_at (judged verdict) (phase_for client ticket self.old.tickets)) (list_any is_shut marks) (may_test_next self.old.options.idle_tries (phase_for client ticket self.old.tickets)) self.old.idle verdict }
-        ensures answer { result ≡ test_answer (tested_at (judged verdict) (phase_for client ticket self.old.tickets)) self.old.shut (may_test_next self.old.options.idle_tries (phase_for client ticket self.old.tickets)) self.old.idle verdict }
+        ensures marks { (marks : List Mark) → StandsFor self.old marks → result ≡ verdict_answer client ticket (list_any is_shut marks) self.old verdict }
+        ensures answer { result ≡ verdict_answer client ticket self.old.shut self.old verdict }
         ensures makes { Logs self.old (test_marks client ticket (judged verdict) result) self.new }
         ensures balance { Balance self.old self.new (test_marks client ticket (judged verdict) result) 0 0 }
         ensures becomes { self.new ≡ after_test client ticket result self.old }

@@ -7,7 +7,7 @@ ghost use Rattle.sqlx_log.specs.Marks.{owner_of, is_shut};
 ghost use Rattle.sqlx_log.specs.Answers.{owns, is_kept_at};
 ghost use Rattle.sqlx_log.specs.EventTable.{closes};
 ghost use Rattle.sqlx_pool_core.specs.Logs.{Logs, moment_of};
-ghost use Rattle.sqlx_pool_core.specs.Answers.{is_kept, is_held};
+ghost use Rattle.sqlx_pool_core.specs.Answers.{IsGivenAt};
 ghost use Rattle.sqlx_pool_core.specs.Limits.{limits_of};
 ghost use Rattle.sqlx_pool_core.specs.Core.{loan_of};
 ghost use Rattle.sqlx_pool_core.specs.Balance.{Balance, given_back, one_if};
@@ -44,7 +44,7 @@ impl<C> PoolCore<C> {
     /// open and its age isn't above the lifetime; else the caller closes what comes back. The moment of opening is
     /// the one that the pool keeps, whatever `lent.created` says. In sqlx: `PoolConnection::return_to_pool`.
     pub fn give(&mut self, client: u32, lent: Lent<C>, now: Moment, accepted: bool) -> Given<C>
-        ensures marks { (marks : List Mark) → StandsFor self.old marks → (is_kept result ≡ is_kept_at (limits_of self.old.options) marks client lent.id (moment_of self.old now) accepted) × (is_held result ≡ owns client (owner_of lent.id marks)) }
+        ensures marks { (marks : List Mark) → StandsFor self.old marks → IsGivenAt self.old.options marks client lent.id (moment_of self.old now) accepted result }
         ensures answer { result ≡ give_answer self.old.options self.old.shut (moment_of self.old now) accepted (loan_of client lent.id self.old.held) lent }
         ensures makes { Logs self.old (give_marks lent.id (moment_of self.old now) result) self.new }
         ensures balance { Balance self.old self.new (give_marks lent.id (moment_of self.old now) result) (given_back result) 0 }

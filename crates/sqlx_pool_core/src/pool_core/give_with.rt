@@ -6,8 +6,8 @@ ghost use Rattle.sqlx_pool_core.specs.Giving.{Ends, TestsIf, GivesBack, returned
 ghost use Rattle.sqlx_pool_core.specs.Logs.{moment_of};
 
 use super::PoolCore;
-use crate::outside::{Outside, PoolConnectionMetadata};
 use crate::idle_check::{self, Check};
+use crate::outside::{Outside, PoolConnectionMetadata};
 use crate::steps::{Given, Lent, Returned};
 use sqlx_text::Moment;
 

@@ -11,8 +11,8 @@ ghost use Rattle.sqlx_pool_core.specs.Minimum.{KeepsMinimum, Opens, openings_mad
 ghost use Rattle.sqlx_pool_core.specs.Outside.{HasRisen, is_want};
 
 use super::PoolCore;
-use crate::outside::Outside;
 use crate::idle_check::{self, Opening};
+use crate::outside::Outside;
 use crate::steps::Openings;
 use sqlx_text::{Error, Moment};
 use std::alloc::Global;

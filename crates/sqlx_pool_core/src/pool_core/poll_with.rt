@@ -6,15 +6,14 @@ ghost use Rattle.sqlx_pool_core.specs.declared.ticket.Phase.TheVariants.{Connect
 ghost use Rattle.sqlx_pool_core.specs.Core.{ticket_of};
 ghost use Rattle.sqlx_pool_core.specs.Logs.{Logs, moment_of};
 ghost use Rattle.sqlx_pool_core.specs.StandsFor.{StandsFor};
-ghost use Rattle.sqlx_pool_core.specs.CoreTurn.{core_turn};
-ghost use Rattle.sqlx_pool_core.specs.PollTable.{phase_turn};
-ghost use Rattle.sqlx_pool_core.specs.PollParts.{IfReady, IfRefused, IsForGood, StayAtRest, first_depth, tried_answer, next_try_at};
+ghost use Rattle.sqlx_pool_core.specs.CoreTurn.{core_turn, turn_at_marks};
+ghost use Rattle.sqlx_pool_core.specs.PollParts.{IfReady, IfRefused, IsForGood, WhereIdleRests, first_depth, tried_answer, next_try_at};
 ghost use Rattle.sqlx_pool_core.specs.PollSteps.{phase_for, judged, tested_at, may_test_next, test_answer, test_marks, after_test, connect_answer, connect_marks, after_connect};
 ghost use Rattle.sqlx_pool_core.specs.Walk.{GoesOn, Polls, Test, Connect, last, tried_of};
 
 use super::PoolCore;
-use crate::outside::Outside;
 use crate::idle_check::{self, Opening};
+use crate::outside::Outside;
 use crate::steps::{AfterConnect, AfterTest, Idle, Polled, Start, Tried, Verdict};
 use sqlx_text::Moment;
 use std::alloc::Global;
@@ -163,13 +162,13 @@ impl<C> PoolCore<C> {
     ) -> Polled<C>
         ensures polls { Polls X.does X.depth options.now client ticket (moment_of self.old now) self.old self.new out.old out.new result }
         // The turn is the poll table's, by the marks that the core stands for.
-        ensures turn { (marks : List Mark) → StandsFor self.old marks → core_turn self.old client ticket (moment_of self.old now) ≡ phase_turn self.old.options.max_connections self.old.places marks client ticket (moment_of self.old now) (phase_for client ticket self.old.tickets) }
+        ensures turn { (marks : List Mark) → StandsFor self.old marks → core_turn self.old client ticket (moment_of self.old now) ≡ turn_at_marks self.old marks client ticket (moment_of self.old now) }
         // A connect is refused for good for want of memory, or a fault was counted; it isn't a refusal that may pass.
         ensures cause { IfRefused result (λ e. IsForGood (X.faults out.old) (X.faults out.new) e) }
         // The counts never fall.
         ensures counts { (X.faults out.old ≤ X.faults out.new) × (X.refusals out.old ≤ X.refusals out.new) }
         // What is lent has no level open, where the first idle connection has none and, if more are tested, the others stay at rest.
-        ensures rests { first_depth (X.depth out.old) self.old.idle ≡ 0 → (1 < self.old.options.idle_tries → StayAtRest X.does X.depth (drop 1 self.old.idle) out.old) → IfReady result (λ lent. X.depth out.new lent.raw ≡ 0) }
+        ensures rests { WhereIdleRests X.does X.depth self.old out.old (IfReady result (λ lent. X.depth out.new lent.raw ≡ 0)) }
     {
         let moment = self.moment(now);
         match self.start(client, ticket, now) {
