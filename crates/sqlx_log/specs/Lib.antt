@@ -3,6 +3,7 @@ pub mod Marks
 pub mod Counts
 pub mod View
 pub mod FairLog
+pub mod Cut
 pub mod Born
 pub mod Laws
 pub mod Backoff

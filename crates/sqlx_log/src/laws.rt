@@ -1,6 +1,7 @@
 //! Laws of the log's definitions, each as a function whose contract it is. None of them does anything.
 
 ghost use Rattle.sqlx_log.specs.Laws.{SafeLogsLendOnce, OrderedLogsKeepTheLine, SafeLogsKeepTheMaximum, ViewsTellTheFuture, OneViewSaysTheSame};
+ghost use Rattle.sqlx_log.specs.Cut.{CutsKeepTheView};
 
 /// In a safe log no connection has two owners.
 pub fn safe_logs_lend_once()
@@ -25,4 +26,9 @@ pub fn views_tell_the_future()
 /// Two logs of one view say the same of a pool: a pool that stands for the one has what the other says.
 pub fn one_view_says_the_same()
     ensures { OneViewSaysTheSame }
+{}
+
+/// A log that is cut has the view that it had: the same marks may follow it.
+pub fn cuts_keep_the_view()
+    ensures { CutsKeepTheView }
 {}
