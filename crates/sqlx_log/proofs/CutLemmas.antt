@@ -1,6 +1,7 @@
 -- What a cut leaves as it was: tickets, loans, idle and opened connections, leaks, the close, and the numbers that come next.
-use Rattle.std.proofs.Common.{◌≡◌, ℕ, ◌+◌, Bool, true, false, cond, not, ◌||◌, ◌==◌, List, [], ◌∷◌, ◌++◌, Option, Some, None, ◌⊎◌, count_by, refl, sym, ap, ◌∙◌, subst, inl, inr, arith}
+use Rattle.std.proofs.Common.{◌≡◌, ℕ, ◌+◌, Bool, true, false, cond, not, ◌||◌, ◌==◌, List, [], ◌∷◌, ◌++◌, Option, Some, None, ◌⊎◌, count_by, refl, sym, ap, ◌∙◌, subst, inl, inr, arith, All, length, ◌≤◌}
 use Rattle.std.specs.List.{list_any}
+use Rattle.std.proofs.lemmas.List.Elements.{All-cons, All-head, All-tail}
 use Rattle.std.proofs.lemmas.Bool.{cases_eq, ne_eqb, eq-eqb, eqb-true}
 use Rattle.sqlx_log.specs.declared.mark.Mark.{Mark}
 use Rattle.sqlx_log.specs.declared.mark.Mark.TheVariants.{Asked, Left, Taken, Reaped, Opened, Lent, Kept, Closed, Detached, Leaked, Ended, Shut}
@@ -70,8 +71,9 @@ module _ (ticket conn : ℕ) where
       goes : (m : Mark) → is_left t m ≡ true → list_any (is_ended t) later ≡ false → is_needed ticket conn m later ≡ true
       goes (Left u) is e = ap (λ (n : ℕ). not (list_any (is_ended n) later)) (sym (same-number t u is)) ∙ ap not e
       goes m is e = absurd cc
+
       by : (list_any (is_ended t) later ≡ false → list_any (is_left t) (needed later) ≡ list_any (is_left t) later) → (a : Bool) → (a || list_any (is_ended t) later) ≡ false → (b : Bool) → is_left t m ≡ b → (n : Bool) → is_needed ticket conn m later ≡ n
-        → list_any (is_left t) (cond n (m ∷ needed later) (needed later)) ≡ (is_left t m || list_any (is_left t) later)
+          → list_any (is_left t) (cond n (m ∷ needed later) (needed later)) ≡ (is_left t m || list_any (is_left t) later)
       by rest true e b is n needs = absurd cc
       by rest false e b is true needs = ap (λ r. is_left t m || r) (rest e)
       by rest false e true is false needs = absurd (let f = goes m is e in cc)
@@ -84,13 +86,15 @@ module _ (ticket conn : ℕ) where
       none : (m : Mark) → asks m ≡ None → (n : Bool) → tickets_of (needed later) ≡ tickets_of later → tickets_of (cond n (m ∷ needed later) (needed later)) ≡ unended (asks m) later ++ tickets_of later
       none m is true same = ap (λ o. unended o (needed later) ++ tickets_of (needed later)) is ∙ same ∙ sym (ap (λ o. unended o later ++ tickets_of later) is)
       none m is false same = same ∙ sym (ap (λ o. unended o later ++ tickets_of later) is)
+
       one : (a : PendingTicket) (e f g h : Bool) → e ≡ f → (f ≡ false → g ≡ h) → cond e [] ((record a { left = g }) ∷ []) ≡ cond f [] ((record a { left = h }) ∷ [])
       one a true true g h same flag = refl
       one a false false g h same flag = ap (λ (b : Bool). (record a { left = b }) ∷ []) (flag refl)
       one a true false g h same flag = absurd cc
       one a false true g h same flag = absurd cc
+
       asked : (t k d : ℕ) → tickets_of (needed later) ≡ tickets_of later → (last e : Bool) → is_last ticket t ≡ last → list_any (is_ended t) later ≡ e
-        → tickets_of (cond (last || not e) (Asked t k d ∷ needed later) (needed later)) ≡ unended (asks (Asked t k d)) later ++ tickets_of later
+          → tickets_of (cond (last || not e) (Asked t k d ∷ needed later) (needed later)) ≡ unended (asks (Asked t k d)) later ++ tickets_of later
       asked t k d same true e last is =
           ap (λ (l : List PendingTicket). unended (asks (Asked t k d)) (needed later) ++ l) same
           ∙ ap (λ (l : List PendingTicket). l ++ tickets_of later) (one (record { ticket = t; client = k; deadline = d; left = false }) _ _ _ _ (any-needed (is_ended t) (ended-needed t last) later) (left-needed t later))
@@ -98,6 +102,7 @@ module _ (ticket conn : ℕ) where
           ap (λ (l : List PendingTicket). unended (asks (Asked t k d)) (needed later) ++ l) same
           ∙ ap (λ (l : List PendingTicket). l ++ tickets_of later) (one (record { ticket = t; client = k; deadline = d; left = false }) _ _ _ _ (none-needed (is_ended t) later is ∙ sym is) (left-needed t later))
       asked t k d same false true last is = same ∙ ap (λ (e : Bool). cond e [] ((record { ticket = t; client = k; deadline = d; left = list_any (is_left t) later }) ∷ []) ++ tickets_of later) (sym is)
+
       by : (m : Mark) → tickets_of (needed later) ≡ tickets_of later → tickets_of (cond (is_needed ticket conn m later) (m ∷ needed later) (needed later)) ≡ unended (asks m) later ++ tickets_of later
       by (Asked t k d) same = asked t k d same (is_last ticket t) (list_any (is_ended t) later) refl refl
       by m same = none m refl (is_needed ticket conn m later) same
@@ -106,14 +111,14 @@ module _ (ticket conn : ℕ) where
 
   -- x stands in a cut as it stands in the whole
   module _ {X : Type 0} (begins : Mark → Option X) (ends : X → Mark → Bool)
-    (begun : (m : Mark) (later : List Mark) (x : X) → begins m ≡ Some x → list_any (ends x) later ≡ false → is_needed ticket conn m later ≡ true)
-    (over : (m : Mark) (later : List Mark) (x : X) → begins m ≡ Some x → list_any (ends x) later ≡ true → is_needed ticket conn m later ≡ true → list_any (ends x) (needed later) ≡ true) where
+      (begun : (m : Mark) (later : List Mark) (x : X) → begins m ≡ Some x → list_any (ends x) later ≡ false → is_needed ticket conn m later ≡ true)
+      (over : (m : Mark) (later : List Mark) (x : X) → begins m ≡ Some x → list_any (ends x) later ≡ true → is_needed ticket conn m later ≡ true → list_any (ends x) (needed later) ≡ true) where
     standing-needed : (marks : List Mark) → standing begins ends (needed marks) ≡ standing begins ends marks
     standing-needed [] = refl
     standing-needed (m ∷ later) = by (begins m) refl (is_needed ticket conn m later) refl (standing-needed later)
       where
         some : (x : X) → begins m ≡ Some x → (e n : Bool) → list_any (ends x) later ≡ e → is_needed ticket conn m later ≡ n → standing begins ends (needed later) ≡ standing begins ends later
-          → standing begins ends (cond n (m ∷ needed later) (needed later)) ≡ still ends (Some x) later ++ standing begins ends later
+            → standing begins ends (cond n (m ∷ needed later) (needed later)) ≡ still ends (Some x) later ++ standing begins ends later
         some x is true true e needs same =
             ap (λ o. still ends o (needed later) ++ standing begins ends (needed later)) is
             ∙ ap (λ (b : Bool). cond b [] (x ∷ []) ++ standing begins ends (needed later)) (over m later x is e needs)
@@ -124,8 +129,9 @@ module _ (ticket conn : ℕ) where
             ∙ ap (λ (b : Bool). cond b [] (x ∷ []) ++ standing begins ends (needed later)) (none-needed (ends x) later e)
             ∙ ap (λ (l : List X). x ∷ l) same ∙ ap (λ (b : Bool). cond b [] (x ∷ []) ++ standing begins ends later) (sym e)
         some x is false false e needs same = absurd (let f = begun m later x is e in cc)
+
         by : (o : Option X) → begins m ≡ o → (n : Bool) → is_needed ticket conn m later ≡ n → standing begins ends (needed later) ≡ standing begins ends later
-          → standing begins ends (cond n (m ∷ needed later) (needed later)) ≡ still ends (begins m) later ++ standing begins ends later
+            → standing begins ends (cond n (m ∷ needed later) (needed later)) ≡ still ends (begins m) later ++ standing begins ends later
         by None is true needs same = ap (λ o. still ends o (needed later) ++ standing begins ends (needed later)) is ∙ same ∙ ap (λ o. still ends o later ++ standing begins ends later) (sym is)
         by None is false needs same = same ∙ ap (λ o. still ends o later ++ standing begins ends later) (sym is)
         by (Some x) is n needs same = some x is (list_any (ends x) later) n refl needs same ∙ ap (λ o. still ends o later ++ standing begins ends later) (sym is)
@@ -139,9 +145,11 @@ module _ (ticket conn : ℕ) where
     where
       same : (k c : ℕ) (later : List Mark) (x : Loan) → lends (Lent k c) ≡ Some x → list_any (ends_loan (record { client = k; conn = c })) later ≡ list_any (ends_loan x) later
       same k c later x is = ap (holds_for (λ (l : Loan). list_any (ends_loan l) later)) is
+
       begun : (m : Mark) (later : List Mark) (x : Loan) → lends m ≡ Some x → list_any (ends_loan x) later ≡ false → is_needed ticket conn m later ≡ true
       begun (Lent k c) later x is e = ap not (same k c later x is ∙ e)
       begun m later x is e = absurd cc
+
       over : (m : Mark) (later : List Mark) (x : Loan) → lends m ≡ Some x → list_any (ends_loan x) later ≡ true → is_needed ticket conn m later ≡ true → list_any (ends_loan x) (needed later) ≡ true
       over (Lent k c) later x is e needs = absurd (let f = not-false _ needs in let g = same k c later x is in cc)
       over m later x is e needs = absurd cc
@@ -151,9 +159,11 @@ module _ (ticket conn : ℕ) where
     where
       same : (c t : ℕ) (later : List Mark) (x : IdleEntry) → keeps (Kept c t) ≡ Some x → list_any (ends_rest (record { conn = c; since = t })) later ≡ list_any (ends_rest x) later
       same c t later x is = ap (holds_for (λ (r : IdleEntry). list_any (ends_rest r) later)) is
+
       begun : (m : Mark) (later : List Mark) (x : IdleEntry) → keeps m ≡ Some x → list_any (ends_rest x) later ≡ false → is_needed ticket conn m later ≡ true
       begun (Kept c t) later x is e = ap not (same c t later x is ∙ e)
       begun m later x is e = absurd cc
+
       over : (m : Mark) (later : List Mark) (x : IdleEntry) → keeps m ≡ Some x → list_any (ends_rest x) later ≡ true → is_needed ticket conn m later ≡ true → list_any (ends_rest x) (needed later) ≡ true
       over (Kept c t) later x is e needs = absurd (let f = not-false _ needs in let g = same c t later x is in cc)
       over m later x is e needs = absurd cc
@@ -170,11 +180,14 @@ module _ (ticket conn : ℕ) where
     where
       same : (c t : ℕ) (later : List Mark) (x : LiveConn) → opens (Opened c t) ≡ Some x → list_any (ends_conn c) later ≡ list_any (ends_life x) later
       same c t later x is = ap (holds_for (λ (b : LiveConn). list_any (ends_life b) later)) is
+
       number : (c t : ℕ) (x : LiveConn) → opens (Opened c t) ≡ Some x → (later : List Mark) → list_any (ends_conn c) (needed later) ≡ list_any (ends_life x) (needed later)
       number c t x is later = ap (holds_for (λ (b : LiveConn). list_any (ends_life b) (needed later))) is
+
       begun : (m : Mark) (later : List Mark) (x : LiveConn) → opens m ≡ Some x → list_any (ends_life x) later ≡ false → is_needed ticket conn m later ≡ true
       begun (Opened c t) later x is e = ap (λ (b : Bool). is_last conn c || not b) (same c t later x is ∙ e) ∙ or-true (is_last conn c)
       begun m later x is e = absurd cc
+
       over : (m : Mark) (later : List Mark) (x : LiveConn) → opens m ≡ Some x → list_any (ends_life x) later ≡ true → is_needed ticket conn m later ≡ true → list_any (ends_life x) (needed later) ≡ true
       over (Opened c t) later x is e needs = by (is_last conn c) refl needs
         where
@@ -199,6 +212,7 @@ module _ (ticket conn : ℕ) where
       all : (m : Mark) → is_leak m ≡ true → is_needed ticket conn m later ≡ true
       all (Leaked c) is = refl
       all m is = absurd cc
+
       by : leaked_of (needed later) ≡ leaked_of later → (b : Bool) → is_leak m ≡ b → (n : Bool) → is_needed ticket conn m later ≡ n → count_by is_leak (cond n (m ∷ needed later) (needed later)) ≡ cond (is_leak m) 1 0 + count_by is_leak later
       by rest b is true needs = count_by-cons is_leak m (needed later) ∙ ap (λ (n : ℕ). cond (is_leak m) 1 0 + n) rest
       by rest true is false needs = absurd (let f = all m is in cc)
@@ -206,15 +220,16 @@ module _ (ticket conn : ℕ) where
 
   -- the number that comes next is told by a needed mark
   module _ (draws : Mark → Option ℕ) (next : ℕ)
-    (last : (m : Mark) (later : List Mark) (t : ℕ) → draws m ≡ Some t → is_needed ticket conn m later ≡ false → t + 1 ≡ next → ⊥) where
+      (last : (m : Mark) (later : List Mark) (t : ℕ) → draws m ≡ Some t → is_needed ticket conn m later ≡ false → t + 1 ≡ next → ⊥) where
     number-needed : (n : ℕ) (marks : List Mark) → next_number draws n marks ≡ next → next_number draws n (needed marks) ≡ next
     number-needed n [] e = e
     number-needed n (m ∷ later) e = by (λ k. number-needed k later) (draws m) refl e (is_needed ticket conn m later) refl
       where
         left_out : (t : ℕ) → draws m ≡ Some t → is_needed ticket conn m later ≡ false → next_number draws (t + 1) (needed later) ≡ next
-          → (next_number draws (t + 1) (needed later) ≡ t + 1) ⊎ ((b : ℕ) → next_number draws b (needed later) ≡ next_number draws (t + 1) (needed later)) → next_number draws n (needed later) ≡ next
+            → (next_number draws (t + 1) (needed later) ≡ t + 1) ⊎ ((b : ℕ) → next_number draws b (needed later) ≡ next_number draws (t + 1) (needed later)) → next_number draws n (needed later) ≡ next
         left_out t is needs e (inl none) = absurd (last m later t is needs (sym none ∙ e))
         left_out t is needs e (inr any) = any n ∙ e
+
         by : ((k : ℕ) → next_number draws k later ≡ next → next_number draws k (needed later) ≡ next) → (o : Option ℕ) → draws m ≡ o → next_number draws (next_after o n) later ≡ next → (b : Bool) → is_needed ticket conn m later ≡ b → next_number draws n (cond b (m ∷ needed later) (needed later)) ≡ next
         by rest o is e true needs = ap (λ o. next_number draws (next_after o n) (needed later)) is ∙ rest (next_after o n) e
         by rest None is e false needs = rest n e
@@ -244,5 +259,35 @@ view-cut marks = λ i. record {
   where
     ticket : ℕ
     ticket = next_ticket marks
+
     conn : ℕ
     conn = next_conn marks
+
+-- ---- a cut is a part of its log
+
+module _ (ticket conn : ℕ) where
+  -- P of all marks is P of the needed ones
+  pub all-needed : (P : Mark → Type 0) (marks : List Mark) → All P marks → All P (needed_of ticket conn marks)
+  all-needed P [] all = all
+  all-needed P (m ∷ later) all = by (All-head P m later all) (all-needed P later (All-tail P m later all)) (is_needed ticket conn m later)
+    where
+      by : P m → All P (needed_of ticket conn later) → (n : Bool) → All P (cond n (m ∷ needed_of ticket conn later) (needed_of ticket conn later))
+      by one rest true = All-cons P _ _ one rest
+      by one rest false = rest
+
+  -- no more marks of a kind are needed than there are
+  pub fewer-needed : (q : Mark → Bool) (marks : List Mark) → count_by q (needed_of ticket conn marks) ≤ count_by q marks
+  fewer-needed q [] = omega arith
+  fewer-needed q (m ∷ later) = by (fewer-needed q later) (is_needed ticket conn m later)
+    where
+      by : count_by q (needed_of ticket conn later) ≤ count_by q later → (n : Bool) → count_by q (cond n (m ∷ needed_of ticket conn later) (needed_of ticket conn later)) ≤ count_by q (m ∷ later)
+      by rest true = let a = count_by-cons q m (needed_of ticket conn later) in let b = count_by-cons q m later in omega (arith, a, b, rest)
+      by rest false = let b = count_by-cons q m later in omega (arith, b, rest)
+
+  pub shorter-needed : (marks : List Mark) → length (needed_of ticket conn marks) ≤ length marks
+  shorter-needed [] = omega arith
+  shorter-needed (m ∷ later) = by (shorter-needed later) (is_needed ticket conn m later)
+    where
+      by : length (needed_of ticket conn later) ≤ length later → (n : Bool) → length (cond n (m ∷ needed_of ticket conn later) (needed_of ticket conn later)) ≤ length (m ∷ later)
+      by rest true = omega (arith, rest)
+      by rest false = omega (arith, rest)

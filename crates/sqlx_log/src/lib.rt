@@ -3,6 +3,7 @@
 //! Nothing here knows a pool: each definition reads one list of [`Mark`]s, plain numbers and switches.
 #![tactic(auto)]
 
+pub mod cut;
 pub mod laws;
 mod mark;
 mod turn;
