@@ -1,5 +1,5 @@
 -- The value under the lock stands after a step of its core whose marks were written behind the log.
-use Rattle.std.proofs.Common.{map, ◌≡◌, ℕ, ◌+◌, ◌^◌, ◌≤◌, ◌⊎◌, inl, inr, Bool, true, false, not, ◌&&◌, cond, List, [], ◌∷◌, ◌++◌, length, Option, Some, None, is_some, refl, sym, ap, ◌∙◌, subst, length-append, arith}
+use Rattle.std.proofs.Common.{map, ◌≡◌, ℕ, ◌+◌, ◌^◌, ◌≤◌, ◌⊎◌, inl, inr, Bool, true, false, not, ◌&&◌, cond, List, [], ◌∷◌, ◌++◌, length, take, drop, Option, Some, None, is_some, refl, sym, ap, ◌∙◌, subst, length-append, arith}
 use Rattle.sqlx_log.specs.declared.mark.Mark.{Mark}
 use Rattle.sqlx_log.specs.declared.mark.Mark.TheVariants.{Ended, Closed, Detached, Leaked, Opened, Kept, Shut}
 use Rattle.sqlx_pool_core.specs.declared.steps.Given.{Given}
@@ -8,6 +8,7 @@ use Rattle.sqlx_pool_core.specs.Answers.{is_held, is_kept}
 use Rattle.sqlx_pool_core.specs.declared.steps.Idle.{Idle}
 use Rattle.sqlx_pool_core.specs.MaintenanceSteps.{done_marks, reap_marks, closed_idle, close_marks}
 use Rattle.sqlx_pool_core.specs.ReturnSteps.{give_answer, give_marks, end_marks, detach_marks, leak_marks}
+use Rattle.std.proofs.lemmas.List.{take-append-drop, take-append-le, drop-append-le}
 use Rattle.std.proofs.lemmas.List.Elements.{All-nil}
 use Rattle.sqlx_log.proofs.Counting.{count-append, count-cons}
 use Rattle.sqlx_log.proofs.FairLaws.{fair-append}
@@ -33,7 +34,7 @@ use Rattle.sqlx_pool_core.specs.Balance.{Balance, is_lent, lents, ends, marks_du
 use Rattle.sqlx_pool_core.specs.PollSteps.{is_in_line, start_marks, test_marks, connect_marks, cancel_marks, try_answer, try_answer_at, connect_answer}
 use Rattle.sqlx_pool.specs.Answers.{lends_tested, lends_new, is_fatal, is_ended}
 use Rattle.sqlx_pool.specs.Booked.{Booked}
-use Rattle.sqlx_pool.specs.State.{PoolState, state_of, RestFlat, IsKept}
+use Rattle.sqlx_pool.specs.State.{PoolState, state_of, no_start, RestFlat, IsKept}
 use Rattle.sqlx_pool.proofs.LeavesLemmas.{Leaves}
 
 -- The books behind a step that ends so many loans and makes these marks; it lends no more than it ends tickets, but where few loans were made.
@@ -42,12 +43,12 @@ pub record Books (old new : Booked) (made : List Mark) (backs : ℕ) : Type 0 wh
   pub made_is : new.made ≡ old.made + lents made
   pub few : (lents made ≤ ends made) ⊎ (new.made ≤ 2 ^ 62)
 
-pub stepped : {C O : Type 0} {levels : C → ℕ} {max : ℕ} {state : PoolState C O} {capacity : ℕ} → IsKept levels max state capacity
+pub stepped : {C O : Type 0} {levels : C → ℕ} {max : ℕ} {cuts : Bool} {state : PoolState C O} {capacity : ℕ} → IsKept levels max cuts state capacity
     → {new : Core C} {made : List Mark} {backs room : ℕ} → Balance state.core new made backs room → Logs state.core made new → Leaves levels state.core new
     → (connect : O) (booked : Booked) → Books state.booked booked made backs
     → (marks : List Mark) (now : ℕ) → marks ≡ state.marks ++ made → length state.marks + marks_due state.core + room ≤ now
-    → IsKept levels max (state_of new marks connect booked) now
-stepped {levels = levels} {max = max} {state = state} kept {new} {made} {backs} {room} moves logs leaves connect booked books marks now e enough =
+    → IsKept levels max cuts (state_of new marks state.start connect booked) now
+stepped {levels = levels} {max = max} {cuts = cuts} {state = state} kept {new} {made} {backs} {room} moves logs leaves connect booked books marks now e enough =
     let makes = logs state.marks kept.standing.stands in
     let fair : IsFair max state.marks made = subst (λ (n : ℕ). IsFair n state.marks made) kept.standing.most makes.fair in
     let counts = count-append is_lent state.marks made in
@@ -62,16 +63,23 @@ stepped {levels = levels} {max = max} {state = state} kept {new} {made} {backs} 
     let few = kept.few in
     let paid = moves.paid in
     let long = length-append state.marks made in
+    let begins = kept.standing.begins in
+    let behind : IsFair max (take state.start.len state.marks ++ drop state.start.len state.marks) made =
+    subst (λ (l : List Mark). IsFair max l made) (sym (take-append-drop state.start.len state.marks)) fair in
     let asked_now : length new.tickets + 1 ≤ new.next_ticket = omega (arith, tickets, numbers, asked) in
     let few_now : (lents made ≤ ends made) ⊎ (booked.made ≤ 2 ^ 62) → booked.made + length new.tickets + 1 ≤ 2 ^ 62 + new.next_ticket =
     elim [ inl le ↦ omega (arith, tickets, numbers, few, made_is, le) | inr le ↦ omega (arith, asked_now, le) ] in
-    subst (λ (l : List Mark). IsKept levels max (state_of new l connect booked) now) (sym e) (record {
+    subst (λ (l : List Mark). IsKept levels max cuts (state_of new l state.start connect booked) now) (sym e) (record {
       standing = record {
         stands = makes.stands;
-        fair = fair-append max [] state.marks made kept.standing.fair fair;
+        fair = subst (λ (l : List Mark). IsFair max l (drop state.start.len (state.marks ++ made))) (sym (take-append-le state.start.len state.marks made begins))
+            (subst (IsFair max (take state.start.len state.marks)) (sym (drop-append-le state.start.len state.marks made begins))
+            (fair-append max (take state.start.len state.marks) (drop state.start.len state.marks) made kept.standing.fair behind));
+        begins = omega (arith, begins, long);
+        uncut = kept.standing.uncut;
         most = ap (λ (o : PoolOptions). o.max_connections) leaves.options ∙ kept.standing.most;
         owned = omega (arith, owned, owned_old, held);
-        made = made_is ∙ (ap (λ (n : ℕ). n + lents made) made_old ∙ sym counts);
+        made = omega (arith, made_is, made_old, counts);
         rest = leaves.rest kept.standing.rest;
       };
       asked = asked_now;
@@ -257,10 +265,10 @@ nothing-mapped : {X Y : Type 0} (f : X → Y) (xs : List X) → map f xs ≡ [] 
 nothing-mapped f [] e = refl
 nothing-mapped f (x ∷ xs) e = absurd cc
 
-pub begun : {C O : Type 0} (levels : C → ℕ) (max : ℕ) (core : Core C) → StandsFor core [] → core.options.max_connections ≡ max
+pub begun : {C O : Type 0} (levels : C → ℕ) (max : ℕ) (cuts : Bool) (core : Core C) → StandsFor core [] → core.options.max_connections ≡ max
     → (marks : List Mark) → marks ≡ [] → (connect : O) (booked : Booked) → booked ≡ record { owned = 0; made = 0 } → (capacity : ℕ) → marks_due core ≤ capacity
-    → IsKept levels max (state_of core marks connect booked) capacity
-begun {C} levels max core stands most marks e connect booked empty capacity room =
+    → IsKept levels max cuts (state_of core marks no_start connect booked) capacity
+begun {C} levels max cuts core stands most marks e connect booked empty capacity room =
     let no_ticket : core.tickets ≡ [] = nothing-mapped asking core.tickets stands.tickets in
     let no_loan : core.held ≡ [] = nothing-mapped loan core.held stands.loans in
     let no_idle : core.idle ≡ [] = nothing-mapped resting core.idle stands.idle in
@@ -269,10 +277,12 @@ begun {C} levels max core stands most marks e connect booked empty capacity room
     let number : core.next_ticket ≡ 1 = stands.ticket_number in
     let owned : booked.owned ≡ 0 = ap (λ (b : Booked). b.owned) empty in
     let made : booked.made ≡ 0 = ap (λ (b : Booked). b.made) empty in
-    subst (λ (l : List Mark). IsKept levels max (state_of core l connect booked) capacity) (sym e) (record {
+    subst (λ (l : List Mark). IsKept levels max cuts (state_of core l no_start connect booked) capacity) (sym e) (record {
       standing = record {
         stands = stands;
         fair = record { safe = tt; order = tt };
+        begins = omega arith;
+        uncut = λ never. refl;
         most = most;
         owned = owned ∙ sym held;
         made = made;

@@ -11,3 +11,4 @@ pub mod Begun
 pub mod Maybe
 pub mod Acquired
 pub mod Opened
+pub mod MarkLog

@@ -3,16 +3,17 @@
 ghost use Rattle.std.specs.Prelude.{◌≡◌, ℕ, ◌+◌, ◌^◌, ◌<◌, ◌≤◌, List, [], ◌∷◌, ◌++◌, IfOk, IfErr, OnOk, OnErr, length};
 ghost use Rattle.sqlx_log.specs.declared.mark.Mark.{Mark};
 ghost use Rattle.sqlx_pool.specs.Booked.{Booked, Tallied};
-ghost use Rattle.sqlx_pool.specs.State.{PoolState, state_of};
+ghost use Rattle.sqlx_pool.specs.State.{PoolState, no_start};
 
 mod ask;
+mod cut;
 mod maintenance;
 mod poll;
 mod questions;
 mod returns;
 
 use crate::books::Books;
-use crate::{Loans, Tally};
+use crate::{Loans, LogStart, Tally};
 use sqlx_pool_core::{Mark, PoolCore, PoolOptions};
 use sqlx_text::{Depth, OutOfMemory};
 use std::alloc::Global;
@@ -25,6 +26,7 @@ use std::sync::ledger::{Blank, Ledger};
 pub struct Locked<C: Depth, O, H: Ledger, L: Loans> {
     core: PoolCore<C>,
     log: Vec<Mark>,
+    start: LogStart,
     connect: O,
     books: Books<H, L>,
 }
@@ -35,9 +37,9 @@ impl<C: Depth, O, H: Ledger, L: Loans> Model for Locked<C, O, H, L> {
 
     ghost Value = { PoolState C O };
 
-    ghost view = { λ s. state_of s.core s.log.items s.connect s.books };
+    ghost view = { λ s. state_of s.core s.log.items s.start s.connect s.books };
 
-    ghost invariant = { λ s. IsKept C.levels L.max (state_of s.core s.log.items s.connect s.books) (vec_capacity s.log) };
+    ghost invariant = { λ s. IsKept C.levels L.max L.cuts (state_of s.core s.log.items s.start s.connect s.books) (vec_capacity s.log) };
 }
 
 impl<C: Depth + Drop, O: Drop, H: Ledger, L: Loans> Locked<C, O, H, L> {
@@ -58,6 +60,7 @@ impl<C: Depth + Drop, O: Drop, H: Ledger, L: Loans> Locked<C, O, H, L> {
         ensures options { IfOk result (λ made. made.0.core.options ≡ options) }
         ensures connect { IfOk result (λ made. made.0.connect ≡ connect) }
         ensures marks { IfOk result (λ made. made.0.marks ≡ []) }
+        ensures start { IfOk result (λ made. made.0.start ≡ no_start) }
         ensures places { IfOk result (λ made. made.0.core.places ≡ 0) }
         ensures last { IfOk result (λ made. made.0.core.last ≡ 0) }
         ensures tally { IfOk result (λ made. made.1 ≡ record { parts = L.parts; loans = 0 }) }
@@ -70,6 +73,10 @@ impl<C: Depth + Drop, O: Drop, H: Ledger, L: Loans> Locked<C, O, H, L> {
         let locked = Locked {
             core,
             log,
+            start: LogStart {
+                len: 0,
+                lent_before: 0,
+            },
             connect,
             books,
         };

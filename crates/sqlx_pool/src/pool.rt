@@ -1,11 +1,12 @@
 //! The pool that threads share: a handle on one locked value. Each call takes the lock for one step at a time.
 
-ghost use Rattle.std.specs.Prelude.{◌≡◌, ℕ, ◌+◌, ◌^◌, ◌<◌, ◌≤◌, ◌⊎◌, List, [], is_some, IfOk, IfErr, IfSome, OnErr};
+ghost use Rattle.std.specs.Prelude.{◌≡◌, ℕ, ◌+◌, ◌^◌, ◌<◌, ◌≤◌, ◌⊎◌, List, [], ◌++◌, true, false, is_some, IfOk, IfErr, IfSome, OnErr};
 ghost use Rattle.sqlx_text.specs.declared.error.Error.{Error};
 ghost use Rattle.sqlx_log.specs.FairLog.{IsFair};
 ghost use Rattle.sqlx_pool_core.specs.Balance.{lents};
 ghost use Rattle.sqlx_pool.specs.Booked.{CountsIf};
 ghost use Rattle.sqlx_pool.specs.Opened.{IsOpenable};
+ghost use Rattle.sqlx_pool.specs.MarkLog.{IsUncut};
 
 mod first;
 mod maintenance;
@@ -204,20 +205,28 @@ impl<C: Depth + Drop, O: Drop, H: Ledger, L: Loans> PoolOf<C, O, H, L> {
         Ok(())
     }
 
-    /// How many marks the log has.
+    /// How many marks the log has behind its start.
     pub fn log_len<R: Wait>(&self, rt: &R) -> usize {
         self.shared.locked.lock(rt).log_len()
     }
 
-    /// A copy of the log, which was never cut: fair from the start, for a pool of this maximum.
+    /// Cuts the log: the marks that later ones still look at become its start, and the others are forgotten. It takes no
+    /// memory, and gives none back: what it frees is room for the marks of later steps.
+    pub fn cut_log<R: Wait>(&self, rt: &R)
+        requires { L.cuts ≡ true }
+    {
+        self.shared.locked.lock(rt).cut();
+    }
+
+    /// A copy of the log: fair behind its start, for a pool of this maximum. The start is empty where the log may not be
+    /// cut.
     pub fn read_log<R: Wait>(&self, rt: &R, alloc: Global) -> Result<MarkLog, OutOfMemory>
-        ensures start { IfOk result (λ log. log.start.items ≡ []) }
+        ensures start { IfOk result (λ log. L.cuts ≡ false → IsUncut log) }
         ensures fair { IfOk result (λ log. IsFair L.max log.start.items log.marks.items) }
     {
         let guard = self.shared.locked.lock(rt);
         guard.facts();
-        let marks = guard.read_log(alloc)?;
-        Ok(MarkLog::new(Vec::new(alloc), marks))
+        guard.read_log(alloc)
     }
 
     /// As `read_log`, by the tally with every part: the log has as many `Lent` marks as that has counted loans, however
@@ -229,15 +238,14 @@ impl<C: Depth + Drop, O: Drop, H: Ledger, L: Loans> PoolOf<C, O, H, L> {
         all: &mut Tally<L>,
     ) -> Result<MarkLog, OutOfMemory>
         requires { all.old.parts ≡ L.parts }
-        ensures start { IfOk result (λ log. log.start.items ≡ []) }
+        ensures start { IfOk result (λ log. L.cuts ≡ false → IsUncut log) }
         ensures fair { IfOk result (λ log. IsFair L.max log.start.items log.marks.items) }
-        ensures counted { IfOk result (λ log. lents log.marks.items ≡ all.old.loans) }
+        ensures counted { IfOk result (λ log. log.lent_before + lents (log.start.items ++ log.marks.items) ≡ all.old.loans) }
         ensures same { all.new ≡ all.old }
     {
         let mut guard = self.shared.locked.lock(rt);
         guard.audit(all);
         guard.facts();
-        let marks = guard.read_log(alloc)?;
-        Ok(MarkLog::new(Vec::new(alloc), marks))
+        guard.read_log(alloc)
     }
 }

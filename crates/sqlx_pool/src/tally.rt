@@ -1,6 +1,6 @@
 //! The tokens of a pool that stand outside its lock: a share for each connection that is held, and tallies of the loans
 //! that were made. They take no memory but a tally's number.
-ghost use Rattle.std.specs.Prelude.{◌≡◌, ℕ, ◌+◌, ◌^◌, ◌<◌, ◌≤◌, true};
+ghost use Rattle.std.specs.Prelude.{◌≡◌, ℕ, ◌+◌, ◌^◌, ◌<◌, ◌≤◌, Bool, true, false};
 ghost use Rattle.sqlx_pool.specs.Booked.{Tallied, CountsIf};
 
 use std::marker::{Brand, Model};
@@ -10,10 +10,15 @@ use std::sync::ledger::{Book, Ledger, Share};
 pub trait Loans: Ledger {
     /// How many connections the pool has at most.
     ghost max: { ℕ };
+
+    /// Whether its log may be cut.
+    ghost cuts: { Bool };
 }
 
 impl Loans for Brand {
     ghost max = { 1 };
+
+    ghost cuts = { false };
 }
 
 /// A share of one connection in the ledger of those that are held.

@@ -8,20 +8,31 @@ ghost use Rattle.sqlx_pool_core.specs.MaintenanceSteps.{close_state_of};
 ghost use Rattle.sqlx_pool_core.specs.Limits.{limits_of};
 ghost use Rattle.sqlx_pool_core.specs.Logs.{moment_of};
 ghost use Rattle.sqlx_pool_core.specs.Balance.{lents};
-ghost use Rattle.sqlx_pool.specs.State.{IsStanding};
+ghost use Rattle.sqlx_pool.specs.State.{IsStanding, start_of, since_start};
 
 use super::Locked;
-use crate::{Loans, Tally};
+use crate::{Loans, MarkLog, Tally};
 use sqlx_pool_core::{CloseState, Mark, PoolOptions};
 use sqlx_text::{Depth, Moment, OutOfMemory};
 use std::alloc::Global;
 use std::mem;
 use std::sync::ledger::Ledger;
 
+// A copy of these marks.
+fn copied(alloc: Global, marks: &[Mark]) -> Result<Vec<Mark>, OutOfMemory>
+    ensures { IfOk result (λ copy. copy.items ≡ marks.now) }
+{
+    let mut copy = Vec::new(alloc);
+    match copy.extend_from_slice(marks) {
+        Ok(()) => Ok(copy),
+        Err(_) => Err(OutOfMemory),
+    }
+}
+
 impl<C: Depth, O, H: Ledger, L: Loans> Locked<C, O, H, L> {
     /// What holds of the value whenever its lock is free.
     pub fn facts(&self)
-        ensures { IsStanding C.levels L.max self.now }
+        ensures { IsStanding C.levels L.max L.cuts self.now }
     {
         let _ = &self.core;
     }
@@ -29,8 +40,9 @@ impl<C: Depth, O, H: Ledger, L: Loans> Locked<C, O, H, L> {
     /// Counts the loans by the tally with every part: they are the `Lent` marks of the log.
     pub fn audit(&mut self, all: &mut Tally<L>)
         requires { all.old.parts ≡ L.parts }
-        ensures counted { lents self.new.marks ≡ all.old.loans }
+        ensures counted { self.new.start.lent_before + lents self.new.marks ≡ all.old.loans }
         ensures marks { self.new.marks ≡ self.old.marks }
+        ensures start { self.new.start ≡ self.old.start }
         ensures core { self.new.core ≡ self.old.core }
         ensures connect { self.new.connect ≡ self.old.connect }
         ensures same { all.new ≡ all.old }
@@ -106,21 +118,21 @@ impl<C: Depth, O, H: Ledger, L: Loans> Locked<C, O, H, L> {
         self.core.closing()
     }
 
-    /// How many marks the log has.
+    /// How many marks the log has behind its start.
     pub fn log_len(&self) -> usize
-        ensures { result ≡ length self.now.marks }
+        ensures { result ≡ length (since_start self.now) }
     {
-        self.log.len()
+        self.log.len() - self.start.len
     }
 
-    /// A copy of the log.
-    pub fn read_log(&self, alloc: Global) -> Result<Vec<Mark>, OutOfMemory>
-        ensures { IfOk result (λ log. log.items ≡ self.now.marks) }
+    /// A copy of the log: its start, and the marks behind it.
+    pub fn read_log(&self, alloc: Global) -> Result<MarkLog, OutOfMemory>
+        ensures start { IfOk result (λ log. log.start.items ≡ start_of self.now) }
+        ensures marks { IfOk result (λ log. log.marks.items ≡ since_start self.now) }
+        ensures before { IfOk result (λ log. log.lent_before ≡ self.now.start.lent_before) }
     {
-        let mut copy = Vec::new(alloc);
-        match copy.extend_from_slice(self.log.as_slice()) {
-            Ok(()) => Ok(copy),
-            Err(_) => Err(OutOfMemory),
-        }
+        let start = copied(alloc, &self.log[..self.start.len])?;
+        let marks = copied(alloc, &self.log[self.start.len..])?;
+        Ok(MarkLog::new(start, self.start.lent_before, marks))
     }
 }

@@ -1,3 +1,4 @@
+use Rattle.std.proofs.Common.{false}
 use Rattle.tests_pool_threads.proofs.rows.a_close_while_a_ticket_waits.Given as goal
 
 abbrev pub ghosts-closed_meanwhile-H-Ledger : goal.ghosts-closed_meanwhile-H-Ledger
@@ -7,4 +8,4 @@ abbrev pub ghosts-closed_meanwhile-L-Ledger : goal.ghosts-closed_meanwhile-L-Led
 ghosts-closed_meanwhile-L-Ledger g a = record { name = a.loans.name; parts = a.loans.parts }
 
 abbrev pub ghosts-closed_meanwhile-L-Loans : goal.ghosts-closed_meanwhile-L-Loans
-ghosts-closed_meanwhile-L-Loans g a = record { max = 1 }
+ghosts-closed_meanwhile-L-Loans g a = record { max = 1; cuts = false }

@@ -1,3 +1,4 @@
+use Rattle.std.proofs.Common.{false}
 use Rattle.tests_pool_threads.proofs.rows.a_ticket_that_waits.Given as goal
 
 abbrev pub ghosts-two_loans-H-Ledger : goal.ghosts-two_loans-H-Ledger
@@ -7,4 +8,4 @@ abbrev pub ghosts-two_loans-L-Ledger : goal.ghosts-two_loans-L-Ledger
 ghosts-two_loans-L-Ledger g a = record { name = a.loans.name; parts = a.loans.parts }
 
 abbrev pub ghosts-two_loans-L-Loans : goal.ghosts-two_loans-L-Loans
-ghosts-two_loans-L-Loans g a = record { max = 1 }
+ghosts-two_loans-L-Loans g a = record { max = 1; cuts = false }

@@ -1,3 +1,4 @@
+use Rattle.std.proofs.Common.{false}
 use Rattle.tests_pool_threads.proofs.two_threads.two_threads_get_a_connection_each.Given as goal
 
 abbrev pub ghosts-two-H-Ledger : goal.ghosts-two-H-Ledger
@@ -7,4 +8,4 @@ abbrev pub ghosts-two-L-Ledger : goal.ghosts-two-L-Ledger
 ghosts-two-L-Ledger g a = record { name = a.loans.name; parts = a.loans.parts }
 
 abbrev pub ghosts-two-L-Loans : goal.ghosts-two-L-Loans
-ghosts-two-L-Loans g a = record { max = 2 }
+ghosts-two-L-Loans g a = record { max = 2; cuts = false }
