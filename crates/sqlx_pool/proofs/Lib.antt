@@ -1,3 +1,4 @@
 pub mod StepLemmas
 pub mod LeavesLemmas
 pub mod ReturnsLemmas
+pub mod RefusalLemmas

@@ -5,6 +5,7 @@ pub mod Places
 pub mod Checks
 pub mod Stage
 pub mod Polling
+pub mod Refusals
 pub mod Returned
 pub mod Begun
 pub mod Maybe

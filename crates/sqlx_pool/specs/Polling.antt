@@ -1,5 +1,6 @@
 -- What a poll of a pool came to.
 use Rattle.std.specs.Prelude.{⊤, Bool, true, false}
+use Rattle.sqlx_text.specs.declared.error.Error.{Error}
 use Rattle.sqlx_pool.specs.declared.acquiring.Polling.{Polling}
 use Rattle.sqlx_pool.specs.declared.acquiring.Polling.TheVariants as polling
 
@@ -13,3 +14,8 @@ module _ {T P : Type 0} where
   abbrev pub IfReady : Polling T P → (T → Type 0) → Type 0
   IfReady (polling.Ready conn) Q = Q conn
   IfReady other Q = ⊤
+
+  -- Q of the error by which the ticket ended, if it did
+  abbrev pub IfFailed : Polling T P → (Error → Type 0) → Type 0
+  IfFailed (polling.Failed error) Q = Q error
+  IfFailed other Q = ⊤

@@ -1,5 +1,6 @@
 -- How far a poll has come.
 use Rattle.std.specs.Prelude.{⊤, Bool, true, false}
+use Rattle.sqlx_text.specs.declared.error.Error.{Error}
 use Rattle.sqlx_pool_core.specs.declared.steps.Lent.{Lent}
 use Rattle.sqlx_pool.specs.declared.stage.Stage.{Stage}
 use Rattle.sqlx_pool.specs.declared.stage.Stage.TheVariants as stage
@@ -14,6 +15,12 @@ module _ {C H : Type 0} where
   abbrev pub IfLent : Stage C H → (Lent C → Type 0) → Type 0
   IfLent (stage.Lent lent held) P = P lent
   IfLent other P = ⊤
+
+  -- P of the error by which the ticket ended, if it did
+  abbrev pub IfEnded : Stage C H → (Error → Type 0) → Type 0
+  IfEnded (stage.Failed error) P = P error
+  IfEnded (stage.Left raw hard error) P = P error
+  IfEnded other P = ⊤
 
   -- an idle connection is to be tested
   abbrev pub wants_test : Stage C H → Bool

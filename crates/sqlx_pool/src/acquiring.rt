@@ -1,11 +1,16 @@
 //! A connection that was asked for and isn't there yet.
 
-ghost use Rattle.std.specs.Prelude.{◌≡◌, ℕ, ◌<◌, ◌≤◌};
+ghost use Rattle.std.specs.Prelude.{◌≡◌, ℕ, ◌+◌, ◌<◌, ◌≤◌, false};
+ghost use Rattle.sqlx_pool_core.specs.Balance.{one_if};
 ghost use Rattle.sqlx_pool.specs.Booked.{CountsIf};
-ghost use Rattle.sqlx_pool.specs.Polling.{is_ready, IfReady};
+ghost use Rattle.sqlx_pool.specs.Polling.{is_ready, IfReady, IfFailed};
+ghost use Rattle.sqlx_pool.specs.Refusals.{IsEnd, IsPollRefusal};
+ghost use Rattle.sqlx_pool.specs.Stage.{has_lent, IfLent, IfEnded};
+
+mod waits;
 
 use crate::stage::{Stage, Why};
-use crate::{Loans, PoolConnectionOf, PoolOf, Tally, checks};
+use crate::{Held, Loans, PoolConnectionOf, PoolOf, Tally, checks};
 use sqlx_pool_core::Outside;
 use sqlx_pool_core::idle_check::Check;
 use sqlx_text::{Depth, Error, Moment};
@@ -64,6 +69,35 @@ impl<C: Depth + Drop, O: Drop, H: Ledger, L: Loans> AcquiringOf<C, O, H, L> {
         requires { 0 < tally.old.parts }
         ensures tally { CountsIf (is_ready result) tally.old tally.new }
         ensures flat { IfReady result (λ conn. C.levels conn.raw ≡ 0) }
+        ensures causes { IfFailed result (IsPollRefusal (X.faults out.old) (X.faults out.new)) }
+        ensures counts { (X.faults out.old ≤ X.faults out.new) × (X.refusals out.old ≤ X.refusals out.new) }
+    {
+        let begun = self
+            .pool
+            .shared
+            .locked
+            .lock(rt)
+            .begin(self.client, self.ticket, now, tally);
+        self.go_on::<R, X>(rt, alloc, now, begun, out, tally)
+    }
+
+    // Goes on with a poll that was begun. Where the ticket ends without a loan, those that wait are told.
+    fn go_on<R: Wait, X: Outside<C, O>>(
+        self,
+        rt: &R,
+        alloc: Global,
+        now: Moment,
+        begun: Stage<C, Held<H>>,
+        out: &mut X,
+        tally: &mut Tally<L>,
+    ) -> PoolPollOf<C, O, H, L>
+        requires parts { 0 < tally.old.parts }
+        requires flat { IfLent begun (λ lent. C.levels lent.raw ≡ 0) }
+        requires causes { IfEnded begun IsEnd }
+        ensures parts { tally.new.parts ≡ tally.old.parts }
+        ensures loans { tally.new.loans + one_if (has_lent begun) ≡ tally.old.loans + one_if (is_ready result) }
+        ensures flat { IfReady result (λ conn. C.levels conn.raw ≡ 0) }
+        ensures causes { IfFailed result (IsPollRefusal (X.faults out.old) (X.faults out.new)) }
         ensures counts { (X.faults out.old ≤ X.faults out.new) × (X.refusals out.old ≤ X.refusals out.new) }
     {
         let AcquiringOf {
@@ -71,11 +105,6 @@ impl<C: Depth + Drop, O: Drop, H: Ledger, L: Loans> AcquiringOf<C, O, H, L> {
             client,
             ticket,
         } = self;
-        let begun = pool
-            .shared
-            .locked
-            .lock(rt)
-            .begin(client, ticket, now, tally);
         let tries = pool.shared.options.get_idle_tries();
         let tested = pool.test::<R, X>(rt, client, ticket, begun, tries, out, tally);
         let stage = pool.open_wanted::<R, X>(rt, alloc, client, ticket, now, tested, out, tally);
@@ -85,10 +114,12 @@ impl<C: Depth + Drop, O: Drop, H: Ledger, L: Loans> AcquiringOf<C, O, H, L> {
             }
             Stage::Pending(why) => Polling::Pending(AcquiringOf::new(pool, client, ticket), why),
             Stage::Failed(error) => {
+                pool.notify();
                 drop(pool);
                 Polling::Failed(error)
             }
             Stage::Left { raw, hard, error } => {
+                pool.notify();
                 drop(pool);
                 close_left::<C, O, X>(raw, hard, out);
                 Polling::Failed(error)
@@ -104,7 +135,9 @@ impl<C: Depth + Drop, O: Drop, H: Ledger, L: Loans> AcquiringOf<C, O, H, L> {
             client,
             ticket,
         } = self;
-        pool.shared.locked.lock(rt).cancel(client, ticket)
+        let ended = pool.shared.locked.lock(rt).cancel(client, ticket);
+        pool.notify();
+        ended
     }
 }
 

@@ -1,10 +1,12 @@
 //! Transactions on connections that a pool lends.
 
-ghost use Rattle.std.specs.Prelude.{◌≡◌, ◌<◌, ℕ, true, None, Some};
-ghost use Rattle.sqlx_pool.specs.Begun.{Begins, IsLendRefusal, has_lent};
+ghost use Rattle.std.specs.Prelude.{◌≡◌, ◌<◌, ◌≤◌, ℕ, None, Some};
+ghost use Rattle.sqlx_pool.specs.Begun.{Begins, BeginsLent, BegunOnLent, IsLendRefusal, has_lent, was_lent};
 ghost use Rattle.sqlx_pool.specs.Booked.{CountsIf};
+ghost use Rattle.sqlx_pool.specs.Refusals.{IsPollRefusal};
 
-use crate::{BeginRefused, Loans, Pool, PoolConnection, PoolOf, Tally};
+use crate::{BeginRefused, Clock, Loans, Pool, PoolConnection, PoolOf, Tally};
+use sqlx_pool_core::Outside;
 use sqlx_text::{Error, Moment, SqlStr};
 use sqlx_traits::Database;
 use sqlx_tx::Transaction;
@@ -23,19 +25,13 @@ fn begin_on<DB: Database, H: Ledger, L: Loans>(
     alloc: Global,
     conn: PoolConnection<DB, H, L>,
     statement: Option<SqlStr>,
-) -> Result<Option<Transaction<DB, PoolConnection<DB, H, L>>>, BeginRefused<DB, H, L>>
-where
-    DB::Connection: Drop,
+) -> Result<Transaction<DB, PoolConnection<DB, H, L>>, (Error, PoolConnection<DB, H, L>)>
     requires flat { DB.Connection.levels conn.raw ≡ 0 }
-    ensures begins { Begins DB.TransactionManager.does DB.Connection.levels DB.Connection.faults (λ lent. lent.raw) IsLendRefusal statement result }
-    ensures lent { has_lent result ≡ true }
+    ensures begun { BegunOnLent DB.TransactionManager.does DB.Connection.levels DB.Connection.faults (λ lent. lent.raw) statement result }
 {
     match Transaction::begin(alloc, conn, statement) {
-        Ok(begun) => Ok(Some(begun)),
-        Err((error, conn)) => Err(BeginRefusedOf {
-            error,
-            connection: Some(conn),
-        }),
+        Ok(begun) => Ok(begun),
+        Err(refused) => Err(refused),
     }
 }
 
@@ -56,8 +52,54 @@ where
     ensures tally { CountsIf (has_lent result) tally.old tally.new }
 {
     match pool.try_acquire(rt, alloc, now, client, tally) {
-        Ok(Some(conn)) => begin_on::<DB, H, L>(alloc, conn, statement),
+        Ok(Some(conn)) => match begin_on::<DB, H, L>(alloc, conn, statement) {
+            Ok(begun) => Ok(Some(begun)),
+            Err((error, conn)) => Err(BeginRefusedOf {
+                error,
+                connection: Some(conn),
+            }),
+        },
         Ok(None) => Ok(None),
+        Err(error) => Err(BeginRefusedOf {
+            error,
+            connection: None,
+        }),
+    }
+}
+
+// Waits for a connection and begins on it, by the statement where one is given.
+fn begin_by<
+    DB: Database,
+    H: Ledger,
+    L: Loans,
+    R: Wait,
+    K: Clock,
+    X: Outside<DB::Connection, DB::Options>,
+>(
+    pool: &Pool<DB, H, L>,
+    rt: &R,
+    alloc: Global,
+    clock: &mut K,
+    client: u32,
+    out: &mut X,
+    tally: &mut Tally<L>,
+    statement: Option<SqlStr>,
+) -> Result<Transaction<DB, PoolConnection<DB, H, L>>, BeginRefused<DB, H, L>>
+where
+    DB::Connection: Drop,
+    requires { 0 < tally.old.parts }
+    ensures begins { BeginsLent DB.TransactionManager.does DB.Connection.levels DB.Connection.faults (λ lent. lent.raw) (IsPollRefusal (X.faults out.old) (X.faults out.new)) statement result }
+    ensures tally { CountsIf (was_lent result) tally.old tally.new }
+    ensures counts { (X.faults out.old ≤ X.faults out.new) × (X.refusals out.old ≤ X.refusals out.new) }
+{
+    match pool.acquire_wait::<R, K, X>(rt, alloc, clock, client, out, tally) {
+        Ok(conn) => match begin_on::<DB, H, L>(alloc, conn, statement) {
+            Ok(begun) => Ok(begun),
+            Err((error, conn)) => Err(BeginRefusedOf {
+                error,
+                connection: Some(conn),
+            }),
+        },
         Err(error) => Err(BeginRefusedOf {
             error,
             connection: None,
@@ -67,6 +109,38 @@ where
 
 /// Transactions on connections that the pool of a database lends. In sqlx: calls of `Pool`.
 pub trait PoolBegin<DB: Database, H: Ledger, L: Loans> {
+    /// Waits for a connection, as `acquire_wait`, and begins a transaction on it. Where the begin is refused, the
+    /// connection comes back.
+    fn begin<R: Wait, K: Clock, X: Outside<DB::Connection, DB::Options>>(
+        &self,
+        rt: &R,
+        alloc: Global,
+        clock: &mut K,
+        client: u32,
+        out: &mut X,
+        tally: &mut Tally<L>,
+    ) -> Result<Transaction<DB, PoolConnection<DB, H, L>>, BeginRefused<DB, H, L>>
+        requires { 0 < tally.old.parts }
+        ensures begins { BeginsLent DB.TransactionManager.does DB.Connection.levels DB.Connection.faults (λ lent. lent.raw) (IsPollRefusal (X.faults out.old) (X.faults out.new)) None result }
+        ensures tally { CountsIf (was_lent result) tally.old tally.new }
+        ensures counts { (X.faults out.old ≤ X.faults out.new) × (X.refusals out.old ≤ X.refusals out.new) };
+
+    /// As `begin`, by a statement of your own.
+    fn begin_with<R: Wait, K: Clock, X: Outside<DB::Connection, DB::Options>>(
+        &self,
+        rt: &R,
+        alloc: Global,
+        clock: &mut K,
+        client: u32,
+        out: &mut X,
+        tally: &mut Tally<L>,
+        statement: SqlStr,
+    ) -> Result<Transaction<DB, PoolConnection<DB, H, L>>, BeginRefused<DB, H, L>>
+        requires { 0 < tally.old.parts }
+        ensures begins { BeginsLent DB.TransactionManager.does DB.Connection.levels DB.Connection.faults (λ lent. lent.raw) (IsPollRefusal (X.faults out.old) (X.faults out.new)) (Some statement) result }
+        ensures tally { CountsIf (was_lent result) tally.old tally.new }
+        ensures counts { (X.faults out.old ≤ X.faults out.new) × (X.refusals out.old ≤ X.refusals out.new) };
+
     /// Begins a transaction on the first idle connection, past the line and without a test, where `try_acquire` lends
     /// one; None where it doesn't.
     fn try_begin<R: Wait>(
@@ -101,6 +175,31 @@ impl<DB: Database, H: Ledger, L: Loans> PoolBegin<DB, H, L>
 where
     DB::Connection: Drop,
 {
+    fn begin<R: Wait, K: Clock, X: Outside<DB::Connection, DB::Options>>(
+        &self,
+        rt: &R,
+        alloc: Global,
+        clock: &mut K,
+        client: u32,
+        out: &mut X,
+        tally: &mut Tally<L>,
+    ) -> Result<Transaction<DB, PoolConnection<DB, H, L>>, BeginRefused<DB, H, L>> {
+        begin_by::<DB, H, L, R, K, X>(self, rt, alloc, clock, client, out, tally, None)
+    }
+
+    fn begin_with<R: Wait, K: Clock, X: Outside<DB::Connection, DB::Options>>(
+        &self,
+        rt: &R,
+        alloc: Global,
+        clock: &mut K,
+        client: u32,
+        out: &mut X,
+        tally: &mut Tally<L>,
+        statement: SqlStr,
+    ) -> Result<Transaction<DB, PoolConnection<DB, H, L>>, BeginRefused<DB, H, L>> {
+        begin_by::<DB, H, L, R, K, X>(self, rt, alloc, clock, client, out, tally, Some(statement))
+    }
+
     fn try_begin<R: Wait>(
         &self,
         rt: &R,

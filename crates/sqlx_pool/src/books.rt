@@ -54,6 +54,17 @@ impl<H: Ledger, L: Loans> Books<H, L> {
         self.made
     }
 
+    // The tally with every part has counted all loans that were made.
+    pub fn audit(&mut self, all: &mut Tally<L>)
+        requires { all.old.parts ≡ L.parts }
+        ensures counted { self.old.made ≡ all.old.loans }
+        ensures owned { self.new.owned ≡ self.old.owned }
+        ensures made { self.new.made ≡ self.old.made }
+        ensures same { all.new ≡ all.old }
+    {
+        all.audit(&mut self.loans);
+    }
+
     // A connection is lent: its share goes out, and the tally counts the loan.
     pub fn lend(&mut self, tally: &mut Tally<L>) -> Held<H>
         requires parts { 0 < tally.old.parts }

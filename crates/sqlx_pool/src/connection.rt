@@ -89,6 +89,7 @@ impl<C: Depth + Drop, O: Drop, H: Ledger, L: Loans> PoolConnectionOf<C, O, H, L>
             .locked
             .lock(rt)
             .give(client, lent, now, passes(check), held);
+        pool.notify();
         let (given, left) = gave;
         drop(left);
         match given {
@@ -127,6 +128,7 @@ impl<C: Depth + Drop, O: Drop, H: Ledger, L: Loans> PoolConnectionOf<C, O, H, L>
             closes: _,
         } = self;
         let (ended, left) = pool.shared.locked.lock(rt).end(client, id, held);
+        pool.notify();
         drop(left);
         if ended {
             close_by::<C, O, X>(Check::Close, raw, out);
@@ -158,6 +160,7 @@ impl<C: Depth + Drop, O: Drop, H: Ledger, L: Loans> PoolConnectionOf<C, O, H, L>
             closes: _,
         } = self;
         let (left_pool, share) = pool.shared.locked.lock(rt).detach(client, id, held);
+        pool.notify();
         drop(share);
         let opened = pool.keep_minimum_if::<R, X>(left_pool, rt, alloc, now, out);
         (raw, opened)

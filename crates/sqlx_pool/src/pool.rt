@@ -3,6 +3,7 @@
 ghost use Rattle.std.specs.Prelude.{◌≡◌, ℕ, ◌+◌, ◌^◌, ◌<◌, ◌≤◌, ◌⊎◌, List, [], is_some, IfOk, IfErr, IfSome, OnErr};
 ghost use Rattle.sqlx_text.specs.declared.error.Error.{Error};
 ghost use Rattle.sqlx_log.specs.FairLog.{IsFair};
+ghost use Rattle.sqlx_pool_core.specs.Balance.{lents};
 ghost use Rattle.sqlx_pool.specs.Booked.{CountsIf};
 ghost use Rattle.sqlx_pool.specs.Opened.{IsOpenable};
 
@@ -15,12 +16,14 @@ use sqlx_pool_core::{CloseState, PoolOptions};
 use sqlx_text::{Depth, Error, Moment, OutOfMemory};
 use std::alloc::Global;
 use std::sync::ledger::{Blank, Ledger};
-use std::sync::{Arc, Mutex, Wait};
+use std::sync::{Arc, Condvar, Mutex, Wait};
 
 // What the handles of a pool share: the locked value, and how the pool was set up.
 #[derive(Drop)]
 pub(crate) struct Shared<C: Depth, O, H: Ledger, L: Loans> {
     pub(crate) locked: Mutex<Locked<C, Arc<O, Global>, H, L>>,
+    // Those that wait for their turn sleep at it.
+    pub(crate) freed: Condvar,
     pub(crate) options: PoolOptions,
 }
 
@@ -53,12 +56,19 @@ impl<C: Depth + Drop, O: Drop, H: Ledger, L: Loans> PoolOf<C, O, H, L> {
         let (locked, tally) = Locked::new(alloc, options, connect, held, loans)?;
         let shared = Shared {
             locked: Mutex::new(locked),
+            freed: Condvar::new(),
             options,
         };
         match Arc::new(alloc, shared) {
             Ok(shared) => Ok((PoolOf { shared }, tally)),
             Err(_) => Err(OutOfMemory),
         }
+    }
+
+    // Wakes those that wait for their turn: after each step that frees a permit, ends a ticket without a loan, or closes
+    // the pool.
+    pub(crate) fn notify(&self) {
+        self.shared.freed.notify_all();
     }
 
     /// Another handle on the same pool. In sqlx: `clone`.
@@ -205,6 +215,27 @@ impl<C: Depth + Drop, O: Drop, H: Ledger, L: Loans> PoolOf<C, O, H, L> {
         ensures fair { IfOk result (λ log. IsFair L.max log.start.items log.marks.items) }
     {
         let guard = self.shared.locked.lock(rt);
+        guard.facts();
+        let marks = guard.read_log(alloc)?;
+        Ok(MarkLog::new(Vec::new(alloc), marks))
+    }
+
+    /// As `read_log`, by the tally with every part: the log has as many `Lent` marks as that has counted loans, however
+    /// many threads made them.
+    pub fn audit_log<R: Wait>(
+        &self,
+        rt: &R,
+        alloc: Global,
+        all: &mut Tally<L>,
+    ) -> Result<MarkLog, OutOfMemory>
+        requires { all.old.parts ≡ L.parts }
+        ensures start { IfOk result (λ log. log.start.items ≡ []) }
+        ensures fair { IfOk result (λ log. IsFair L.max log.start.items log.marks.items) }
+        ensures counted { IfOk result (λ log. lents log.marks.items ≡ all.old.loans) }
+        ensures same { all.new ≡ all.old }
+    {
+        let mut guard = self.shared.locked.lock(rt);
+        guard.audit(all);
         guard.facts();
         let marks = guard.read_log(alloc)?;
         Ok(MarkLog::new(Vec::new(alloc), marks))

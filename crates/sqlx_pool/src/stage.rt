@@ -3,7 +3,8 @@
 ghost use Rattle.std.specs.Prelude.{◌≡◌, ℕ, ◌+◌, ◌<◌, ◌≤◌, true, false, is_some};
 ghost use Rattle.sqlx_pool.specs.Answers.{lends_tested, IfTestLends, lends_new, IfTryLends, is_ended};
 ghost use Rattle.sqlx_pool.specs.Booked.{CountsIf};
-ghost use Rattle.sqlx_pool.specs.Stage.{has_lent, IfLent, wants_test, wants_connect};
+ghost use Rattle.sqlx_pool.specs.Refusals.{IsEnd};
+ghost use Rattle.sqlx_pool.specs.Stage.{has_lent, IfLent, IfEnded, wants_test, wants_connect};
 
 use crate::{Held, Loans, Locked, Tally, checks};
 use sqlx_pool_core::{AfterConnect, AfterTest, Idle, Lent, Start, Tried, Verdict};
@@ -40,6 +41,7 @@ pub fn after_test<C, H: Drop>(after: AfterTest<C>, held: Option<H>, moment: Mome
     requires { is_some held ≡ lends_tested after }
     ensures lent { has_lent result ≡ lends_tested after }
     ensures flat { (levels : C → ℕ) → IfTestLends after (λ lent. levels lent.raw ≡ 0) → IfLent result (λ lent. levels lent.raw ≡ 0) }
+    ensures causes { IfEnded result IsEnd }
 {
     match after {
         AfterTest::Ready(lent) => match held {
@@ -69,6 +71,7 @@ pub fn after_try<C, H: Drop>(after: AfterConnect<C>, held: Option<H>) -> Stage<C
     requires calm { is_ended after ≡ false }
     ensures lent { has_lent result ≡ lends_new after }
     ensures flat { (levels : C → ℕ) → IfTryLends after (λ lent. levels lent.raw ≡ 0) → IfLent result (λ lent. levels lent.raw ≡ 0) }
+    ensures causes { IfEnded result IsEnd }
     ensures tested { wants_test result ≡ false }
     ensures connected { wants_connect result ≡ false }
 {
@@ -106,6 +109,7 @@ impl<C: Depth, O, H: Ledger, L: Loans> Locked<C, O, H, L> {
         requires { 0 < tally.old.parts }
         ensures tally { CountsIf (has_lent result) tally.old tally.new }
         ensures flat { IfLent result (λ lent. C.levels lent.raw ≡ 0) }
+        ensures causes { IfEnded result IsEnd }
     {
         match self.start(client, ticket, now) {
             Start::NotHeld => Stage::Failed(Error::NotHeld),
@@ -131,6 +135,7 @@ impl<C: Depth, O, H: Ledger, L: Loans> Locked<C, O, H, L> {
         requires { 0 < tally.old.parts }
         ensures tally { CountsIf (has_lent result) tally.old tally.new }
         ensures flat { IfLent result (λ lent. C.levels lent.raw ≡ 0) }
+        ensures causes { IfEnded result IsEnd }
     {
         let moment = self.moment(now);
         if checks::tests_nothing(self.options()) && idle.lent.raw.depth() == 0 {

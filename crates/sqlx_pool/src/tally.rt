@@ -83,6 +83,16 @@ impl<L: Loans> Tally<L> {
         self.loans += 1;
     }
 
+    // With every part, its number is the book's.
+    pub(crate) fn audit(&mut self, book: &mut Book<L>)
+        requires { self.old.parts ≡ L.parts }
+        ensures whole { self.old.loans ≡ book.old.total }
+        ensures total { book.new.total ≡ book.old.total }
+        ensures same { self.new ≡ self.old }
+    {
+        book.audit(&mut self.share);
+    }
+
     /// How many loans were counted in it.
     pub fn loans(&self) -> u64
         ensures { result ≡ self.now.loans }

@@ -7,10 +7,11 @@ ghost use Rattle.sqlx_log.specs.EventTable.{closes, size_at};
 ghost use Rattle.sqlx_pool_core.specs.MaintenanceSteps.{close_state_of};
 ghost use Rattle.sqlx_pool_core.specs.Limits.{limits_of};
 ghost use Rattle.sqlx_pool_core.specs.Logs.{moment_of};
+ghost use Rattle.sqlx_pool_core.specs.Balance.{lents};
 ghost use Rattle.sqlx_pool.specs.State.{IsStanding};
 
 use super::Locked;
-use crate::Loans;
+use crate::{Loans, Tally};
 use sqlx_pool_core::{CloseState, Mark, PoolOptions};
 use sqlx_text::{Depth, Moment, OutOfMemory};
 use std::alloc::Global;
@@ -23,6 +24,18 @@ impl<C: Depth, O, H: Ledger, L: Loans> Locked<C, O, H, L> {
         ensures { IsStanding C.levels L.max self.now }
     {
         let _ = &self.core;
+    }
+
+    /// Counts the loans by the tally with every part: they are the `Lent` marks of the log.
+    pub fn audit(&mut self, all: &mut Tally<L>)
+        requires { all.old.parts ≡ L.parts }
+        ensures counted { lents self.new.marks ≡ all.old.loans }
+        ensures marks { self.new.marks ≡ self.old.marks }
+        ensures core { self.new.core ≡ self.old.core }
+        ensures connect { self.new.connect ≡ self.old.connect }
+        ensures same { all.new ≡ all.old }
+    {
+        self.books.audit(all);
     }
 
     /// How the pool was set up.

@@ -53,6 +53,7 @@ impl<C: Depth + Drop, O: Drop, H: Ledger, L: Loans> PoolOf<C, O, H, L> {
         let opened = self.open_first::<R, X>(rt, alloc, now, out);
         if opened.is_err() {
             let idle = self.shared.locked.lock(rt).close();
+            self.notify();
             close_all::<C, O, X>(Check::CloseHard, idle, out);
         }
         opened

@@ -82,6 +82,7 @@ impl<C: Depth + Drop, O: Drop, H: Ledger, L: Loans> PoolOf<C, O, H, L> {
         ensures counts { (X.faults out.old ≤ X.faults out.new) × (X.refusals out.old ≤ X.refusals out.new) }
     {
         let idle = self.shared.locked.lock(rt).close();
+        self.notify();
         close_all::<C, O, X>(Check::Close, idle, out)
     }
 
@@ -234,6 +235,7 @@ impl<C: Depth + Drop, O: Drop, H: Ledger, L: Loans> PoolOf<C, O, H, L> {
         ensures counts { (X.faults out.old ≤ X.faults out.new) × (X.refusals out.old ≤ X.refusals out.new) }
     {
         let back = self.shared.locked.lock(rt).minimum_done(now, Some(raw));
+        self.notify();
         match back {
             None => Filled::Opened,
             Some(raw) => {
@@ -246,6 +248,7 @@ impl<C: Depth + Drop, O: Drop, H: Ledger, L: Loans> PoolOf<C, O, H, L> {
     // Gives a place back for which nothing was opened.
     pub(super) fn let_go<R: Wait>(&self, rt: &R, now: Moment) {
         let back = self.shared.locked.lock(rt).minimum_done(now, None);
+        self.notify();
         drop(back);
     }
 }

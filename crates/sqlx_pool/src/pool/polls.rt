@@ -1,11 +1,12 @@
 //! The parts of a poll that take the lock, and what is asked of the outside between them.
 
-ghost use Rattle.std.specs.Prelude.{◌≡◌, ℕ, ◌+◌, ◌<◌, ◌≤◌, false};
+ghost use Rattle.std.specs.Prelude.{◌≡◌, ℕ, ◌+◌, ◌<◌, ◌≤◌, ◌⊎◌, false};
 ghost use Rattle.sqlx_pool_core.specs.Balance.{one_if};
-ghost use Rattle.sqlx_pool_core.specs.PollParts.{IfOpened};
+ghost use Rattle.sqlx_pool_core.specs.PollParts.{IfOpened, IfFailed, IsForGood};
 ghost use Rattle.sqlx_pool.specs.Answers.{IfTried, is_fatal};
 ghost use Rattle.sqlx_pool.specs.Booked.{CountsIf};
-ghost use Rattle.sqlx_pool.specs.Stage.{has_lent, IfLent, wants_test, wants_connect};
+ghost use Rattle.sqlx_pool.specs.Refusals.{IsEnd, IsPollRefusal};
+ghost use Rattle.sqlx_pool.specs.Stage.{has_lent, IfLent, IfEnded, wants_test, wants_connect};
 
 use super::PoolOf;
 use crate::stage::{Stage, after_test, after_try};
@@ -34,6 +35,7 @@ impl<C: Depth + Drop, O: Drop, H: Ledger, L: Loans> PoolOf<C, O, H, L> {
         ensures parts { tally.new.parts ≡ tally.old.parts }
         ensures loans { tally.new.loans + one_if (has_lent stage) ≡ tally.old.loans + one_if (has_lent result) }
         ensures flat { IfLent stage (λ lent. C.levels lent.raw ≡ 0) → IfLent result (λ lent. C.levels lent.raw ≡ 0) }
+        ensures causes { IfEnded stage IsEnd → IfEnded result IsEnd }
         ensures tested { wants_test result ≡ false }
         ensures counts { (X.faults out.old ≤ X.faults out.new) × (X.refusals out.old ≤ X.refusals out.new) }
     {
@@ -67,6 +69,7 @@ impl<C: Depth + Drop, O: Drop, H: Ledger, L: Loans> PoolOf<C, O, H, L> {
         requires { 0 < tally.old.parts }
         ensures tally { CountsIf (has_lent result) tally.old tally.new }
         ensures flat { IfLent result (λ lent. C.levels lent.raw ≡ 0) }
+        ensures causes { IfEnded result IsEnd }
         ensures counts { (X.faults out.old ≤ X.faults out.new) × (X.refusals out.old ≤ X.refusals out.new) }
     {
         let verdict = checks::judge::<C, O, X>(&self.shared.options, idle, moment, out);
@@ -87,6 +90,7 @@ impl<C: Depth + Drop, O: Drop, H: Ledger, L: Loans> PoolOf<C, O, H, L> {
         out: &mut X,
     ) -> Opening<C>
         ensures flat { IfOpened result (λ raw. C.levels raw ≡ 0) }
+        ensures cause { IfFailed result (λ e. IsForGood (X.faults out.old) (X.faults out.new) e) }
         ensures counts { (X.faults out.old ≤ X.faults out.new) × (X.refusals out.old ≤ X.refusals out.new) }
     {
         let Ok(connect) = self.connect_options(rt) else {
@@ -112,6 +116,7 @@ impl<C: Depth + Drop, O: Drop, H: Ledger, L: Loans> PoolOf<C, O, H, L> {
         requires calm { is_fatal tried ≡ false }
         ensures tally { CountsIf (has_lent result) tally.old tally.new }
         ensures flat { IfLent result (λ lent. C.levels lent.raw ≡ 0) }
+        ensures causes { IfEnded result IsEnd }
         ensures tested { wants_test result ≡ false }
         ensures connected { wants_connect result ≡ false }
     {
@@ -137,6 +142,7 @@ impl<C: Depth + Drop, O: Drop, H: Ledger, L: Loans> PoolOf<C, O, H, L> {
         requires { 0 < tally.old.parts }
         ensures tally { CountsIf (has_lent result) tally.old tally.new }
         ensures flat { IfLent result (λ lent. C.levels lent.raw ≡ 0) }
+        ensures causes { IfEnded result (λ e. IsEnd e ⊎ (e ≡ error)) }
         ensures tested { wants_test result ≡ false }
         ensures connected { wants_connect result ≡ false }
     {
@@ -171,6 +177,7 @@ impl<C: Depth + Drop, O: Drop, H: Ledger, L: Loans> PoolOf<C, O, H, L> {
         ensures parts { tally.new.parts ≡ tally.old.parts }
         ensures loans { tally.new.loans + one_if (has_lent stage) ≡ tally.old.loans + one_if (has_lent result) }
         ensures flat { IfLent stage (λ lent. C.levels lent.raw ≡ 0) → IfLent result (λ lent. C.levels lent.raw ≡ 0) }
+        ensures causes { IfEnded stage IsEnd → IfEnded result (IsPollRefusal (X.faults out.old) (X.faults out.new)) }
         ensures tested { wants_test stage ≡ false → wants_test result ≡ false }
         ensures connected { wants_connect result ≡ false }
         ensures counts { (X.faults out.old ≤ X.faults out.new) × (X.refusals out.old ≤ X.refusals out.new) }

@@ -1,0 +1,177 @@
+//! Waiting for a connection: polls of a ticket, between which the thread sleeps until a step may have freed something.
+
+ghost use Rattle.std.specs.Prelude.{◌≡◌, ℕ, ◌+◌, ◌<◌, ◌≤◌, ◌⊎◌, true, IfOk, IfErr, OnOk, OnErr};
+ghost use Rattle.sqlx_text.specs.declared.error.Error.{Error};
+ghost use Rattle.sqlx_pool.specs.Booked.{CountsIf};
+ghost use Rattle.sqlx_pool.specs.Polling.{is_ready, IfReady, IfFailed};
+ghost use Rattle.sqlx_pool.specs.Refusals.{IsEnd, IsPollRefusal};
+ghost use Rattle.sqlx_pool.specs.Stage.{has_lent, IfLent, IfEnded};
+
+use super::AcquiringOf;
+use crate::stage::{Stage, Why};
+use crate::{Clock, Held, Loans, Locked, Polling, PoolConnectionOf, PoolOf, PoolPollOf, Tally};
+use sqlx_pool_core::Outside;
+use sqlx_text::{Depth, Error, Moment};
+use std::alloc::Global;
+use std::sync::ledger::Ledger;
+use std::sync::{Arc, MutexGuard, Wait};
+
+// What is under the lock of a pool's handles.
+type Guard<'a, C, O, H, L> = MutexGuard<'a, Locked<C, Arc<O, Global>, H, L>>;
+
+impl<C: Depth, O, H: Ledger, L: Loans> Locked<C, O, H, L> {
+    // Asks, and begins the first poll.
+    fn ask_and_begin(
+        &mut self,
+        alloc: Global,
+        client: u32,
+        now: Moment,
+        tally: &mut Tally<L>,
+    ) -> Result<(u64, Stage<C, Held<H>>), Error>
+        requires { 0 < tally.old.parts }
+        ensures tally { IfOk result (λ asked. CountsIf (has_lent asked.1) tally.old tally.new) }
+        ensures flat { IfOk result (λ asked. IfLent asked.1 (λ lent. C.levels lent.raw ≡ 0)) }
+        ensures ended { IfOk result (λ asked. IfEnded asked.1 IsEnd) }
+        ensures causes { IfErr result (λ e. (e ≡ Error.PoolClosed) ⊎ ((e ≡ Error.Exhausted) ⊎ (e ≡ Error.OutOfMemory))) }
+        ensures err { OnErr result (tally.new ≡ tally.old) }
+    {
+        match self.ask(alloc, now, client) {
+            Ok(ticket) => Ok((ticket, self.begin(client, ticket, now, tally))),
+            Err(error) => Err(error),
+        }
+    }
+}
+
+impl<C: Depth + Drop, O: Drop, H: Ledger, L: Loans> PoolOf<C, O, H, L> {
+    // Lets the lock go. Where the ticket waits, it sleeps first until a step may have freed something for it: the lock
+    // was held since the step that said so, so no such step is missed.
+    fn sleep_if_waiting<R: Wait>(
+        &self,
+        rt: &R,
+        guard: Guard<'_, C, O, H, L>,
+        begun: &Stage<C, Held<H>>,
+    ) {
+        if let Stage::Pending(Why::Waiting) = begun {
+            drop(self.shared.freed.wait(rt, guard));
+        }
+    }
+
+    // Asks, and begins the first poll; sleeps where the ticket waits.
+    fn ask_or_sleep<R: Wait>(
+        &self,
+        rt: &R,
+        alloc: Global,
+        client: u32,
+        now: Moment,
+        tally: &mut Tally<L>,
+    ) -> Result<(u64, Stage<C, Held<H>>), Error>
+        requires { 0 < tally.old.parts }
+        ensures tally { IfOk result (λ asked. CountsIf (has_lent asked.1) tally.old tally.new) }
+        ensures flat { IfOk result (λ asked. IfLent asked.1 (λ lent. C.levels lent.raw ≡ 0)) }
+        ensures ended { IfOk result (λ asked. IfEnded asked.1 IsEnd) }
+        ensures causes { IfErr result (λ e. (e ≡ Error.PoolClosed) ⊎ ((e ≡ Error.Exhausted) ⊎ (e ≡ Error.OutOfMemory))) }
+        ensures err { OnErr result (tally.new ≡ tally.old) }
+    {
+        let mut guard = self.shared.locked.lock(rt);
+        match guard.ask_and_begin(alloc, client, now, tally) {
+            Ok((ticket, begun)) => {
+                self.sleep_if_waiting(rt, guard, &begun);
+                Ok((ticket, begun))
+            }
+            Err(error) => Err(error),
+        }
+    }
+
+    /// Asks for a connection and waits for it. While its ticket waits in the line, the thread sleeps until a step frees
+    /// something or closes the pool; then, and in backoff, it reads the clock again and polls. It may never return: a
+    /// ticket whose time is over ends only when it is polled.
+    pub fn acquire_wait<R: Wait, K: Clock, X: Outside<C, O>>(
+        &self,
+        rt: &R,
+        alloc: Global,
+        clock: &mut K,
+        client: u32,
+        out: &mut X,
+        tally: &mut Tally<L>,
+    ) -> Result<PoolConnectionOf<C, O, H, L>, Error>
+        requires { 0 < tally.old.parts }
+        ensures lent { OnOk result (CountsIf true tally.old tally.new) }
+        ensures refused { OnErr result (tally.new ≡ tally.old) }
+        ensures flat { IfOk result (λ conn. C.levels conn.raw ≡ 0) }
+        ensures causes { IfErr result (IsPollRefusal (X.faults out.old) (X.faults out.new)) }
+        ensures counts { (X.faults out.old ≤ X.faults out.new) × (X.refusals out.old ≤ X.refusals out.new) }
+    {
+        let Ok(pool) = self.try_clone() else {
+            return Err(Error::OutOfMemory);
+        };
+        let now = clock.now();
+        match self.ask_or_sleep(rt, alloc, client, now, tally) {
+            Ok((ticket, begun)) => {
+                let asked = AcquiringOf::new(pool, client, ticket);
+                match asked.go_on::<R, X>(rt, alloc, now, begun, out, tally) {
+                    Polling::Ready(conn) => Ok(conn),
+                    Polling::Failed(error) => Err(error),
+                    Polling::Pending(asked, _) => {
+                        asked.wait::<R, K, X>(rt, alloc, clock, out, tally)
+                    }
+                }
+            }
+            Err(error) => {
+                drop(pool);
+                Err(error)
+            }
+        }
+    }
+}
+
+impl<C: Depth + Drop, O: Drop, H: Ledger, L: Loans> AcquiringOf<C, O, H, L> {
+    // Polls until the ticket ends.
+    #[tactic(auto, using(crate::proofs::RefusalLemmas::refusal_sooner))]
+    fn wait<R: Wait, K: Clock, X: Outside<C, O>>(
+        self,
+        rt: &R,
+        alloc: Global,
+        clock: &mut K,
+        out: &mut X,
+        tally: &mut Tally<L>,
+    ) -> Result<PoolConnectionOf<C, O, H, L>, Error>
+        requires { 0 < tally.old.parts }
+        ensures lent { OnOk result (CountsIf true tally.old tally.new) }
+        ensures refused { OnErr result (tally.new ≡ tally.old) }
+        ensures flat { IfOk result (λ conn. C.levels conn.raw ≡ 0) }
+        ensures causes { IfErr result (IsPollRefusal (X.faults out.old) (X.faults out.new)) }
+        ensures counts { (X.faults out.old ≤ X.faults out.new) × (X.refusals out.old ≤ X.refusals out.new) }
+    {
+        let mut asked = self;
+        for _round in rt.forever() {
+            match asked.poll_or_sleep::<R, K, X>(rt, alloc, clock, out, tally) {
+                Polling::Ready(conn) => return Ok(conn),
+                Polling::Failed(error) => return Err(error),
+                Polling::Pending(again, _) => asked = again,
+            }
+        }
+        unreachable!()
+    }
+
+    // Polls, and sleeps where the ticket waits.
+    fn poll_or_sleep<R: Wait, K: Clock, X: Outside<C, O>>(
+        self,
+        rt: &R,
+        alloc: Global,
+        clock: &mut K,
+        out: &mut X,
+        tally: &mut Tally<L>,
+    ) -> PoolPollOf<C, O, H, L>
+        requires { 0 < tally.old.parts }
+        ensures tally { CountsIf (is_ready result) tally.old tally.new }
+        ensures flat { IfReady result (λ conn. C.levels conn.raw ≡ 0) }
+        ensures causes { IfFailed result (IsPollRefusal (X.faults out.old) (X.faults out.new)) }
+        ensures counts { (X.faults out.old ≤ X.faults out.new) × (X.refusals out.old ≤ X.refusals out.new) }
+    {
+        let now = clock.now();
+        let mut guard = self.pool.shared.locked.lock(rt);
+        let begun = guard.begin(self.client, self.ticket, now, tally);
+        self.pool.sleep_if_waiting(rt, guard, &begun);
+        self.go_on::<R, X>(rt, alloc, now, begun, out, tally)
+    }
+}
