@@ -9,7 +9,7 @@ ghost use Rattle.sqlx_log.specs.EventTable.{size_at};
 ghost use Rattle.sqlx_pool_core.specs.Logs.{moment_of};
 ghost use Rattle.sqlx_pool_core.specs.Core.{waiting, gone, free, size};
 ghost use Rattle.sqlx_pool_core.specs.Balance.{marks_due, IsBounded};
-ghost use Rattle.sqlx_pool_core.specs.Sound.{IsSound};
+ghost use Rattle.sqlx_pool_core.specs.Sound.{IsNumbered};
 ghost use Rattle.sqlx_pool_core.specs.StandsFor.{StandsFor};
 
 mod ask;
@@ -102,9 +102,10 @@ impl<C> PoolCore<C> {
 
     /// What holds of every pool: it has at most its maximum of connections, its numbers rise and have a bound, and each
     /// connection is at one place at most. It does nothing.
+    #[tactic(auto, using(crate::proofs::Soundness::numbered))]
     pub fn bounds(&self)
         ensures bounded { IsBounded self.now }
-        ensures sound { IsSound self.now }
+        ensures numbered { IsNumbered self.now }
     {
         self.pool.sound();
     }
