@@ -77,7 +77,7 @@ module _ (core : Core Link) (store : Store) (lent : List (Lent Link)) (past : Hi
         idle_links = All-passing (λ (i : Idle Link). IsRestingLink (linked_after past) i.lent.id i.lent.raw) (λ (i : Idle Link). IsRestingLink (linked_after (leaves l.id ∷ past)) i.lent.id i.lent.raw) (rests l.id)
             (λ i other is. record { is = is.is ∙ sym (other_link past l.id i.lent.id (turn l.id i.lent.id other)); rests = is.rests }) core.idle restless s.idle_links;
         unopened = λ d h. any_link (λ (k : bracket.Link). k ≡ new_link) past l.id d refl (λ other. s.unopened d h);
-        core_without_loan = λ d none. any_link (λ (k : bracket.Link). k.depth ≡ 0) past l.id d refl (λ other. s.unlent d (unlent_still d found one other none));
+        unlent = λ d none. any_link (λ (k : bracket.Link). k.depth ≡ 0) past l.id d refl (λ other. s.unlent d (unlent_still d found one other none));
         open_links = let out = count-out (is_lent l.id) is_lent_in_level lent l found one in let all = s.open_links in omega (arith, all, out, level_counts l);
       }
 
@@ -101,6 +101,6 @@ module _ (core : Core Link) (store : Store) (lent : List (Lent Link)) (past : Hi
         idle_links = All-filter_if (λ (j : Idle Link). IsRestingLink (linked_after past) j.lent.id j.lent.raw) (λ (j : Idle Link). IsRestingLink (linked_after (leaves c ∷ past)) j.lent.id j.lent.raw) (λ (j : Idle Link). not (rests c j))
             (λ j other is. record { is = is.is ∙ sym (other_link past c j.lent.id (turn c j.lent.id other)); rests = is.rests }) core.idle s.idle_links;
         unopened = λ d h. any_link (λ (k : bracket.Link). k ≡ new_link) past c d refl (λ other. s.unopened d h);
-        core_without_loan = λ d none'. any_link (λ (k : bracket.Link). k.depth ≡ 0) past c d refl (λ other. s.unlent d none');
+        unlent = λ d none'. any_link (λ (k : bracket.Link). k.depth ≡ 0) past c d refl (λ other. s.unlent d none');
         open_links = let all = s.open_links in let flat = at_rest found in omega (arith, all, flat);
       }

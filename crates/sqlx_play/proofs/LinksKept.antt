@@ -44,7 +44,7 @@ module _ (core : Core Link) (store : Store) (lent : List (Lent Link)) (past : Hi
         lent_links = All-filter (λ (x : Lent Link). not (is_lent l.id x)) (λ (x : Lent Link). IsLinkOf (linked_after past) x.id x.raw) lent s.lent_links;
         idle_links = All-push (λ (j : Idle Link). IsRestingLink (linked_after past) j.lent.id j.lent.raw) core.idle i s.idle_links (record { is = is_linked found; rests = flat });
         unopened = s.unopened;
-        core_without_loan = λ d none. kept_unlent d found one flat (d == l.id) refl none;
+        unlent = λ d none. kept_unlent d found one flat (d == l.id) refl none;
         open_links = let out = count-out (is_lent l.id) is_lent_in_level lent l found one in let all = s.open_links in let mark = level_counts l in omega (arith, all, out, mark, flat);
       }
 
@@ -61,6 +61,6 @@ module _ (core : Core Link) (store : Store) (lent : List (Lent Link)) (past : Hi
         lent_links = s.lent_links;
         idle_links = All-push (λ (j : Idle Link). IsRestingLink (linked_after past) j.lent.id j.lent.raw) core.idle i s.idle_links (record { is = sym (s.unopened core.next_conn (omega arith)); rests = refl });
         unopened = λ d h. s.unopened d (omega (arith, h));
-        core_without_loan = s.unlent;
+        unlent = s.unlent;
         open_links = s.open_links;
       }
