@@ -11,7 +11,7 @@ use Rattle.sqlx_pool_core.specs.Edits.{without_idle}
 use Rattle.sqlx_pool_core.specs.MaintenanceSteps.{close_marks, close_answer, closed_from, closed_idle}
 use Rattle.sqlx_pool_core.specs.Makes.{Makes}
 use Rattle.sqlx_log.specs.Marks.{idle_of, is_open}
-use Rattle.sqlx_pool_core.specs.Sound.{IsSound, rests, holds}
+use Rattle.sqlx_pool_core.specs.Sound.{IsNumbered, rests, holds}
 use Rattle.sqlx_log.proofs.ListFacts.{same_number, count_by-cons, filter_none, length_map}
 use Rattle.mem_store.specs.Store.{Store, Link}
 use Rattle.sqlx_brackets.specs.Changes.{leaves, History}
@@ -72,7 +72,7 @@ counted_by false idle = sym (length_map resting idle)
 
 -- ---- the stage
 
-module _ (old new : Stage) (items : List (Idle Link)) (pairs : Pairs) (moment : Moment) (count : ℕ) (s : StageStands old pairs) (sound : IsSound old.core)
+module _ (old new : Stage) (items : List (Idle Link)) (pairs : Pairs) (moment : Moment) (count : ℕ) (s : StageStands old pairs) (sound : IsNumbered old.core)
     (answer : items ≡ close_answer old.core.shut old.core.idle) (becomes : new.core ≡ closed_from old.core.shut old.core)
     (makes : Makes old.core.options.max_connections (marks_of old.pool pairs) (close_marks old.core.shut items) new.core)
     (store : new.out.store ≡ closed_all items old.out.store) (lent : new.lent ≡ old.lent) (pool : new.pool ≡ old.pool) (counted : count ≡ length items) where

@@ -8,7 +8,7 @@ use Rattle.sqlx_pool_core.specs.declared.steps.Lent.{Lent}
 use Rattle.sqlx_pool_core.specs.declared.steps.Given.{Given}
 use Rattle.sqlx_pool_core.specs.declared.steps.Given.TheVariants as given
 use Rattle.sqlx_pool_core.specs.Core.{Core, loan_of, is_held_by}
-use Rattle.sqlx_pool_core.specs.Sound.{IsSound, rests}
+use Rattle.sqlx_pool_core.specs.Sound.{IsNumbered, rests}
 use Rattle.sqlx_log.specs.Marks.{owner_of, opened_at}
 use Rattle.sqlx_log.specs.EventTable.{is_old_since, closes}
 use Rattle.sqlx_pool_core.specs.Limits.{limits_of}
@@ -108,7 +108,7 @@ module _ (pool : PoolLine) (core : Core Link) (marks : List Mark) (past : Histor
       (λ i. not (sym s.shut i || is_old_since (limits i) (born i) m) && (not pool.after_release || accepts answers.after_release) && (sym (depth-told l found links) i == 0) && answers.ping)
       ∙ turned (closes (limits_of core.options) core.shut h.created.0 m) (not pool.after_release || accepts answers.after_release) (l.raw.depth == 0) answers.ping
 
-  pub word-told : (sound : IsSound core) (k m : ℕ) (answers : GiveAnswers) (h : OwnedConn) (l : Lent Link) (rests : Bool) → IsSetUp pool core.options → StandsFor core marks → loan_of k c core.held ≡ Some h
+  pub word-told : (sound : IsNumbered core) (k m : ℕ) (answers : GiveAnswers) (h : OwnedConn) (l : Lent Link) (rests : Bool) → IsSetUp pool core.options → StandsFor core marks → loan_of k c core.held ≡ Some h
       → find (is_lent c) lents ≡ Some l → LinksStand core store lents past → (lets_rest pool answers l.raw.depth && not (closes (limits_of core.options) core.shut h.created.0 m)) ≡ rests
       → cond rests word.Kept word.Closed ≡ returned pool answers m k c marks past
   word-told sound k m answers h l rests set_up s loaned found links told =
@@ -116,7 +116,7 @@ module _ (pool : PoolLine) (core : Core Link) (marks : List Mark) (past : Histor
       let keeps : is_kept pool answers marks past m c ≡ rests = kept-told k m answers h l set_up s loaned found links ∙ told in
       sym ((λ i. cond (mine i) (cond (keeps i) word.Kept word.Closed) word.NotHeld))
 
-  pub stranger-told : (sound : IsSound core) (k m : ℕ) (answers : GiveAnswers) → StandsFor core marks → loan_of k c core.held ≡ None → word.NotHeld ≡ returned pool answers m k c marks past
+  pub stranger-told : (sound : IsNumbered core) (k m : ℕ) (answers : GiveAnswers) → StandsFor core marks → loan_of k c core.held ≡ None → word.NotHeld ≡ returned pool answers m k c marks past
   stranger-told sound k m answers s none =
       let mine : owns k (owner_of c marks) ≡ false = owner-stands core sound marks k c s ∙ ap is_some none in
       sym (ap (λ (b : Bool). cond b (cond (is_kept pool answers marks past m c) word.Kept word.Closed) word.NotHeld) mine)

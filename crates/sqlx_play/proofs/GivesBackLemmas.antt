@@ -8,7 +8,7 @@ use Rattle.sqlx_pool_core.specs.declared.steps.Lent.{Lent}
 use Rattle.sqlx_pool_core.specs.declared.steps.Given.{Given}
 use Rattle.sqlx_pool_core.specs.declared.steps.Given.TheVariants as given
 use Rattle.sqlx_pool_core.specs.Core.{Core, loan_of}
-use Rattle.sqlx_pool_core.specs.Sound.{IsSound}
+use Rattle.sqlx_pool_core.specs.Sound.{IsNumbered}
 use Rattle.sqlx_pool_core.specs.Edits.{at_moment, core_without_loan, kept}
 use Rattle.sqlx_log.specs.EventTable.{closes}
 use Rattle.sqlx_pool_core.specs.Limits.{limits_of}
@@ -38,7 +38,7 @@ use Rattle.sqlx_play.proofs.GiveAnswers.{Loaned, told-kept, told-closed, told-no
 
 -- ---- no link
 
-module _ (old : Stage) (answers : GiveAnswers) (m k c : ℕ) (sound : IsSound old.core) where
+module _ (old : Stage) (answers : GiveAnswers) (m k c : ℕ) (sound : IsNumbered old.core) where
   -- what changed nothing
   pub stays : (core : Core Link) (new : Stage) (marks : List Mark) (past : History) → IsAt old marks past → new.pool ≡ old.pool → new.core ≡ old.core → new.out.store ≡ old.out.store → new.lent.items ≡ old.lent.items
       → StageAdvance old new marks [] past

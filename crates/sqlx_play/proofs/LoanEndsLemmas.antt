@@ -5,7 +5,7 @@ use Rattle.sqlx_log.specs.declared.mark.Mark.{Mark}
 use Rattle.sqlx_pool_core.specs.declared.ticket.OwnedConn.{OwnedConn}
 use Rattle.sqlx_pool_core.specs.declared.steps.Lent.{Lent}
 use Rattle.sqlx_pool_core.specs.Core.{Core, loan_of}
-use Rattle.sqlx_pool_core.specs.Sound.{IsSound, rests}
+use Rattle.sqlx_pool_core.specs.Sound.{IsNumbered, rests}
 use Rattle.sqlx_pool_core.specs.Edits.{core_without_loan, without_loan}
 use Rattle.sqlx_pool_core.specs.ReturnSteps.{leaked}
 use Rattle.sqlx_pool_core.specs.MaintenanceSteps.{without_first}
@@ -60,7 +60,7 @@ some_loan : (o : Option OwnedConn) → is_some o ≡ true → Loan o
 some_loan None e = absurd (cc)
 some_loan (Some h) e = record { it = h; is = refl }
 
-module _ (old : Stage) (x : Mark) (k c : ℕ) (sound : IsSound old.core) where
+module _ (old : Stage) (x : Mark) (k c : ℕ) (sound : IsNumbered old.core) where
   -- it is another's
   pub departs-not : (core : Core Link) → false ≡ is_some (loan_of k c old.core.held) → core ≡ old.core → LoanEnds old (record old { core = core }) x k c false
   departs-not core none same marks past at = (

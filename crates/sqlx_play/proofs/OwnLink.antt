@@ -6,7 +6,7 @@ use Rattle.sqlx_pool_core.specs.declared.steps.Lent.{Lent}
 use Rattle.sqlx_pool_core.specs.declared.steps.Idle.{Idle}
 use Rattle.sqlx_pool_core.specs.declared.ticket.OwnedConn.{OwnedConn}
 use Rattle.sqlx_pool_core.specs.Core.{Core}
-use Rattle.sqlx_pool_core.specs.Sound.{IsSound, holds, rests}
+use Rattle.sqlx_pool_core.specs.Sound.{IsNumbered, holds, rests}
 use Rattle.sqlx_log.proofs.ListFacts.{count_by-map, number_comm}
 use Rattle.mem_store.specs.Store.{Store, Link, others_in_level, level_mark}
 use Rattle.sqlx_brackets.specs.Changes.{Change, History, connection_of}
@@ -24,7 +24,7 @@ above_zero : (n : ℕ) → is_zero n ≡ false → 1 ≤ n
 above_zero zero e = absurd (cc)
 above_zero (suc n) e = omega arith
 
-module _ (core : Core Link) (sound : IsSound core) (store : Store) (ys : List (Lent Link)) (l : Lent Link) (zs : List (Lent Link)) (past : History) (s : LinksStand core store (ys ++ l ∷ zs) past) where
+module _ (core : Core Link) (sound : IsNumbered core) (store : Store) (ys : List (Lent Link)) (l : Lent Link) (zs : List (Lent Link)) (past : History) (s : LinksStand core store (ys ++ l ∷ zs) past) where
   -- ---- the other links are of other connections and have other numbers
 
   ids_counted : count_by (λ (x : Lent Link). l.id == x.id) (ys ++ l ∷ zs) ≡ count_by (holds l.id) core.held

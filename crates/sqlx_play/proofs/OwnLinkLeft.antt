@@ -6,7 +6,7 @@ use Rattle.std.proofs.lemmas.List.Elements.{All-weaker}
 use Rattle.sqlx_pool_core.specs.declared.steps.Lent.{Lent}
 use Rattle.sqlx_pool_core.specs.declared.steps.Idle.{Idle}
 use Rattle.sqlx_pool_core.specs.Core.{Core}
-use Rattle.sqlx_pool_core.specs.Sound.{IsSound}
+use Rattle.sqlx_pool_core.specs.Sound.{IsNumbered}
 use Rattle.sqlx_log.proofs.ListFacts.{number_comm}
 use Rattle.mem_store.specs.declared.answer.Answer.{Answer}
 use Rattle.mem_store.specs.Store.{Store, Link, Session, remarked, level_mark}
@@ -24,7 +24,7 @@ one_if b = cond b 1 0
 
 -- ---- the links
 
-module _ (core : Core Link) (sound : IsSound core) (store : Store) (ys : List (Lent Link)) (l : Lent Link) (zs : List (Lent Link)) (past new : History) (s : LinksStand core store (ys ++ l ∷ zs) past)
+module _ (core : Core Link) (sound : IsNumbered core) (store : Store) (ys : List (Lent Link)) (l : Lent Link) (zs : List (Lent Link)) (past new : History) (s : LinksStand core store (ys ++ l ∷ zs) past)
     (answer : Answer) (t : Session) (accepted : AreAccepted new) (left : Leaves past new l.id (record { store = store; link = l.raw; answer = answer }) t) where
   abbrev own : Lent Link
   own = record l { raw = t.link }

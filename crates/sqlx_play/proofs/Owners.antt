@@ -4,7 +4,7 @@ use Rattle.sqlx_log.specs.declared.mark.Mark.{Mark}
 use Rattle.sqlx_pool_core.specs.declared.ticket.OwnedConn.{OwnedConn}
 use Rattle.sqlx_log.specs.Marks.{Loan, is_loan_of, owner_of}
 use Rattle.sqlx_pool_core.specs.Core.{Core, loan, loan_of}
-use Rattle.sqlx_pool_core.specs.Sound.{IsSound, holds}
+use Rattle.sqlx_pool_core.specs.Sound.{IsNumbered, holds}
 use Rattle.sqlx_pool_core.specs.StandsFor.{StandsFor}
 use Rattle.sqlx_log.proofs.ListFacts.{count_by-cons}
 use Rattle.sqlx_rules.specs.ScriptLevels.{owns}
@@ -30,7 +30,7 @@ owner_is k c (h ∷ held) one = by (λ z. owner_is k c held z) (c == h.conn) (k 
     by rest true false e z = e ∙ sym (ap is_some (none_held k c held (omega (arith, z))))
     by rest false b e z = rest (omega (arith, z))
 
-module _ {C : Type 0} (core : Core C) (sound : IsSound core) where
+module _ {C : Type 0} (core : Core C) (sound : IsNumbered core) where
   pub held-once : (c : ℕ) → count_by (holds c) core.held ≤ 1
   held-once c = let once = sound.once c in omega (arith, once)
 

@@ -14,7 +14,7 @@ use Rattle.sqlx_pool_core.specs.declared.steps.Start.TheVariants as start
 use Rattle.sqlx_pool_core.specs.declared.steps.AfterTest.TheVariants as tested
 use Rattle.sqlx_pool_core.specs.Core.{Core, resting, ticket_of}
 use Rattle.sqlx_pool_core.specs.Edits.{core_without_ticket, lent_to, core_without_first, with_ticket, to_test, to_next, tested_so_far, to_connect, at_moment}
-use Rattle.sqlx_pool_core.specs.Sound.{IsSound, holds, rests}
+use Rattle.sqlx_pool_core.specs.Sound.{IsNumbered, holds, rests}
 use Rattle.sqlx_pool_core.specs.PollSteps.{started, after_test}
 use Rattle.sqlx_pool_core.specs.Makes.{Makes}
 use Rattle.sqlx_pool_core.proofs.Known.{KeepsOwner, ticket-changed, ticket-number, gone-changed}
@@ -69,7 +69,7 @@ pub record Testing (stage : Stage) (pairs : Pairs) (k t m : ℕ) (answers : Poll
 
 module _ (stage : Stage) (pairs : Pairs) (k t m : ℕ) (answers : PollAnswers) (s : StageStands stage pairs) where
   -- the first test
-  pub first-test : IsSound stage.core → 1 ≤ stage.pool.tries → (i : Idle Link) (a : AtTest stage.core k t i)
+  pub first-test : IsNumbered stage.core → 1 ≤ stage.pool.tries → (i : Idle Link) (a : AtTest stage.core k t i)
       → Testing stage pairs k t m answers (started t m (start.Test i) stage.core) stage.out.store i a.rest (mark.Left t ∷ []) stage.pool.tries answers.tests
   first-test sound many i a = record {
     x = a.x;
@@ -147,7 +147,7 @@ module _ (stage : Stage) (pairs : Pairs) (k t m : ℕ) (answers : PollAnswers) (
             absurd (omega (arith, one, cons, more))
 
     -- the ticket connects, where the poll may test no further connection
-    pub refused-connects : (rest : List (Idle Link)) (n j : ℕ) → Testing stage pairs k t m answers core store i rest front n j → IsSound stage.core
+    pub refused-connects : (rest : List (Idle Link)) (n j : ℕ) → Testing stage pairs k t m answers core store i rest front n j → IsNumbered stage.core
         → refusing (take n (map resting (i ∷ rest))) ≡ two
         → (mid : Stage) → mid.core ≡ record core { tickets = with_ticket t to_connect core.tickets }
         → mid.out.store ≡ closed_at i.lent.raw.depth store → mid.lent.items ≡ stage.lent.items → mid.pool ≡ stage.pool

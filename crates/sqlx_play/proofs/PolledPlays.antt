@@ -30,7 +30,7 @@ use Rattle.sqlx_pool_core.specs.Makes.{Makes}
 use Rattle.sqlx_log.specs.Marks.{tickets_of}
 use Rattle.sqlx_log.specs.Counts.{asked_in}
 use Rattle.sqlx_pool_core.specs.CoreTurn.{core_turn}
-use Rattle.sqlx_pool_core.specs.Sound.{IsSound}
+use Rattle.sqlx_pool_core.specs.Sound.{IsNumbered}
 use Rattle.sqlx_pool_core.specs.StandsFor.{StandsFor}
 use Rattle.sqlx_pool_core.specs.PollSteps.{phase_for, start_answer, start_marks, started, wait_of, lent_since, may_test_next, after_refusal, test_marks, after_test}
 use Rattle.sqlx_pool_core.specs.PollSteps as steps
@@ -110,7 +110,7 @@ next-marks : (front : List Mark) (c d : ℕ) (later : List Mark)
     → (front ++ mark.Taken c ∷ []) ++ (mark.Closed c ∷ mark.Taken d ∷ later) ≡ ((front ++ mark.Taken c ∷ mark.Closed c ∷ []) ++ mark.Taken d ∷ []) ++ later
 next-marks front c d later = closed-marks front c (mark.Taken d ∷ later) ∙ sym (append_assoc (front ++ mark.Taken c ∷ mark.Closed c ∷ []) (mark.Taken d ∷ []) later)
 
-module _ (stage new : Stage) (moment : Moment) (k t : ℕ) (answers : PollAnswers) (out : ScriptOutside) (few : stage.core.next_conn ≤ 2 ^ 63) (sound : IsSound stage.core)
+module _ (stage new : Stage) (moment : Moment) (k t : ℕ) (answers : PollAnswers) (out : ScriptOutside) (few : stage.core.next_conn ≤ 2 ^ 63) (sound : IsNumbered stage.core)
     (letters : poll_letters out ≡ answers) (none : out.opens ≡ 0) (left : out.left_open ≡ None) (store : out.store ≡ stage.out.store) (pool : new.pool ≡ stage.pool)
     (got : Polled Link) (r : Reply) (replied : reply_of got ≡ Some r) (owned : new.lent.items ≡ owned_after got stage.lent.items) (pairs : Pairs) (s : StageStands stage pairs) where
   marks : List Mark
@@ -352,7 +352,7 @@ module _ (stage new : Stage) (moment : Moment) (k t : ℕ) (answers : PollAnswer
   by start.Connect own (v ∷ vs) later g makes = absurd g
 
 -- a poll of the pool over the outside of a script plays the event
-pub polled-plays : (stage new : Stage) (moment : Moment) (k t m : ℕ) (answers : PollAnswers) (out : ScriptOutside) → stage.core.next_conn ≤ 2 ^ 63 → IsSound stage.core
+pub polled-plays : (stage new : Stage) (moment : Moment) (k t m : ℕ) (answers : PollAnswers) (out : ScriptOutside) → stage.core.next_conn ≤ 2 ^ 63 → IsNumbered stage.core
     → poll_letters out ≡ answers → out.opens ≡ 0 → out.left_open ≡ None → out.store ≡ stage.out.store → new.pool ≡ stage.pool → m ≡ moment.0
     → (got : Polled Link) → Polls {O = Unit {0}} Does depth_of tt k t m stage.core new.core out new.out got
     → (r : Result Reply PlayError) → IfOk r (λ x. reply_of got ≡ Some x) → OnOk r (new.lent.items ≡ owned_after got stage.lent.items)

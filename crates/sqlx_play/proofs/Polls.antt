@@ -9,7 +9,7 @@ use Rattle.sqlx_pool_core.specs.declared.steps.Start.TheVariants as start
 use Rattle.sqlx_log.specs.Marks.{IdleEntry, idle_of}
 use Rattle.sqlx_pool_core.specs.Core.{Core, resting, ticket_of}
 use Rattle.sqlx_pool_core.specs.Edits.{with_ticket, without_ticket, to_try, to_back_off}
-use Rattle.sqlx_pool_core.specs.Sound.{IsSound}
+use Rattle.sqlx_pool_core.specs.Sound.{IsNumbered}
 use Rattle.sqlx_pool_core.specs.PollSteps.{started, wait_of}
 use Rattle.sqlx_pool_core.specs.Makes.{Makes}
 use Rattle.sqlx_pool_core.proofs.Known.{KeepsNumber, ticket-number, ticket-is_only, ticket-below, gone-changed}
@@ -77,7 +77,7 @@ keeps-connect k t n moment core (backs_off until) = record { options = refl; pla
 keeps-connect k t n moment core broken = record { options = refl; places = refl; next_ticket = refl }
 keeps-connect k t n moment core refused = record { options = refl; places = refl; next_ticket = refl }
 
-module _ (stage mid new : Stage) (pairs : Pairs) (moment : Moment) (k t : ℕ) (answers : PollAnswers) (made : List Mark) (s : StageStands stage pairs) (sound : IsSound stage.core)
+module _ (stage mid new : Stage) (pairs : Pairs) (moment : Moment) (k t : ℕ) (answers : PollAnswers) (made : List Mark) (s : StageStands stage pairs) (sound : IsNumbered stage.core)
     (c : Connecting stage mid pairs k t moment.0 made) where
   gone : without_ticket t mid.core.tickets ≡ without_ticket t stage.core.tickets
   gone = ap (without_ticket t) c.tickets ∙ gone-changed t c.change stage.core.tickets c.keeps
@@ -158,13 +158,13 @@ module _ (stage mid new : Stage) (pairs : Pairs) (moment : Moment) (k t : ℕ) (
 -- ---- a connect at once
 
 -- the number of the next connection is that of no idle one
-pub unused : (core : Core Link) → IsSound core → is_among core.next_conn (map resting core.idle) ≡ false
+pub unused : (core : Core Link) → IsNumbered core → is_among core.next_conn (map resting core.idle) ≡ false
 unused core sound =
     let none = sound.opened core.next_conn (omega arith) in
     list_any-map resting (λ (r : IdleEntry). core.next_conn == r.conn) core.idle ∙ none_any (λ (i : Idle Link). core.next_conn == i.lent.id) core.idle (omega (arith, none))
 
 -- no connection is idle, or the next try is due
-pub at-connect-connects : (stage mid : Stage) (pairs : Pairs) (k t m : ℕ) → StageStands stage pairs → IsSound stage.core → (a : AtConnect stage.core k t m)
+pub at-connect-connects : (stage mid : Stage) (pairs : Pairs) (k t m : ℕ) → StageStands stage pairs → IsNumbered stage.core → (a : AtConnect stage.core k t m)
     → mid.core ≡ started t m start.Connect stage.core → mid.out.store ≡ stage.out.store → mid.lent.items ≡ stage.lent.items → mid.pool ≡ stage.pool
     → Connecting stage mid pairs k t m (leaving t (waits k t (marks_of stage.pool pairs)))
 at-connect-connects stage mid pairs k t m s sound a becomes store owned pool =

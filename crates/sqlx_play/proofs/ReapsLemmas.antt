@@ -12,7 +12,7 @@ use Rattle.sqlx_log.specs.EventTable.{is_idle_too_long, is_old_since, is_beyond_
 use Rattle.sqlx_pool_core.specs.MaintenanceSteps.{is_reaped_at, reap_answer}
 use Rattle.sqlx_pool_core.specs.Makes.{Makes}
 use Rattle.sqlx_log.specs.Marks.{idle_of, next_conn}
-use Rattle.sqlx_pool_core.specs.Sound.{IsSound, rests}
+use Rattle.sqlx_pool_core.specs.Sound.{IsNumbered, rests}
 use Rattle.sqlx_log.specs.Born.{IsBorn}
 use Rattle.sqlx_pool_core.specs.StandsFor.{StandsFor}
 use Rattle.sqlx_pool_core.proofs.Known.{idle-found}
@@ -97,7 +97,7 @@ reaps-none old core m m' same answer becomes =
     subst (λ (c : Core Link). ReapsOne old (record old { core = c }) m false) (sym becomes)
     (record { beyond = refl; comes = λ marks past at. comes-nowhere old marks past at; next = refl; fewer = omega arith }, none)
 
-pub reaps-one : (old : Stage) (core : Core Link) (out : ScriptOutside) (i : Idle Link) (m m' : ℕ) → m' ≡ m → IsSound old.core → Some i ≡ reap_answer (core_passes old.core) old.core.options m' old.core.idle
+pub reaps-one : (old : Stage) (core : Core Link) (out : ScriptOutside) (i : Idle Link) (m m' : ℕ) → m' ≡ m → IsNumbered old.core → Some i ≡ reap_answer (core_passes old.core) old.core.options m' old.core.idle
     → core ≡ at_moment m' (record old.core { idle = without_idle i.lent.id old.core.idle })
     → ((marks : List Mark) → StandsFor old.core marks → Makes old.core.options.max_connections marks (Reaped i.lent.id ∷ []) core)
     → out.store ≡ closed_in i.lent.raw.depth old.out.store

@@ -6,7 +6,7 @@ use Rattle.sqlx_pool_core.specs.declared.ticket.OwnedConn.{OwnedConn}
 use Rattle.sqlx_pool_core.specs.declared.steps.Lent.{Lent}
 use Rattle.sqlx_pool_core.specs.Core.{Core, loan_of}
 use Rattle.sqlx_log.specs.Marks.{owner_of}
-use Rattle.sqlx_pool_core.specs.Sound.{IsSound, holds}
+use Rattle.sqlx_pool_core.specs.Sound.{IsNumbered, holds}
 use Rattle.sqlx_pool_core.specs.StandsFor.{StandsFor}
 use Rattle.sqlx_pool_core.specs.Makes.{Makes}
 use Rattle.sqlx_pool_core.proofs.Fair.{makes-nothing}
@@ -140,7 +140,7 @@ unowned core lent k c owned (inr none) = by (is_some (loan_of k c core.held)) re
         let zero' = none-counted (is_lent c) lent none in
         omega (arith, some, same, zero'))
 
-runs_not : (old new : Stage) (pairs : Pairs) (event : Event) (st : Statement) (r : Reply) → StageStands old pairs → IsSound old.core → statement_of event.step ≡ Some (said st)
+runs_not : (old new : Stage) (pairs : Pairs) (event : Event) (st : Statement) (r : Reply) → StageStands old pairs → IsNumbered old.core → statement_of event.step ≡ Some (said st)
     → new.core ≡ old.core → new.pool ≡ old.pool → RunsNot old new st r → (r ≡ answer old.pool pairs event) × StageStands new (pairs ++ (event, r) ∷ [])
 runs_not old new pairs event st r s sound e core pool ran =
     let past : History = history_of old.pool pairs in
@@ -164,7 +164,7 @@ work_is past c store link st rows side = λ i. record {
   answer = answer_for st.answer;
 }
 
-runs_on : (old new : Stage) (pairs : Pairs) (event : Event) (st : Statement) (r : Reply) → StageStands old pairs → IsSound old.core → statement_of event.step ≡ Some (said st) → IsMet st.act st.answer
+runs_on : (old new : Stage) (pairs : Pairs) (event : Event) (st : Statement) (r : Reply) → StageStands old pairs → IsNumbered old.core → statement_of event.step ≡ Some (said st) → IsMet st.act st.answer
     → new.core ≡ old.core → new.pool ≡ old.pool → RunsOnLink old new st r → (r ≡ answer old.pool pairs event) × StageStands new (pairs ++ (event, r) ∷ [])
 runs_on old new pairs event st r s sound e met core pool ran =
     let past : History = history_of old.pool pairs in
@@ -194,13 +194,13 @@ runs_on old new pairs event st r s sound e met core pool ran =
     )
 
 -- a statement is played
-pub statement-plays : (old new : Stage) (event : Event) (st : Statement) (r : Reply) → IsSound old.core → statement_of event.step ≡ Some (said st) → IsMet st.act st.answer
+pub statement-plays : (old new : Stage) (event : Event) (st : Statement) (r : Reply) → IsNumbered old.core → statement_of event.step ≡ Some (said st) → IsMet st.act st.answer
     → new.core ≡ old.core → new.pool ≡ old.pool → Runs old new st r → PlaysEvent old new event r
 statement-plays old new event st r sound e met core pool (inl ran) pairs s = runs_on old new pairs event st r s sound e met core pool ran
 statement-plays old new event st r sound e met core pool (inr ran) pairs s = runs_not old new pairs event st r s sound e core pool ran
 
 -- the same of an outcome that may be want of memory
-pub statement-plays_if : {E : Type 0} (old new : Stage) (event : Event) (st : Statement) (o : Result Reply E) → IsSound old.core → statement_of event.step ≡ Some (said st) → IsMet st.act st.answer
+pub statement-plays_if : {E : Type 0} (old new : Stage) (event : Event) (st : Statement) (o : Result Reply E) → IsNumbered old.core → statement_of event.step ≡ Some (said st) → IsMet st.act st.answer
     → new.core ≡ old.core → new.pool ≡ old.pool → IfOk o (Runs old new st) → IfOk o (PlaysEvent old new event)
 statement-plays_if old new event st (Ok r) sound e met core pool ran = statement-plays old new event st r sound e met core pool ran
 statement-plays_if old new event st (Err x) sound e met core pool ran = tt

@@ -17,7 +17,7 @@ use Rattle.sqlx_pool_core.specs.StandsFor.{StandsIn, StandsFor}
 use Rattle.sqlx_pool_core.specs.Makes.{MakesWhere, MakesIn, Makes}
 use Rattle.sqlx_pool_core.specs.Logs.{Logs}
 use Rattle.sqlx_pool_core.specs.Balance.{Balance, ask_room}
-use Rattle.sqlx_pool_core.specs.CoreTurn.{before, is_first_in_line, core_turn, InOwnLine, PastOwnLine}
+use Rattle.sqlx_pool_core.specs.CoreTurn.{before, core_turn, InOwnLine, PastOwnLine}
 use Rattle.sqlx_pool_core.specs.PollTable.{phase_turn}
 use Rattle.sqlx_pool_core.specs.PollSteps.{phase_for, start_answer}
 use Rattle.sqlx_pool_core.specs.MaintenanceSteps.{closed_from}
@@ -74,9 +74,6 @@ alone-makes old new max marks made s a d w m = record {
   fair = record { safe = m.safe; order = m.order w };
 }
 
-pub permit-first : {C : Type 0} (core : Core C) (t : ℕ) (q : Bool) → q ≡ is_first_in_line t core → q ≡ true → 0 < free core
-permit-first core t q e is = let lt : before t core.tickets < free core = ltb-true (before t core.tickets) (free core) (sym e ∙ is) in omega (arith, lt)
-
 -- ---- by the member inside
 
 module _ {C : Type 0} (core now new : Core C) (view : core ≡ now) where
@@ -97,11 +94,11 @@ module _ {C : Type 0} (core now new : Core C) (view : core ≡ now) where
   close-alone made done e a sound left d = logs-where (λ marks. ⊤) made done e (alone-closed core new done a left d sound) d (λ marks s. tt)
 
   -- the start of a poll
-  pub start-alone : (t : ℕ) (q : Bool) (made : Core C → List Mark) (done : List Mark) → done ≡ made core → IsAlone core → IsSound new → Stays core new → q ≡ is_first_in_line t core → Draws core new done
+  pub start-alone : (t : ℕ) (q : Bool) (made : Core C → List Mark) (done : List Mark) → done ≡ made core → IsAlone core → IsSound new → Stays core new → (q ≡ true → before t core.tickets < free core) → Draws core new done
       → ((marks : List Mark) → StandsIn core marks → MakesWhere (InOwnLine core marks t q) core.options.max_connections marks done new) → Logs now (made now) new
   start-alone t q made done e a sound s first d =
       logs-where (λ marks. InOwnLine core marks t q) made done e (alone-step core new done a s d sound) d
-      (λ marks s. record { all = a.all; conns = s.conn_number; first = λ is. ltb-true (before t core.tickets) (free core) (sym first ∙ is) })
+      (λ marks s. record { all = a.all; conns = s.conn_number; first = first })
 
   -- a loan past the line
   pub try-alone : (passes : Bool) (made : Core C → List Mark) (done : List Mark) → done ≡ made core → IsAlone core → IsSound new → Stays core new → passes ≡ may_pass core.closed (waiting core.tickets) (free core)

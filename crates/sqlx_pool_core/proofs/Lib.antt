@@ -2,6 +2,8 @@ pub mod ByNumber
 pub mod Found
 pub mod Counting
 pub mod Soundness
+pub mod WaitingNumbers
+pub mod KeptLine
 pub mod TurnCases
 pub mod Stands
 pub mod EachMark
@@ -15,6 +17,7 @@ pub mod MaintenanceMakes
 pub mod ReturnMakes
 pub mod Answered
 pub mod PollCode
+pub mod LineSteps
 pub mod FinishCode
 pub mod AskSoundness
 pub mod GiveCode

@@ -7,7 +7,7 @@ use Rattle.sqlx_pool_core.specs.declared.ticket.Phase.{Phase}
 use Rattle.sqlx_pool_core.specs.declared.ticket.Phase.TheVariants as phase
 use Rattle.sqlx_pool_core.specs.declared.steps.Idle.{Idle}
 use Rattle.sqlx_pool_core.specs.Core.{Core, has_gone, size, taken, is_out, free}
-use Rattle.sqlx_pool_core.specs.Sound.{IsSound, IsRising, number_of, tests, holds, rests, places_of, is_tested}
+use Rattle.sqlx_pool_core.specs.Sound.{IsSound, IsNumbered, IsRising, number_of, tests, holds, rests, places_of, is_tested}
 use Rattle.sqlx_pool_core.specs.Edits.{with_ticket, without_ticket, is_another_ticket, core_without_ticket, at_moment, to_test, to_next, to_try, to_try_at, to_connect}
 use Rattle.sqlx_pool_core.specs.Place.{IsAmong}
 use Rattle.sqlx_log.proofs.Counting.{one, count-filter, count-push, count-cons}
@@ -187,3 +187,7 @@ sound-to_next core t x i rest m s is first out =
     let was : one has_gone x ≡ 1 = ap (λ (b : Bool). cond b 1 0) out in
     sound-changed core t x (to_next i) rest m s is refl (omega (arith, n, w, was)) (omega (arith, p, was))
     (λ c. let e = ap (count_by (rests c)) first ∙ count-cons (rests c) i rest in omega (arith, e))
+
+-- what callers know of the numbers
+pub numbered : {C : Type 0} {core : Core C} → IsSound core → IsNumbered core
+numbered sound = record { rising = sound.rising; once = sound.once; opened = sound.opened; tries = sound.tries }

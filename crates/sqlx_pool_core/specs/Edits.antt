@@ -104,6 +104,10 @@ asked k deadline core = record core {
   next_ticket = core.next_ticket + 1;
 }
 
+-- the ask of this ticket never was: its number comes next again, and the last moment is the one before
+abbrev pub unasked : {C : Type 0} → ℕ → ℕ → Core C → Core C
+unasked t m core = record core { tickets = without_ticket t core.tickets; next_ticket = t; last = m }
+
 -- a connection was opened and numbered
 abbrev pub opened : {C : Type 0} → Core C → Core C
 opened core = record core { next_conn = core.next_conn + 1 }

@@ -6,6 +6,7 @@ pub mod StandsFor
 pub mod Makes
 pub mod Numbers
 pub mod Alone
+pub mod KeptLine
 pub mod PollTable
 pub mod CoreTurn
 pub mod Outside

@@ -53,6 +53,13 @@ pub record IsSound {C : Type 0} (core : Core C) : Type 0 where
   pub once : (c : ℕ) → places_of c core.tickets core.held core.idle ≤ 1
   pub opened : (c : ℕ) → core.next_conn ≤ c → places_of c core.tickets core.held core.idle ≡ 0
 
+-- What callers know of its numbers: those of the tickets rise, each connection has one below the next and is at one place at most, and a poll tests one connection at least.
+pub record IsNumbered {C : Type 0} (core : Core C) : Type 0 where
+  pub rising : IsRising 1 (map number_of core.tickets) core.next_ticket
+  pub once : (c : ℕ) → places_of c core.tickets core.held core.idle ≤ 1
+  pub opened : (c : ℕ) → core.next_conn ≤ c → places_of c core.tickets core.held core.idle ≡ 0
+  pub tries : 1 ≤ core.options.idle_tries
+
 -- how many idle connections there must be room for: none in a closed pool, which keeps none
 abbrev pub room_to_rest : Bool → ℕ → ℕ
 room_to_rest shut max = if shut then 0 else max

@@ -9,7 +9,7 @@ ghost use Rattle.sqlx_log.specs.EventTable.{size_at};
 ghost use Rattle.sqlx_pool_core.specs.Logs.{moment_of};
 ghost use Rattle.sqlx_pool_core.specs.Core.{waiting, gone, free, size};
 ghost use Rattle.sqlx_pool_core.specs.Balance.{marks_due, IsBounded};
-ghost use Rattle.sqlx_pool_core.specs.Sound.{IsSound};
+ghost use Rattle.sqlx_pool_core.specs.Sound.{IsNumbered};
 ghost use Rattle.sqlx_pool_core.specs.StandsFor.{StandsFor};
 
 mod ask;
@@ -19,12 +19,14 @@ mod finish;
 mod give;
 mod give_with;
 mod keep_minimum;
+mod line;
 mod maintenance;
 mod poll;
 mod poll_with;
 
 use crate::member::Member;
 use crate::options::PoolOptions;
+use sqlx_line::Line;
 use sqlx_text::{Moment, OutOfMemory};
 use std::alloc::Global;
 use std::marker::Model;
@@ -34,17 +36,19 @@ use std::marker::Model;
 #[derive(Drop)]
 pub struct PoolCore<C> {
     pool: Member<C>,
+    // Who waits, once more: as many are entitled as the lesser of them and the free permits.
+    line: Line,
 }
 
 impl<C> Model for PoolCore<C> {
     ghost use Rattle.sqlx_pool_core.specs.Core.{Core};
-    ghost use Rattle.sqlx_pool_core.specs.Alone.{IsAlone};
+    ghost use Rattle.sqlx_pool_core.specs.KeptLine.{IsLone};
 
     ghost Value = { Core C };
 
     ghost view = { λ s. s.pool };
 
-    ghost invariant = { λ s. IsAlone s.pool };
+    ghost invariant = { λ s. IsLone s.pool s.line };
 }
 
 impl<C> PoolCore<C> {
@@ -58,7 +62,8 @@ impl<C> PoolCore<C> {
         ensures last { IfOk result (λ core. core.last ≡ 0) }
     {
         let pool = Member::new(alloc, options, options.get_max_connections())?;
-        Ok(PoolCore { pool })
+        let line = Line::new(alloc);
+        Ok(PoolCore { pool, line })
     }
 
     /// How the pool was set up.
@@ -102,9 +107,10 @@ impl<C> PoolCore<C> {
 
     /// What holds of every pool: it has at most its maximum of connections, its numbers rise and have a bound, and each
     /// connection is at one place at most. It does nothing.
+    #[tactic(auto, using(crate::proofs::Soundness::numbered))]
     pub fn bounds(&self)
         ensures bounded { IsBounded self.now }
-        ensures sound { IsSound self.now }
+        ensures numbered { IsNumbered self.now }
     {
         self.pool.sound();
     }

@@ -1,6 +1,6 @@
 //! The events that are statements on a connection of the client's.
 ghost use Rattle.std.specs.Prelude.{◌≡◌, ◌+◌, ◌^◌, ◌≤◌, true, false, Some, IfOk, IfErr, IfSome, IfNone};
-ghost use Rattle.sqlx_pool_core.specs.Sound.{IsSound};
+ghost use Rattle.sqlx_pool_core.specs.Sound.{IsNumbered};
 ghost use Rattle.sqlx_rules.specs.ScriptLevels as levels;
 ghost use Rattle.sqlx_play.specs.LinkActs.{IsMet};
 ghost use Rattle.sqlx_play.specs.StatementRuns.{said, acts, done_by, Runs};
@@ -90,7 +90,7 @@ fn run(stage: &mut Stage, alloc: Global, statement: Statement) -> Result<Reply, 
     ensures ok { IfOk result (Runs stage.old stage.new statement) }
     ensures core { stage.new.core ≡ stage.old.core }
     ensures pool { stage.new.pool ≡ stage.old.pool }
-    ensures sound { IsSound stage.old.core }
+    ensures numbered { IsNumbered stage.old.core }
     ensures memory { IfErr result (λ e. e ≡ PlayError.OutOfMemory) }
 {
     let id = u64::from(statement.connection);

@@ -12,7 +12,7 @@ ghost use Rattle.sqlx_pool_core.specs.Numbers.{Draws, Stays};
 ghost use Rattle.sqlx_pool_core.specs.Balance.{Balance, ask_room, try_room};
 ghost use Rattle.sqlx_pool_core.specs.CoreTurn.{PastOwnLine};
 ghost use Rattle.sqlx_pool_core.specs.PollSteps.{phase_for, asked_marks, may_cancel, cancel_marks, cancelled, try_lent, try_marks, after_try};
-ghost use Rattle.sqlx_pool_core.specs.Edits.{at_moment, asked};
+ghost use Rattle.sqlx_pool_core.specs.Edits.{at_moment, asked, unasked};
 
 use super::{Member, NUMBERS};
 use crate::steps::Lent;
@@ -70,6 +70,16 @@ impl<C> Member<C> {
         self.next_ticket = number + 1;
         self.last = moment;
         Ok(number)
+    }
+
+    /// Takes back the last ask, which was of this ticket: the pool is as before it.
+    pub fn unask(&mut self, ticket: u64, last: Moment)
+        requires { IsSound (unasked ticket last.0 self.old) }
+        ensures { self.new ≡ unasked ticket last.0 self.old }
+    {
+        self.tickets.end(ticket);
+        self.next_ticket = ticket;
+        self.last = last;
     }
 
     /// Ends a ticket that waits or is in backoff.

@@ -15,11 +15,15 @@ ghost use Rattle.sqlx_pool_core.specs.StandsFor.{StandsFor};
 ghost use Rattle.sqlx_log.specs.EventTable.{may_pass};
 ghost use Rattle.sqlx_pool_core.specs.PollSteps.{phase_for, asked_marks, may_cancel, cancel_marks, cancelled, try_lent, try_marks, after_try};
 ghost use Rattle.sqlx_pool_core.specs.Edits.{at_moment, asked};
+ghost use Rattle.sqlx_pool_core.specs.KeptLine.{Looks};
 
-use super::PoolCore;
+use super::{PoolCore, line};
 use crate::steps::Lent;
+use sqlx_line::Steps;
 use sqlx_text::{Error, Moment};
 use std::alloc::Global;
+use std::marker::Brand;
+use std::sync::ledger::{Blank, Ledger};
 
 impl<C> PoolCore<C> {
     /// Asks for a connection: the client gets a ticket, which stands in the line until it is served, ends or is
@@ -36,10 +40,65 @@ impl<C> PoolCore<C> {
         ensures becomes { OnOk result (self.new ≡ at_moment (moment_of self.old now) (asked client (moment_of self.old now + self.old.options.acquire_timeout) self.old)) }
         ensures err { OnErr result (self.new ≡ self.old) }
     {
-        let moment = self.pool.moment(now);
-        let asked = self.pool.ask(client, moment);
+        self.uncounted_ask::<Brand>(now, client, Blank::new(1))
+    }
+
+    // The same with a counter of its own.
+    fn uncounted_ask<L: Ledger>(
+        &mut self,
+        now: Moment,
+        client: u32,
+        blank: Blank,
+    ) -> Result<u64, Error>
+        requires named { blank.name ≡ L.name }
+        requires whole { blank.parts ≡ L.parts }
+        requires some { 0 < blank.parts }
+        ensures marks { (marks : List Mark) → StandsFor self.old marks → IfOk result (λ ticket. (is_open marks ≡ true) × (ticket ≡ next_ticket marks)) }
+        ensures numbered { IfOk result (λ ticket. ticket ≡ self.old.next_ticket) }
+        ensures closed { (result ≡ Err Error.PoolClosed) ↔ (self.old.shut ≡ true) }
+        ensures exhausted { (result ≡ Err Error.Exhausted) ↔ ((self.old.shut ≡ false) × (2 ^ 63 < self.old.next_ticket)) }
+        ensures causes { IfErr result (λ e. (e ≡ Error.PoolClosed) ⊎ ((e ≡ Error.Exhausted) ⊎ (e ≡ Error.OutOfMemory))) }
+        ensures makes { (marks : List Mark) → StandsFor self.old marks → IfOk result (λ ticket. Makes self.old.options.max_connections marks (asked_marks self.old client (moment_of self.old now) ticket) self.new) }
+        ensures balance { IfOk result (λ ticket. Balance self.old self.new (asked_marks self.old client (moment_of self.old now) ticket) 0 (ask_room self.old.options.idle_tries)) }
+        ensures becomes { OnOk result (self.new ≡ at_moment (moment_of self.old now) (asked client (moment_of self.old now + self.old.options.acquire_timeout) self.old)) }
+        ensures err { OnErr result (self.new ≡ self.old) }
+    {
+        let mut steps = Steps::<L>::new(blank);
+        self.ask_counted(now, client, &mut steps)
+    }
+
+    /// The same; each look at the line is a step.
+    pub fn ask_counted<L: Ledger>(
+        &mut self,
+        now: Moment,
+        client: u32,
+        steps: &mut Steps<L>,
+    ) -> Result<u64, Error>
+        ensures marks { (marks : List Mark) → StandsFor self.old marks → IfOk result (λ ticket. (is_open marks ≡ true) × (ticket ≡ next_ticket marks)) }
+        ensures numbered { IfOk result (λ ticket. ticket ≡ self.old.next_ticket) }
+        ensures closed { (result ≡ Err Error.PoolClosed) ↔ (self.old.shut ≡ true) }
+        ensures exhausted { (result ≡ Err Error.Exhausted) ↔ ((self.old.shut ≡ false) × (2 ^ 63 < self.old.next_ticket)) }
+        ensures causes { IfErr result (λ e. (e ≡ Error.PoolClosed) ⊎ ((e ≡ Error.Exhausted) ⊎ (e ≡ Error.OutOfMemory))) }
+        ensures makes { (marks : List Mark) → StandsFor self.old marks → IfOk result (λ ticket. Makes self.old.options.max_connections marks (asked_marks self.old client (moment_of self.old now) ticket) self.new) }
+        ensures balance { IfOk result (λ ticket. Balance self.old self.new (asked_marks self.old client (moment_of self.old now) ticket) 0 (ask_room self.old.options.idle_tries)) }
+        ensures becomes { OnOk result (self.new ≡ at_moment (moment_of self.old now) (asked client (moment_of self.old now + self.old.options.acquire_timeout) self.old)) }
+        ensures err { OnErr result (self.new ≡ self.old) }
+        ensures cost { Looks self.old self.new steps.old steps.new }
+    {
         self.pool.sound();
-        asked
+        let last = self.pool.moment(Moment(0));
+        let moment = self.pool.moment(now);
+        let ticket = match self.pool.ask(client, moment) {
+            Ok(ticket) => ticket,
+            Err(error) => return Err(error),
+        };
+        self.pool.sound();
+        if !line::join(&mut self.line, ticket, steps) {
+            self.pool.unask(ticket, last);
+            return Err(Error::OutOfMemory);
+        }
+        line::serve(&self.pool, &mut self.line, steps);
+        Ok(ticket)
     }
 
     /// Ends a ticket that waits or is in backoff, and frees what it held. Otherwise nothing changes.
@@ -51,8 +110,43 @@ impl<C> PoolCore<C> {
         ensures balance { Balance self.old self.new (cancel_marks ticket result) 0 0 }
         ensures becomes { self.new ≡ cancelled ticket result self.old }
     {
+        self.uncounted_cancel::<Brand>(client, ticket, Blank::new(1))
+    }
+
+    // The same with a counter of its own.
+    fn uncounted_cancel<L: Ledger>(&mut self, client: u32, ticket: u64, blank: Blank) -> bool
+        requires named { blank.name ≡ L.name }
+        requires whole { blank.parts ≡ L.parts }
+        requires some { 0 < blank.parts }
+        ensures marks { (marks : List Mark) → StandsFor self.old marks → result ≡ (is_some (asked_in client ticket (tickets_of marks)) && not (is_busy (phase_for client ticket self.old.tickets))) }
+        ensures answer { result ≡ may_cancel (phase_for client ticket self.old.tickets) }
+        ensures makes { Logs self.old (cancel_marks ticket result) self.new }
+        ensures balance { Balance self.old self.new (cancel_marks ticket result) 0 0 }
+        ensures becomes { self.new ≡ cancelled ticket result self.old }
+    {
+        let mut steps = Steps::<L>::new(blank);
+        self.cancel_counted(client, ticket, &mut steps)
+    }
+
+    /// The same; each look at the line is a step.
+    pub fn cancel_counted<L: Ledger>(
+        &mut self,
+        client: u32,
+        ticket: u64,
+        steps: &mut Steps<L>,
+    ) -> bool
+        ensures marks { (marks : List Mark) → StandsFor self.old marks → result ≡ (is_some (asked_in client ticket (tickets_of marks)) && not (is_busy (phase_for client ticket self.old.tickets))) }
+        ensures answer { result ≡ may_cancel (phase_for client ticket self.old.tickets) }
+        ensures makes { Logs self.old (cancel_marks ticket result) self.new }
+        ensures balance { Balance self.old self.new (cancel_marks ticket result) 0 0 }
+        ensures becomes { self.new ≡ cancelled ticket result self.old }
+        ensures cost { Looks self.old self.new steps.old steps.new }
+    {
+        self.pool.sound();
         let done = self.pool.cancel(client, ticket);
         self.pool.sound();
+        line::take_out(&mut self.line, ticket, done, steps);
+        line::serve(&self.pool, &mut self.line, steps);
         done
     }
 

@@ -1,6 +1,6 @@
 //! Who owns a connection, how many connections and tickets there are, and what a step would find.
 
-ghost use Rattle.std.specs.Prelude.{◌≡◌, List, length, is_some};
+ghost use Rattle.std.specs.Prelude.{◌≡◌, ◌<◌, ◌≤◌, List, length, is_some};
 ghost use Rattle.sqlx_log.specs.declared.mark.Mark.{Mark};
 ghost use Rattle.sqlx_log.specs.Marks.{owner_of, tickets_of, loans_of, leaked_of, next_ticket, next_conn};
 ghost use Rattle.sqlx_log.specs.Counts.{asked_in};
@@ -9,6 +9,7 @@ ghost use Rattle.sqlx_log.specs.Answers.{owns, lent_past_at, waits_if};
 ghost use Rattle.sqlx_pool_core.specs.StandsFor.{StandsFor};
 ghost use Rattle.sqlx_pool_core.specs.Core.{loan_of, waiting, free};
 ghost use Rattle.sqlx_pool_core.specs.PollSteps.{phase_for, is_in_line, try_lent};
+ghost use Rattle.sqlx_pool_core.specs.KeptLine.{let_in};
 
 use super::PoolCore;
 use crate::steps::Numbers;
@@ -53,6 +54,15 @@ impl<C> PoolCore<C> {
         ensures own { result ≡ is_in_line (phase_for client ticket self.now.tickets) }
     {
         self.pool.waits(client, ticket)
+    }
+
+    /// How often the edge of the entitled tickets moved: at most once for each ticket that was asked.
+    pub fn edge_moves(&self) -> u64
+        ensures marks { (marks : List Mark) → StandsFor self.now marks → result < next_ticket marks }
+        ensures asked { result < self.now.next_ticket }
+        ensures let_in { result ≤ let_in self.now }
+    {
+        self.line.moves()
     }
 
     /// The numbers that the next ticket and the next connection get.

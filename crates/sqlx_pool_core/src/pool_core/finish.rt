@@ -1,6 +1,6 @@
 //! The steps that end a poll: what a test and what a connect came to.
 
-ghost use Rattle.std.specs.Prelude.{◌≡◌, ℕ, max, List, Option};
+ghost use Rattle.std.specs.Prelude.{◌≡◌, ◌<◌, ℕ, max, List, Option};
 ghost use Rattle.std.specs.List.{list_any};
 ghost use Rattle.sqlx_log.specs.declared.mark.Mark.{Mark};
 ghost use Rattle.sqlx_log.specs.Marks.{is_shut, next_conn};
@@ -9,10 +9,14 @@ ghost use Rattle.sqlx_pool_core.specs.Core.{ticket_of};
 ghost use Rattle.sqlx_pool_core.specs.Balance.{Balance};
 ghost use Rattle.sqlx_pool_core.specs.StandsFor.{StandsFor};
 ghost use Rattle.sqlx_pool_core.specs.PollSteps.{judged, verdict_answer, test_marks, after_test, connect_answer, connect_marks, after_connect};
+ghost use Rattle.sqlx_pool_core.specs.KeptLine.{Looks};
 
-use super::PoolCore;
+use super::{PoolCore, line};
 use crate::steps::{AfterConnect, AfterTest, Tried, Verdict};
+use sqlx_line::Steps;
 use sqlx_text::Moment;
+use std::marker::Brand;
+use std::sync::ledger::{Blank, Ledger};
 
 impl<C> PoolCore<C> {
     /// Tells what the test of an idle connection came to. Behind a refused one the first idle connection is tested,
@@ -25,8 +29,49 @@ impl<C> PoolCore<C> {
         ensures balance { Balance self.old self.new (test_marks client ticket (judged verdict) result) 0 0 }
         ensures becomes { self.new ≡ after_test client ticket result self.old }
     {
+        self.uncounted_finish_test::<Brand>(client, ticket, verdict, Blank::new(1))
+    }
+
+    // The same with a counter of its own.
+    fn uncounted_finish_test<L: Ledger>(
+        &mut self,
+        client: u32,
+        ticket: u64,
+        verdict: Verdict<C>,
+        blank: Blank,
+    ) -> AfterTest<C>
+        requires named { blank.name ≡ L.name }
+        requires whole { blank.parts ≡ L.parts }
+        requires some { 0 < blank.parts }
+        ensures marks { (marks : List Mark) → StandsFor self.old marks → result ≡ verdict_answer client ticket (list_any is_shut marks) self.old verdict }
+        ensures answer { result ≡ verdict_answer client ticket self.old.shut self.old verdict }
+        ensures makes { Logs self.old (test_marks client ticket (judged verdict) result) self.new }
+        ensures balance { Balance self.old self.new (test_marks client ticket (judged verdict) result) 0 0 }
+        ensures becomes { self.new ≡ after_test client ticket result self.old }
+    {
+        let mut steps = Steps::<L>::new(blank);
+        self.finish_test_counted(client, ticket, verdict, &mut steps)
+    }
+
+    /// The same; each look at the line is a step.
+    pub fn finish_test_counted<L: Ledger>(
+        &mut self,
+        client: u32,
+        ticket: u64,
+        verdict: Verdict<C>,
+        steps: &mut Steps<L>,
+    ) -> AfterTest<C>
+        ensures marks { (marks : List Mark) → StandsFor self.old marks → result ≡ verdict_answer client ticket (list_any is_shut marks) self.old verdict }
+        ensures answer { result ≡ verdict_answer client ticket self.old.shut self.old verdict }
+        ensures makes { Logs self.old (test_marks client ticket (judged verdict) result) self.new }
+        ensures balance { Balance self.old self.new (test_marks client ticket (judged verdict) result) 0 0 }
+        ensures becomes { self.new ≡ after_test client ticket result self.old }
+        ensures cost { Looks self.old self.new steps.old steps.new }
+    {
+        self.pool.sound();
         let after = self.pool.finish_test(client, ticket, verdict);
         self.pool.sound();
+        line::serve(&self.pool, &mut self.line, steps);
         after
     }
 
@@ -44,10 +89,52 @@ impl<C> PoolCore<C> {
         ensures balance { Balance self.old self.new (connect_marks client ticket (moment_of self.old now) result) 0 0 }
         ensures becomes { self.new ≡ after_connect client ticket (moment_of self.old now) result self.old }
     {
+        self.uncounted_finish_connect::<Brand>(client, ticket, now, tried, Blank::new(1))
+    }
+
+    // The same with a counter of its own.
+    fn uncounted_finish_connect<L: Ledger>(
+        &mut self,
+        client: u32,
+        ticket: u64,
+        now: Moment,
+        tried: Tried<C>,
+        blank: Blank,
+    ) -> AfterConnect<C>
+        requires named { blank.name ≡ L.name }
+        requires whole { blank.parts ≡ L.parts }
+        requires some { 0 < blank.parts }
+        ensures marks { (marks : List Mark) → StandsFor self.old marks → result ≡ connect_answer (ticket_of client ticket self.old.tickets) (list_any is_shut marks) (next_conn marks) (moment_of self.old now) tried }
+        ensures answer { result ≡ connect_answer (ticket_of client ticket self.old.tickets) self.old.shut self.old.next_conn (moment_of self.old now) tried }
+        ensures makes { Logs self.old (connect_marks client ticket (moment_of self.old now) result) self.new }
+        ensures balance { Balance self.old self.new (connect_marks client ticket (moment_of self.old now) result) 0 0 }
+        ensures becomes { self.new ≡ after_connect client ticket (moment_of self.old now) result self.old }
+    {
+        let mut steps = Steps::<L>::new(blank);
+        self.finish_connect_counted(client, ticket, now, tried, &mut steps)
+    }
+
+    /// The same; each look at the line is a step.
+    pub fn finish_connect_counted<L: Ledger>(
+        &mut self,
+        client: u32,
+        ticket: u64,
+        now: Moment,
+        tried: Tried<C>,
+        steps: &mut Steps<L>,
+    ) -> AfterConnect<C>
+        ensures marks { (marks : List Mark) → StandsFor self.old marks → result ≡ connect_answer (ticket_of client ticket self.old.tickets) (list_any is_shut marks) (next_conn marks) (moment_of self.old now) tried }
+        ensures answer { result ≡ connect_answer (ticket_of client ticket self.old.tickets) self.old.shut self.old.next_conn (moment_of self.old now) tried }
+        ensures makes { Logs self.old (connect_marks client ticket (moment_of self.old now) result) self.new }
+        ensures balance { Balance self.old self.new (connect_marks client ticket (moment_of self.old now) result) 0 0 }
+        ensures becomes { self.new ≡ after_connect client ticket (moment_of self.old now) result self.old }
+        ensures cost { Looks self.old self.new steps.old steps.new }
+    {
         let moment = self.pool.moment(now);
         self.pool.sound();
         let after = self.pool.finish_connect(client, ticket, moment, tried);
         self.pool.sound();
+        line::serve(&self.pool, &mut self.line, steps);
         after
     }
 }

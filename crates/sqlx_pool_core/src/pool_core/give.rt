@@ -1,6 +1,6 @@
 //! The steps that end a loan: giving a connection back, ending, detaching and leaking it.
 
-ghost use Rattle.std.specs.Prelude.{◌≡◌, ℕ, max, List, Option, is_some};
+ghost use Rattle.std.specs.Prelude.{◌≡◌, ◌<◌, ℕ, max, List, Option, is_some};
 ghost use Rattle.std.specs.List.{list_any};
 ghost use Rattle.sqlx_log.specs.declared.mark.Mark.{Mark};
 ghost use Rattle.sqlx_log.specs.Marks.{owner_of, is_shut};
@@ -14,11 +14,15 @@ ghost use Rattle.sqlx_pool_core.specs.Balance.{Balance, given_back, one_if};
 ghost use Rattle.sqlx_pool_core.specs.Sound.{IsSound};
 ghost use Rattle.sqlx_pool_core.specs.StandsFor.{StandsFor};
 ghost use Rattle.sqlx_pool_core.specs.ReturnSteps.{give_answer, give_marks, core_after_give, end_marks, detach_marks, leak_marks, released, leaked};
+ghost use Rattle.sqlx_pool_core.specs.KeptLine.{Looks};
 
-use super::PoolCore;
+use super::{PoolCore, line};
 use crate::steps::{Given, Lent};
 use crate::ticket::OwnedConn;
+use sqlx_line::Steps;
 use sqlx_text::Moment;
+use std::marker::Brand;
+use std::sync::ledger::{Blank, Ledger};
 
 impl<C> PoolCore<C> {
     /// Whether a connection of this opening would be closed rather than kept: the pool is closed, or the
@@ -50,10 +54,52 @@ impl<C> PoolCore<C> {
         ensures balance { Balance self.old self.new (give_marks lent.id (moment_of self.old now) result) (given_back result) 0 }
         ensures becomes { self.new ≡ core_after_give (loan_of client lent.id self.old.held) lent (moment_of self.old now) result self.old }
     {
+        self.uncounted_give::<Brand>(client, lent, now, accepted, Blank::new(1))
+    }
+
+    // The same with a counter of its own.
+    fn uncounted_give<L: Ledger>(
+        &mut self,
+        client: u32,
+        lent: Lent<C>,
+        now: Moment,
+        accepted: bool,
+        blank: Blank,
+    ) -> Given<C>
+        requires named { blank.name ≡ L.name }
+        requires whole { blank.parts ≡ L.parts }
+        requires some { 0 < blank.parts }
+        ensures marks { (marks : List Mark) → StandsFor self.old marks → IsGivenAt self.old.options marks client lent.id (moment_of self.old now) accepted result }
+        ensures answer { result ≡ give_answer self.old.options self.old.shut (moment_of self.old now) accepted (loan_of client lent.id self.old.held) lent }
+        ensures makes { Logs self.old (give_marks lent.id (moment_of self.old now) result) self.new }
+        ensures balance { Balance self.old self.new (give_marks lent.id (moment_of self.old now) result) (given_back result) 0 }
+        ensures becomes { self.new ≡ core_after_give (loan_of client lent.id self.old.held) lent (moment_of self.old now) result self.old }
+    {
+        let mut steps = Steps::<L>::new(blank);
+        self.give_counted(client, lent, now, accepted, &mut steps)
+    }
+
+    /// The same; each look at the line is a step.
+    pub fn give_counted<L: Ledger>(
+        &mut self,
+        client: u32,
+        lent: Lent<C>,
+        now: Moment,
+        accepted: bool,
+        steps: &mut Steps<L>,
+    ) -> Given<C>
+        ensures marks { (marks : List Mark) → StandsFor self.old marks → IsGivenAt self.old.options marks client lent.id (moment_of self.old now) accepted result }
+        ensures answer { result ≡ give_answer self.old.options self.old.shut (moment_of self.old now) accepted (loan_of client lent.id self.old.held) lent }
+        ensures makes { Logs self.old (give_marks lent.id (moment_of self.old now) result) self.new }
+        ensures balance { Balance self.old self.new (give_marks lent.id (moment_of self.old now) result) (given_back result) 0 }
+        ensures becomes { self.new ≡ core_after_give (loan_of client lent.id self.old.held) lent (moment_of self.old now) result self.old }
+        ensures cost { Looks self.old self.new steps.old steps.new }
+    {
         let moment = self.pool.moment(now);
         self.pool.sound();
         let given = self.pool.give(client, lent, moment, accepted);
         self.pool.sound();
+        line::serve(&self.pool, &mut self.line, steps);
         given
     }
 
@@ -66,9 +112,37 @@ impl<C> PoolCore<C> {
         ensures balance { Balance self.old self.new (end_marks id result) (one_if result) 0 }
         ensures becomes { self.new ≡ released id result self.old }
     {
+        self.uncounted_end::<Brand>(client, id, Blank::new(1))
+    }
+
+    // The same with a counter of its own.
+    fn uncounted_end<L: Ledger>(&mut self, client: u32, id: u64, blank: Blank) -> bool
+        requires named { blank.name ≡ L.name }
+        requires whole { blank.parts ≡ L.parts }
+        requires some { 0 < blank.parts }
+        ensures marks { (marks : List Mark) → StandsFor self.old marks → result ≡ owns client (owner_of id marks) }
+        ensures answer { result ≡ is_some (loan_of client id self.old.held) }
+        ensures makes { Logs self.old (end_marks id result) self.new }
+        ensures balance { Balance self.old self.new (end_marks id result) (one_if result) 0 }
+        ensures becomes { self.new ≡ released id result self.old }
+    {
+        let mut steps = Steps::<L>::new(blank);
+        self.end_counted(client, id, &mut steps)
+    }
+
+    /// The same; each look at the line is a step.
+    pub fn end_counted<L: Ledger>(&mut self, client: u32, id: u64, steps: &mut Steps<L>) -> bool
+        ensures marks { (marks : List Mark) → StandsFor self.old marks → result ≡ owns client (owner_of id marks) }
+        ensures answer { result ≡ is_some (loan_of client id self.old.held) }
+        ensures makes { Logs self.old (end_marks id result) self.new }
+        ensures balance { Balance self.old self.new (end_marks id result) (one_if result) 0 }
+        ensures becomes { self.new ≡ released id result self.old }
+        ensures cost { Looks self.old self.new steps.old steps.new }
+    {
         self.pool.sound();
         let held = self.pool.end(client, id);
         self.pool.sound();
+        line::serve(&self.pool, &mut self.line, steps);
         held
     }
 
@@ -81,9 +155,37 @@ impl<C> PoolCore<C> {
         ensures balance { Balance self.old self.new (detach_marks id result) (one_if result) 0 }
         ensures becomes { self.new ≡ released id result self.old }
     {
+        self.uncounted_detach::<Brand>(client, id, Blank::new(1))
+    }
+
+    // The same with a counter of its own.
+    fn uncounted_detach<L: Ledger>(&mut self, client: u32, id: u64, blank: Blank) -> bool
+        requires named { blank.name ≡ L.name }
+        requires whole { blank.parts ≡ L.parts }
+        requires some { 0 < blank.parts }
+        ensures marks { (marks : List Mark) → StandsFor self.old marks → result ≡ owns client (owner_of id marks) }
+        ensures answer { result ≡ is_some (loan_of client id self.old.held) }
+        ensures makes { Logs self.old (detach_marks id result) self.new }
+        ensures balance { Balance self.old self.new (detach_marks id result) (one_if result) 0 }
+        ensures becomes { self.new ≡ released id result self.old }
+    {
+        let mut steps = Steps::<L>::new(blank);
+        self.detach_counted(client, id, &mut steps)
+    }
+
+    /// The same; each look at the line is a step.
+    pub fn detach_counted<L: Ledger>(&mut self, client: u32, id: u64, steps: &mut Steps<L>) -> bool
+        ensures marks { (marks : List Mark) → StandsFor self.old marks → result ≡ owns client (owner_of id marks) }
+        ensures answer { result ≡ is_some (loan_of client id self.old.held) }
+        ensures makes { Logs self.old (detach_marks id result) self.new }
+        ensures balance { Balance self.old self.new (detach_marks id result) (one_if result) 0 }
+        ensures becomes { self.new ≡ released id result self.old }
+        ensures cost { Looks self.old self.new steps.old steps.new }
+    {
         self.pool.sound();
         let held = self.pool.detach(client, id);
         self.pool.sound();
+        line::serve(&self.pool, &mut self.line, steps);
         held
     }
 

@@ -1,6 +1,6 @@
 //! The steps that keep a pool in shape: reaping, and holding places for the minimum.
 
-ghost use Rattle.std.specs.Prelude.{◌≡◌, ℕ, ◌≤◌, max, List, [], Option, option_map};
+ghost use Rattle.std.specs.Prelude.{◌≡◌, ◌<◌, ℕ, ◌≤◌, max, List, [], Option, option_map};
 ghost use Rattle.std.specs.List.{list_any};
 ghost use Rattle.sqlx_log.specs.declared.mark.Mark.{Mark};
 ghost use Rattle.sqlx_log.specs.Marks.{is_shut};
@@ -11,10 +11,14 @@ ghost use Rattle.sqlx_pool_core.specs.Core.{waiting, free};
 ghost use Rattle.sqlx_pool_core.specs.MaintenanceSteps.{idle_conn, reap_answer, reap_marks, reaped, has_place, placed, handed_back, done_marks, done};
 ghost use Rattle.sqlx_pool_core.specs.Balance.{Balance, place_room};
 ghost use Rattle.sqlx_pool_core.specs.StandsFor.{StandsFor};
+ghost use Rattle.sqlx_pool_core.specs.KeptLine.{Looks};
 
-use super::PoolCore;
+use super::{PoolCore, line};
 use crate::steps::Idle;
+use sqlx_line::Steps;
 use sqlx_text::Moment;
+use std::marker::Brand;
+use std::sync::ledger::{Blank, Ledger};
 
 impl<C> PoolCore<C> {
     /// Takes the first idle connection that rests for longer than the idle limit or is older than the lifetime,
@@ -78,10 +82,50 @@ impl<C> PoolCore<C> {
         ensures becomes { self.new ≡ done self.old.shut (moment_of self.old now) raw self.old }
         ensures balance { Balance self.old self.new (done_marks self.old.shut self.old.next_conn (moment_of self.old now) raw) 0 0 }
     {
+        self.uncounted_minimum_done::<Brand>(now, raw, Blank::new(1))
+    }
+
+    // The same with a counter of its own.
+    fn uncounted_minimum_done<L: Ledger>(
+        &mut self,
+        now: Moment,
+        raw: Option<C>,
+        blank: Blank,
+    ) -> Option<C>
+        requires named { blank.name ≡ L.name }
+        requires whole { blank.parts ≡ L.parts }
+        requires some { 0 < blank.parts }
+        requires place { 1 ≤ self.old.places }
+        ensures makes { Logs self.old (done_marks self.old.shut self.old.next_conn (moment_of self.old now) raw) self.new }
+        ensures marks { (marks : List Mark) → StandsFor self.old marks → result ≡ handed_back (list_any is_shut marks) raw }
+        ensures answer { result ≡ handed_back self.old.shut raw }
+        ensures becomes { self.new ≡ done self.old.shut (moment_of self.old now) raw self.old }
+        ensures balance { Balance self.old self.new (done_marks self.old.shut self.old.next_conn (moment_of self.old now) raw) 0 0 }
+    {
+        let mut steps = Steps::<L>::new(blank);
+        self.minimum_done_counted(now, raw, &mut steps)
+    }
+
+    /// The same; each look at the line is a step.
+    pub fn minimum_done_counted<L: Ledger>(
+        &mut self,
+        now: Moment,
+        raw: Option<C>,
+        steps: &mut Steps<L>,
+    ) -> Option<C>
+        requires { 1 ≤ self.old.places }
+        ensures makes { Logs self.old (done_marks self.old.shut self.old.next_conn (moment_of self.old now) raw) self.new }
+        ensures marks { (marks : List Mark) → StandsFor self.old marks → result ≡ handed_back (list_any is_shut marks) raw }
+        ensures answer { result ≡ handed_back self.old.shut raw }
+        ensures becomes { self.new ≡ done self.old.shut (moment_of self.old now) raw self.old }
+        ensures balance { Balance self.old self.new (done_marks self.old.shut self.old.next_conn (moment_of self.old now) raw) 0 0 }
+        ensures cost { Looks self.old self.new steps.old steps.new }
+    {
         let moment = self.pool.moment(now);
         self.pool.sound();
         let back = self.pool.minimum_done(moment, raw);
         self.pool.sound();
+        line::serve(&self.pool, &mut self.line, steps);
         back
     }
 }

@@ -1,16 +1,20 @@
 //! The start of a poll. Tests and connects run behind it, outside the core.
 
-ghost use Rattle.std.specs.Prelude.{◌≡◌, ℕ, max, List, Option};
+ghost use Rattle.std.specs.Prelude.{◌≡◌, ◌<◌, ℕ, max, List, Option};
 ghost use Rattle.sqlx_log.specs.declared.mark.Mark.{Mark};
 ghost use Rattle.sqlx_pool_core.specs.Logs.{Logs, moment_of};
 ghost use Rattle.sqlx_pool_core.specs.CoreTurn.{core_turn, turn_at_marks};
 ghost use Rattle.sqlx_pool_core.specs.PollSteps.{start_answer, start_marks, started, phase_for};
 ghost use Rattle.sqlx_pool_core.specs.Balance.{Balance};
 ghost use Rattle.sqlx_pool_core.specs.StandsFor.{StandsFor};
+ghost use Rattle.sqlx_pool_core.specs.KeptLine.{Looks};
 
-use super::PoolCore;
+use super::{PoolCore, line};
 use crate::steps::Start;
+use sqlx_line::Steps;
 use sqlx_text::Moment;
+use std::marker::Brand;
+use std::sync::ledger::{Blank, Ledger};
 
 impl<C> PoolCore<C> {
     /// Begins a poll. `now` below the last moment counts as the last one.
@@ -22,10 +26,53 @@ impl<C> PoolCore<C> {
         ensures own { result ≡ start_answer (core_turn self.old client ticket (moment_of self.old now)) self.old.idle }
         ensures becomes { self.new ≡ started ticket (moment_of self.old now) result self.old }
     {
+        self.uncounted_start::<Brand>(client, ticket, now, Blank::new(1))
+    }
+
+    // The same with a counter of its own.
+    fn uncounted_start<L: Ledger>(
+        &mut self,
+        client: u32,
+        ticket: u64,
+        now: Moment,
+        blank: Blank,
+    ) -> Start<C>
+        requires named { blank.name ≡ L.name }
+        requires whole { blank.parts ≡ L.parts }
+        requires some { 0 < blank.parts }
+        ensures answer { (marks : List Mark) → StandsFor self.old marks → result ≡ start_answer (turn_at_marks self.old marks client ticket (moment_of self.old now)) self.old.idle }
+        ensures makes { Logs self.old (start_marks ticket (phase_for client ticket self.old.tickets) result) self.new }
+        ensures balance { Balance self.old self.new (start_marks ticket (phase_for client ticket self.old.tickets) result) 0 0 }
+        ensures own { result ≡ start_answer (core_turn self.old client ticket (moment_of self.old now)) self.old.idle }
+        ensures becomes { self.new ≡ started ticket (moment_of self.old now) result self.old }
+    {
+        let mut steps = Steps::<L>::new(blank);
+        self.start_counted(client, ticket, now, &mut steps)
+    }
+
+    /// The same; each look at the line is a step.
+    pub fn start_counted<L: Ledger>(
+        &mut self,
+        client: u32,
+        ticket: u64,
+        now: Moment,
+        steps: &mut Steps<L>,
+    ) -> Start<C>
+        ensures answer { (marks : List Mark) → StandsFor self.old marks → result ≡ start_answer (turn_at_marks self.old marks client ticket (moment_of self.old now)) self.old.idle }
+        ensures makes { Logs self.old (start_marks ticket (phase_for client ticket self.old.tickets) result) self.new }
+        ensures balance { Balance self.old self.new (start_marks ticket (phase_for client ticket self.old.tickets) result) 0 0 }
+        ensures own { result ≡ start_answer (core_turn self.old client ticket (moment_of self.old now)) self.old.idle }
+        ensures becomes { self.new ≡ started ticket (moment_of self.old now) result self.old }
+        ensures cost { Looks self.old self.new steps.old steps.new }
+    {
+        self.pool.sound();
         let moment = self.pool.moment(now);
-        let entitled = self.pool.is_first(ticket);
+        let entitled = line::is_entitled(&self.pool, &self.line, client, ticket);
         let started = self.pool.start(client, ticket, moment, entitled);
         self.pool.sound();
+        let went = line::leaves(&started);
+        line::take_out(&mut self.line, ticket, went, steps);
+        line::serve(&self.pool, &mut self.line, steps);
         started
     }
 }

@@ -16,7 +16,7 @@ use Rattle.sqlx_play.proofs.stage.give.take_back.Goals as goal
 
 pub returns-in_default-clause-ok : goal.returns-in_default-clause-ok
 returns-in_default-clause-ok c =
-    returns-unlent c.args.stage.now c.args.answers c.args.moment.0 c.args.client c.args.conn c.bounds.ensures.sound
+    returns-unlent c.args.stage.now c.args.answers c.args.moment.0 c.args.client c.args.conn c.bounds.ensures.numbered
     (none-there (is_lent c.args.conn) c.args.stage.now.lent.items _ c.deref.ensures.value (sym c.in_default.is ∙ c.place_of.ensures)).0
 
 pub returns-in-Kept-clause-ok : goal.returns-in-Kept-clause-ok
@@ -27,7 +27,7 @@ returns-in-Kept-clause-ok c = λ marks past at.
     let w = came c.args.client m c.args.answers l old.core c.give_with.new.self c.begin_give.new.self c.give_with.new.out c.give_with.result c.begin_give.ensures.letters c.begin_give.ensures.left (loan_of c.args.client l.id old.core.held) refl c.give_with.ensures in
     let made : w.made ≡ given.Kept = was-kept w.made (sym c.in-Kept.is ∙ w.word) in
     let taken = taken-at (is_lent c.args.conn) old.lent.items _ c.in-Some.at l c.remove-lent.new.self.items c.deref.ensures.value (sym c.in-Some.is ∙ c.place_of.ensures) c.remove-lent.ensures.value c.remove-lent.ensures.items in
-    returns-kept old c.args.answers c.args.moment.0 c.args.client c.args.conn c.bounds.ensures.sound c.give_with.new.self l c.requires.in_order (sym taken.0)
+    returns-kept old c.args.answers c.args.moment.0 c.args.client c.args.conn c.bounds.ensures.numbered c.give_with.new.self l c.requires.in_order (sym taken.0)
     _ m (max-eq_right c.requires.in_order) refl refl (w.store ∙ ap (λ (g : Given Link). given_store g c.begin_give.new.self.store) made ∙ c.begin_give.ensures.store) taken.1
     (sym made ∙ w.answer ∙ ap (λ (hook : Bool). give_answer old.core.options old.core.shut m (may_rest hook c.args.answers l.raw.depth) (loan_of c.args.client l.id old.core.held) l) at.set_up.after_release)
     (subst (λ (g : Given Link). Logs old.core (give_marks l.id m g) c.give_with.new.self) made w.makes)
@@ -43,7 +43,7 @@ returns-in-Closed-clause-ok c = λ marks past at.
     let raw = was.0 in
     let made : w.made ≡ given.Closed raw = was.1 in
     let taken = taken-at (is_lent c.args.conn) old.lent.items _ c.in-Some.at l c.remove-lent.new.self.items c.deref.ensures.value (sym c.in-Some.is ∙ c.place_of.ensures) c.remove-lent.ensures.value c.remove-lent.ensures.items in
-    returns-closed old c.args.answers c.args.moment.0 c.args.client c.args.conn c.bounds.ensures.sound c.give_with.new.self l c.requires.in_order (sym taken.0)
+    returns-closed old c.args.answers c.args.moment.0 c.args.client c.args.conn c.bounds.ensures.numbered c.give_with.new.self l c.requires.in_order (sym taken.0)
     _ m raw (max-eq_right c.requires.in_order) refl refl (w.store ∙ ap (λ (g : Given Link). given_store g c.begin_give.new.self.store) made ∙ ap (closed_in raw.depth) c.begin_give.ensures.store) taken.1
     (sym made ∙ w.answer ∙ ap (λ (hook : Bool). give_answer old.core.options old.core.shut m (may_rest hook c.args.answers l.raw.depth) (loan_of c.args.client l.id old.core.held) l) at.set_up.after_release)
     (subst (λ (g : Given Link). Logs old.core (give_marks l.id m g) c.give_with.new.self) made w.makes)
@@ -59,7 +59,7 @@ returns-in_ok-put_lent-in-NotHeld-clause-ok c = λ marks past at.
     let made : w.made ≡ given.NotHeld raw = was-not_held raw w.made (sym c.in-NotHeld.is ∙ w.word) in
     let place = sym c.in-Some.is ∙ c.place_of.ensures in
     let taken = taken-at (is_lent c.args.conn) old.lent.items _ c.in-Some.at l c.remove-lent.new.self.items c.deref.ensures.value place c.remove-lent.ensures.value c.remove-lent.ensures.items in
-    returns-not_held old c.args.answers c.args.moment.0 c.args.client c.args.conn c.bounds.ensures.sound c.give_with.new.self l c.requires.in_order (sym taken.0)
+    returns-not_held old c.args.answers c.args.moment.0 c.args.client c.args.conn c.bounds.ensures.numbered c.give_with.new.self l c.requires.in_order (sym taken.0)
     _ m raw refl refl (w.store ∙ ap (λ (g : Given Link). given_store g c.begin_give.new.self.store) made ∙ c.begin_give.ensures.store) c.in-Some.at (place-below (is_lent c.args.conn) old.lent.items _ c.in-Some.at c.deref.ensures.value place) c.remove-lent.ensures.value
     (c.in_ok-put_lent-in-NotHeld.ensures.ok ∙ ap (λ (items : _). insert items c.in-Some.at (record { id = c.args.conn; created = l.created; raw = raw })) c.remove-lent.ensures.items)
     (sym made ∙ w.answer ∙ ap (λ (hook : Bool). give_answer old.core.options old.core.shut m (may_rest hook c.args.answers l.raw.depth) (loan_of c.args.client l.id old.core.held) l) at.set_up.after_release)

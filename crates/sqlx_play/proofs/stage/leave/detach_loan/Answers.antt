@@ -9,14 +9,14 @@ use Rattle.sqlx_play.proofs.stage.leave.detach_loan.Goals as goal
 
 pub returns-then-not-detach-clause-ok : goal.returns-then-not-detach-clause-ok
 returns-then-not-detach-clause-ok c =
-    departs-not c.args.stage.now (mark.Detached c.args.conn) c.args.client c.args.conn c.bounds.ensures.sound c.detach.new.self
+    departs-not c.args.stage.now (mark.Detached c.args.conn) c.args.client c.args.conn c.bounds.ensures.numbered c.detach.new.self
     (sym c.if-not-detach.true ∙ c.detach.ensures.answer) (c.detach.ensures.becomes ∙ ap (λ (b : Bool). released c.args.conn b c.args.stage.now.core) c.if-not-detach.true)
 
 pub returns-clause-ok : goal.returns-clause-ok
 returns-clause-ok c =
     let old = c.args.stage.now in
     let new = c.close_lent.new.stage in
-    departs old (mark.Detached c.args.conn) c.args.client c.args.conn c.bounds.ensures.sound new
+    departs old (mark.Detached c.args.conn) c.args.client c.args.conn c.bounds.ensures.numbered new
     (sym c.if-not-detach.false ∙ c.detach.ensures.answer)
     (ends-loan old.core new.core c.args.conn (c.close_lent.ensures.core ∙ c.detach.ensures.becomes ∙ ap (λ (b : Bool). released c.args.conn b old.core) c.if-not-detach.false))
     c.close_lent.ensures.pool

@@ -9,14 +9,14 @@ use Rattle.sqlx_play.proofs.stage.leave.end_loan.Goals as goal
 
 pub returns-then-not-end-clause-ok : goal.returns-then-not-end-clause-ok
 returns-then-not-end-clause-ok c =
-    departs-not c.args.stage.now (mark.Closed c.args.conn) c.args.client c.args.conn c.bounds.ensures.sound c.end.new.self
+    departs-not c.args.stage.now (mark.Closed c.args.conn) c.args.client c.args.conn c.bounds.ensures.numbered c.end.new.self
     (sym c.if-not-end.true ∙ c.end.ensures.answer) (c.end.ensures.becomes ∙ ap (λ (b : Bool). released c.args.conn b c.args.stage.now.core) c.if-not-end.true)
 
 pub returns-clause-ok : goal.returns-clause-ok
 returns-clause-ok c =
     let old = c.args.stage.now in
     let new = c.close_lent.new.stage in
-    departs old (mark.Closed c.args.conn) c.args.client c.args.conn c.bounds.ensures.sound new
+    departs old (mark.Closed c.args.conn) c.args.client c.args.conn c.bounds.ensures.numbered new
     (sym c.if-not-end.false ∙ c.end.ensures.answer)
     (ends-loan old.core new.core c.args.conn (c.close_lent.ensures.core ∙ c.end.ensures.becomes ∙ ap (λ (b : Bool). released c.args.conn b old.core) c.if-not-end.false))
     c.close_lent.ensures.pool

@@ -9,14 +9,14 @@ use Rattle.sqlx_play.proofs.stage.leave.leak_loan.Goals as goal
 
 pub returns-then-not-leak-clause-ok : goal.returns-then-not-leak-clause-ok
 returns-then-not-leak-clause-ok c =
-    departs-not c.args.stage.now (mark.Leaked c.args.conn) c.args.client c.args.conn c.bounds.ensures.sound c.leak.new.self
+    departs-not c.args.stage.now (mark.Leaked c.args.conn) c.args.client c.args.conn c.bounds.ensures.numbered c.leak.new.self
     (sym c.if-not-leak.true ∙ c.leak.ensures.answer) (c.leak.ensures.becomes ∙ ap (λ (b : Bool). leaked c.args.conn b c.args.stage.now.core) c.if-not-leak.true)
 
 pub returns-clause-ok : goal.returns-clause-ok
 returns-clause-ok c =
     let old = c.args.stage.now in
     let new = c.close_lent.new.stage in
-    departs old (mark.Leaked c.args.conn) c.args.client c.args.conn c.bounds.ensures.sound new
+    departs old (mark.Leaked c.args.conn) c.args.client c.args.conn c.bounds.ensures.numbered new
     (sym c.if-not-leak.false ∙ c.leak.ensures.answer)
     (leaks-loan old.core new.core c.args.conn (c.close_lent.ensures.core ∙ c.leak.ensures.becomes ∙ ap (λ (b : Bool). leaked c.args.conn b old.core) c.if-not-leak.false))
     c.close_lent.ensures.pool

@@ -12,7 +12,7 @@ pub returns-clause-ok : goal.returns-clause-ok
 returns-clause-ok c =
     let stage = c.args.stage.now in
     polled-plays stage (record stage { core = c.poll_with-polled.new.self; out = c.poll_with-polled.new.out; lent = c.reply.new.owned }) c.args.moment c.args.client c.args.ticket _ c.args.answers c.begin_poll.new.self
-    (few-conns stage c.requires.numbers) c.bounds.ensures.sound c.begin_poll.ensures.letters c.begin_poll.ensures.opens c.begin_poll.ensures.left c.begin_poll.ensures.store refl (max-eq_right c.requires.in_order)
+    (few-conns stage c.requires.numbers) c.bounds.ensures.numbered c.begin_poll.ensures.letters c.begin_poll.ensures.opens c.begin_poll.ensures.left c.begin_poll.ensures.store refl (max-eq_right c.requires.in_order)
     c.poll_with-polled.result c.poll_with-polled.ensures.polls c.reply.result c.reply.ensures.answer c.reply.ensures.owned
 
 on-ok : {T E A : Type 0} (r : Result T E) (a b : A) → a ≡ b → OnOk r (a ≡ b)

@@ -4,7 +4,7 @@ use Rattle.sqlx_play.proofs.stage.statements.play.Goals as goal
 
 pub returns-clause-ok : goal.returns-clause-ok
 returns-clause-ok c =
-    statement-plays_if c.args.stage.now c.run.new.stage c.args.event.now c.in-Some.statement c.run.result c.run.ensures.sound c.in-Some.ensures.some c.in-Some.ensures.met c.run.ensures.core c.run.ensures.pool c.run.ensures.ok
+    statement-plays_if c.args.stage.now c.run.new.stage c.args.event.now c.in-Some.statement c.run.result c.run.ensures.numbered c.in-Some.ensures.some c.in-Some.ensures.met c.run.ensures.core c.run.ensures.pool c.run.ensures.ok
 
 pub returns-clause-runs : goal.returns-clause-runs
 returns-clause-runs c = statement-counted_if c.args.stage.now c.run.new.stage c.in-Some.statement c.args.event.now.step c.run.result c.in-Some.ensures.act c.run.ensures.ok

@@ -6,7 +6,7 @@ use Rattle.sqlx_pool_core.proofs.pool_core.PoolCore.close.Goals as goal
 
 pub returns-clause-makes : goal.returns-clause-makes
 returns-clause-makes g c =
-    close-alone _ _ _ c.self.view_is (λ core. close_marks core.shut c.close-idle.result.items) _ refl c.self.invariant c.sound.ensures c.close-idle.ensures.becomes c.close-idle.ensures.draws c.close-idle.ensures.makes
+    close-alone _ _ _ c.self.view_is (λ core. close_marks core.shut c.close-idle.result.items) _ refl c.self.invariant.alone c.sound.ensures c.close-idle.ensures.becomes c.close-idle.ensures.draws c.close-idle.ensures.makes
 
 pub returns-clause-balance : goal.returns-clause-balance
 returns-clause-balance g c = moves-alone _ _ _ c.self.view_is (λ core. close_marks core.shut c.close-idle.result.items) _ 0 0 refl c.close-idle.ensures.balance

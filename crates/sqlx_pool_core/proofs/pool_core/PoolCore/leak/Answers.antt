@@ -8,7 +8,7 @@ use Rattle.sqlx_pool_core.proofs.pool_core.PoolCore.leak.Goals as goal
 
 pub returns-clause-makes : goal.returns-clause-makes
 returns-clause-makes g c =
-    plain-alone _ _ _ c.self.view_is (λ core. leak_marks c.args.id c.leak-held.result) _ refl c.self.invariant c.sound-2.ensures c.leak-held.ensures.stays c.leak-held.ensures.draws c.leak-held.ensures.makes
+    plain-alone _ _ _ c.self.view_is (λ core. leak_marks c.args.id c.leak-held.result) _ refl c.self.invariant.alone c.sound-2.ensures c.leak-held.ensures.stays c.leak-held.ensures.draws c.leak-held.ensures.makes
 
 pub returns-clause-balance : goal.returns-clause-balance
 returns-clause-balance g c = moves-alone _ _ _ c.self.view_is (λ core. leak_marks c.args.id c.leak-held.result) _ (one_if c.leak-held.result) 0 refl c.leak-held.ensures.balance

@@ -8,7 +8,7 @@ use Rattle.sqlx_pool_core.proofs.pool_core.PoolCore.reap.Goals as goal
 
 pub returns-clause-makes : goal.returns-clause-makes
 returns-clause-makes g c =
-    plain-alone _ _ _ c.self.view_is (λ core. reap_marks c.reap-reaped.result) _ refl c.self.invariant c.sound.ensures c.reap-reaped.ensures.stays c.reap-reaped.ensures.draws c.reap-reaped.ensures.makes
+    plain-alone _ _ _ c.self.view_is (λ core. reap_marks c.reap-reaped.result) _ refl c.self.invariant.alone c.sound.ensures c.reap-reaped.ensures.stays c.reap-reaped.ensures.draws c.reap-reaped.ensures.makes
 
 pub returns-clause-balance : goal.returns-clause-balance
 returns-clause-balance g c = moves-alone _ _ _ c.self.view_is (λ core. reap_marks c.reap-reaped.result) _ 0 0 refl c.reap-reaped.ensures.balance

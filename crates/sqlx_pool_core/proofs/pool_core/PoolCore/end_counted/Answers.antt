@@ -2,16 +2,16 @@ use Rattle.sqlx_pool_core.proofs.Alone.{plain-alone, moves-alone}
 use Rattle.std.proofs.Common.{rules, subst, refl, ◌∙◌}
 use Rattle.sqlx_pool_core.specs.Sound.{IsSound}
 use Rattle.sqlx_pool_core.specs.Balance.{one_if}
-use Rattle.sqlx_pool_core.specs.ReturnSteps.{detach_marks}
+use Rattle.sqlx_pool_core.specs.ReturnSteps.{end_marks}
 use Rattle.sqlx_pool_core.proofs.AnswersAtMarks.{owner-at}
-use Rattle.sqlx_pool_core.proofs.pool_core.PoolCore.detach.Goals as goal
+use Rattle.sqlx_pool_core.proofs.pool_core.PoolCore.end_counted.Goals as goal
 
 pub returns-clause-makes : goal.returns-clause-makes
 returns-clause-makes g c =
-    plain-alone _ _ _ c.self.view_is (λ core. detach_marks c.args.id c.detach-held.result) _ refl c.self.invariant c.sound-2.ensures c.detach-held.ensures.stays c.detach-held.ensures.draws c.detach-held.ensures.makes
+    plain-alone _ _ _ c.self.view_is (λ core. end_marks c.args.id c.end-held.result) _ refl c.self.invariant.alone c.sound-2.ensures c.end-held.ensures.stays c.end-held.ensures.draws c.end-held.ensures.makes
 
 pub returns-clause-balance : goal.returns-clause-balance
-returns-clause-balance g c = moves-alone _ _ _ c.self.view_is (λ core. detach_marks c.args.id c.detach-held.result) _ (one_if c.detach-held.result) 0 refl c.detach-held.ensures.balance
+returns-clause-balance g c = moves-alone _ _ _ c.self.view_is (λ core. end_marks c.args.id c.end-held.result) _ (one_if c.end-held.result) 0 refl c.end-held.ensures.balance
 
 pub returns-clause-marks : goal.returns-clause-marks
 returns-clause-marks g c = λ marks s.

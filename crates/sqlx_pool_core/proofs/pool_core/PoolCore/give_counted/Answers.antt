@@ -5,11 +5,11 @@ use Rattle.sqlx_pool_core.specs.Sound.{IsSound}
 use Rattle.sqlx_pool_core.specs.Balance.{given_back}
 use Rattle.sqlx_pool_core.specs.ReturnSteps.{give_answer, give_marks}
 use Rattle.sqlx_pool_core.proofs.AnswersAtMarks.{give-at}
-use Rattle.sqlx_pool_core.proofs.pool_core.PoolCore.give.Goals as goal
+use Rattle.sqlx_pool_core.proofs.pool_core.PoolCore.give_counted.Goals as goal
 
 pub returns-clause-makes : goal.returns-clause-makes
 returns-clause-makes g c =
-    plain-alone _ _ _ c.self.view_is (λ core. give_marks c.args.lent.id (max core.last c.args.now.0) c.give-given.result) _ (ap (λ (m : ℕ). give_marks c.args.lent.id m c.give-given.result) c.moment-moment.ensures) c.self.invariant c.sound-2.ensures c.give-given.ensures.stays c.give-given.ensures.draws c.give-given.ensures.makes
+    plain-alone _ _ _ c.self.view_is (λ core. give_marks c.args.lent.id (max core.last c.args.now.0) c.give-given.result) _ (ap (λ (m : ℕ). give_marks c.args.lent.id m c.give-given.result) c.moment-moment.ensures) c.self.invariant.alone c.sound-2.ensures c.give-given.ensures.stays c.give-given.ensures.draws c.give-given.ensures.makes
 
 pub returns-clause-balance : goal.returns-clause-balance
 returns-clause-balance g c = moves-alone _ _ _ c.self.view_is (λ core. give_marks c.args.lent.id (max core.last c.args.now.0) c.give-given.result) _ (given_back c.give-given.result) 0 (ap (λ (m : ℕ). give_marks c.args.lent.id m c.give-given.result) c.moment-moment.ensures) c.give-given.ensures.balance

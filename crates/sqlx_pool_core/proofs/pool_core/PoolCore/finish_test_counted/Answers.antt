@@ -1,11 +1,13 @@
 use Rattle.sqlx_pool_core.proofs.Alone.{plain-alone, moves-alone}
 use Rattle.std.proofs.Common.{rules, refl, ◌≡◌, ◌∙◌, ap, Bool}
 use Rattle.sqlx_pool_core.specs.PollSteps.{phase_for, judged, tested_at, may_test_next, test_answer, test_marks}
-use Rattle.sqlx_pool_core.proofs.pool_core.PoolCore.finish_test.Goals as goal
+use Rattle.sqlx_pool_core.proofs.pool_core.PoolCore.finish_test_counted.Goals as goal
+use Rattle.sqlx_pool_core.proofs.KeptLine.{looks-beside}
+use Rattle.sqlx_pool_core.proofs.LineSteps.{nearly-from, test-beside}
 
 pub returns-clause-makes : goal.returns-clause-makes
 returns-clause-makes g c =
-    plain-alone _ _ _ c.self.view_is (λ core. test_marks c.args.client c.args.ticket (judged c.args.verdict) c.finish_test-after.result) _ refl c.self.invariant c.sound.ensures c.finish_test-after.ensures.stays c.finish_test-after.ensures.draws c.finish_test-after.ensures.makes
+    plain-alone _ _ _ c.self.view_is (λ core. test_marks c.args.client c.args.ticket (judged c.args.verdict) c.finish_test-after.result) _ refl c.self.invariant.alone c.sound-2.ensures c.finish_test-after.ensures.stays c.finish_test-after.ensures.draws c.finish_test-after.ensures.makes
 
 pub returns-clause-balance : goal.returns-clause-balance
 returns-clause-balance g c = moves-alone _ _ _ c.self.view_is (λ core. test_marks c.args.client c.args.ticket (judged c.args.verdict) c.finish_test-after.result) _ 0 0 refl c.finish_test-after.ensures.balance
@@ -14,3 +16,13 @@ pub returns-clause-marks : goal.returns-clause-marks
 returns-clause-marks g c = λ marks s.
     let answer : c.finish_test-after.result ≡ test_answer (tested_at (judged c.args.verdict) (phase_for c.args.client c.args.ticket c.args.self.now.tickets)) c.args.self.now.shut (may_test_next c.args.self.now.options.idle_tries (phase_for c.args.client c.args.ticket c.args.self.now.tickets)) c.args.self.now.idle c.args.verdict = search rules in
     answer ∙ ap (λ (b : Bool). test_answer (tested_at (judged c.args.verdict) (phase_for c.args.client c.args.ticket c.args.self.now.tickets)) b (may_test_next c.args.self.now.options.idle_tries (phase_for c.args.client c.args.ticket c.args.self.now.tickets)) c.args.self.now.idle c.args.verdict) s.shut
+
+pub serve-requires : goal.serve-requires
+serve-requires g c = record {
+  near =
+      nearly-from _ _ _ c.self.invariant.lined
+      (test-beside _ _ c.sound.ensures c.args.client c.args.ticket c.args.verdict _ _ c.finish_test-after.result c.finish_test-after.ensures.answer c.finish_test-after.ensures.becomes c.finish_test-after.ensures.balance);
+}
+
+pub returns-clause-cost : goal.returns-clause-cost
+returns-clause-cost g c = looks-beside _ _ _ _ _ _ _ c.self.view_is c.self.invariant.lined c.serve.ensures.lined c.finish_test-after.ensures.draws.more_tickets c.serve.ensures.cost c.serve.ensures.once

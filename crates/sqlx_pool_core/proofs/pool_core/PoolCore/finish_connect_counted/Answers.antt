@@ -1,0 +1,29 @@
+use Rattle.sqlx_pool_core.proofs.Alone.{plain-alone, moves-alone}
+use Rattle.std.proofs.Common.{rules, ◌≡◌, ◌∙◌, ap, ℕ, max}
+use Rattle.sqlx_pool_core.specs.Core.{ticket_of}
+use Rattle.sqlx_pool_core.specs.PollSteps.{connect_answer, connect_marks}
+use Rattle.sqlx_pool_core.proofs.pool_core.PoolCore.finish_connect_counted.Goals as goal
+use Rattle.sqlx_pool_core.proofs.KeptLine.{looks-beside}
+use Rattle.sqlx_pool_core.proofs.LineSteps.{nearly-from, connect-beside}
+
+pub returns-clause-makes : goal.returns-clause-makes
+returns-clause-makes g c =
+    plain-alone _ _ _ c.self.view_is (λ core. connect_marks c.args.client c.args.ticket (max core.last c.args.now.0) c.finish_connect-after.result) _ (ap (λ (m : ℕ). connect_marks c.args.client c.args.ticket m c.finish_connect-after.result) c.moment-moment.ensures) c.self.invariant.alone c.sound-2.ensures c.finish_connect-after.ensures.stays c.finish_connect-after.ensures.draws c.finish_connect-after.ensures.makes
+
+pub returns-clause-balance : goal.returns-clause-balance
+returns-clause-balance g c = moves-alone _ _ _ c.self.view_is (λ core. connect_marks c.args.client c.args.ticket (max core.last c.args.now.0) c.finish_connect-after.result) _ 0 0 (ap (λ (m : ℕ). connect_marks c.args.client c.args.ticket m c.finish_connect-after.result) c.moment-moment.ensures) c.finish_connect-after.ensures.balance
+
+pub returns-clause-marks : goal.returns-clause-marks
+returns-clause-marks g c = λ marks s.
+    let answer : c.finish_connect-after.result ≡ connect_answer (ticket_of c.args.client c.args.ticket c.args.self.now.tickets) c.args.self.now.shut c.args.self.now.next_conn (max c.args.self.now.last c.args.now.0) c.args.tried = search rules in
+    answer ∙ (λ i. connect_answer (ticket_of c.args.client c.args.ticket c.args.self.now.tickets) (s.shut i) (s.conn_number i) (max c.args.self.now.last c.args.now.0) c.args.tried)
+
+pub serve-requires : goal.serve-requires
+serve-requires g c = record {
+  near =
+      nearly-from _ _ _ c.self.invariant.lined
+      (connect-beside _ _ c.sound.ensures c.args.client c.args.ticket _ _ _ c.args.tried c.finish_connect-after.result c.finish_connect-after.ensures.answer c.finish_connect-after.ensures.becomes c.finish_connect-after.ensures.balance);
+}
+
+pub returns-clause-cost : goal.returns-clause-cost
+returns-clause-cost g c = looks-beside _ _ _ _ _ _ _ c.self.view_is c.self.invariant.lined c.serve.ensures.lined c.finish_connect-after.ensures.draws.more_tickets c.serve.ensures.cost c.serve.ensures.once
