@@ -29,3 +29,8 @@ any_describe (Ok columns) (Ok parameters) nullable = Ok (record { columns = colu
 abbrev pub native_describe : {C I : Type 0} → (I → Option AnyTypeInfoKind) → (I → List ℕ) → (C → ℕ) → (C → List ℕ) → (C → I) → DescribeParts C I → Result (DescribeParts AnyColumn AnyTypeInfo) Error
 native_describe kind named at called typed parts =
     any_describe (native_columns kind named at called typed parts.columns) (native_parameters kind named parts.parameters) parts.nullable
+
+-- the same of what is kept
+abbrev pub native_held : {C I A : Type 0} → (I → Option AnyTypeInfoKind) → (I → List ℕ) → (C → ℕ) → (C → List ℕ) → (C → I) → Vec C A → Option (Either (Vec I A) ℕ) → Vec (Option Bool) A → Result (DescribeParts AnyColumn AnyTypeInfo) Error
+native_held kind named at called typed columns parameters nullable =
+    native_describe kind named at called typed (held columns parameters nullable)

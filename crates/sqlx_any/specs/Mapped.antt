@@ -87,3 +87,8 @@ module _ {C A B : Type 0} (Gives : C → Result (A × B) Error → Type 0) where
 abbrev pub RowGives : {C : Type 0} → (C → Result (AnyColumn × AnyValue) Error → Type 0) → List C → Names → Result RowParts Error → Type 0
 RowGives Gives columns names (Ok row) = (row.names ≡ names) × AllGive Gives columns row.columns row.values
 RowGives Gives columns names (Err e) = FirstRefuses Gives columns e ⊎ (e ≡ error.OutOfMemory)
+
+-- the same of a row of a database, by its columns and its values
+abbrev pub NativeRow : {V I C : Type 0} → (I → Option AnyTypeInfoKind) → (I → List ℕ) → (V → I) → (V → Bool) → (AnyTypeInfoKind → V → Result AnyValueKind Fault → Type 0) → (C → ℕ) → (C → List ℕ) → (C → I) → List C → List V → Names → Result RowParts Error → Type 0
+NativeRow kind named type_of null reads at called typed columns values names r =
+    RowGives (NativeCell kind named type_of null reads at called typed values) columns names r

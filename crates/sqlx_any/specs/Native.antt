@@ -68,3 +68,8 @@ any_statement sql names (Ok parameters) (Ok columns) = Ok (record { sql = sql; p
 abbrev pub native_statement : {S I C : Type 0} → (I → Option AnyTypeInfoKind) → (I → List ℕ) → (C → ℕ) → (C → List ℕ) → (C → I) → (S → List ℕ) → (S → Parameters I) → (S → List C) → S → Names → Result StatementParts Error
 native_statement kind named at called typed text takes described statement names =
     any_statement (text statement) names (native_parameters kind named (takes statement)) (native_columns kind named at called typed (described statement))
+
+-- the answer is that form, or there is no memory
+abbrev pub FormsStatement : {S I C : Type 0} → (I → Option AnyTypeInfoKind) → (I → List ℕ) → (C → ℕ) → (C → List ℕ) → (C → I) → (S → List ℕ) → (S → Parameters I) → (S → List C) → S → Names → Result StatementParts Error → Type 0
+FormsStatement kind named at called typed text takes described statement names r =
+    Forms (λ made. made) (native_statement kind named at called typed text takes described statement names) r

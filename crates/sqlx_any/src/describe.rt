@@ -2,7 +2,7 @@
 ghost use Rattle.std.specs.Prelude.{◌≡◌, ◌<◌, Some, length, slice_get};
 ghost use Rattle.std.specs.Option.{option_flatten};
 ghost use Rattle.sqlx_traits.specs.Parameters.{parameters_seen};
-ghost use Rattle.sqlx_any.specs.Described.{native_describe, held};
+ghost use Rattle.sqlx_any.specs.Described.{native_held, held};
 ghost use Rattle.sqlx_any.specs.Native.{Forms};
 ghost use Rattle.sqlx_any.specs.Rows.{parameters_held};
 
@@ -66,7 +66,7 @@ impl<DB: Database> Describe<DB> {
         alloc: Global,
     ) -> Result<Describe<Any<B>>, Error>
         ensures { Forms (λ made. held made.columns made.parameters made.nullable)
-            (native_describe DB.TypeInfo.kind DB.TypeInfo.named DB.Column.at DB.Column.named DB.Column.typed (held self.columns self.parameters self.nullable)) result }
+            (native_held DB.TypeInfo.kind DB.TypeInfo.named DB.Column.at DB.Column.named DB.Column.typed self.columns self.parameters self.nullable) result }
     {
         let columns = match columns_from::<DB>(alloc, self.columns()) {
             Ok(columns) => columns,

@@ -2,7 +2,7 @@
 ghost use Rattle.std.specs.Prelude.{◌≡◌, ◌⊎◌, Result, decimal, length};
 ghost use Rattle.sqlx_text.specs.declared.fault.Fault.{Fault};
 ghost use Rattle.sqlx_text.specs.declared.kind.AnyTypeInfoKind.{AnyTypeInfoKind};
-ghost use Rattle.sqlx_any.specs.Mapped.{NativeCell, NativeValue, OrNoMemory, RowGives};
+ghost use Rattle.sqlx_any.specs.Mapped.{NativeCell, NativeRow, NativeValue, OrNoMemory};
 ghost use Rattle.sqlx_any.specs.Names.{AreBelow};
 ghost use Rattle.sqlx_any.specs.declared.value.AnyValueKind.{AnyValueKind};
 
@@ -91,7 +91,7 @@ impl AnyRow {
         names: ColumnNames,
     ) -> Result<AnyRow, Error>
         requires { AreBelow names (length (DB.Row.described row.now)) }
-        ensures { RowGives (NativeCell DB.TypeInfo.kind DB.TypeInfo.named DB.Value.type_of DB.Value.null DB.kind_reads DB.Column.at DB.Column.named DB.Column.typed (DB.Row.values row.now)) (DB.Row.described row.now) names result }
+        ensures { NativeRow DB.TypeInfo.kind DB.TypeInfo.named DB.Value.type_of DB.Value.null DB.kind_reads DB.Column.at DB.Column.named DB.Column.typed (DB.Row.described row.now) (DB.Row.values row.now) names result }
     {
         let mut columns = Vec::new(alloc);
         let mut values = Vec::new(alloc);

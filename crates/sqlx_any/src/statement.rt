@@ -4,7 +4,7 @@ ghost use Rattle.sqlx_traits.specs.Parameters.{parameters_seen};
 ghost use Rattle.sqlx_traits.specs.Places.{IsGiven, at_place};
 ghost use Rattle.sqlx_traits.specs.Reads.{Answers};
 ghost use Rattle.sqlx_any.specs.Names.{AreBelow};
-ghost use Rattle.sqlx_any.specs.Native.{Forms, native_statement};
+ghost use Rattle.sqlx_any.specs.Native.{FormsStatement};
 ghost use Rattle.sqlx_any.specs.Rows.{parameters_held};
 
 use crate::native::{columns_from, parameters_from};
@@ -75,7 +75,7 @@ impl AnyStatement {
         names: ColumnNames,
     ) -> Result<AnyStatement, Error>
         requires { AreBelow names (length (DB.Statement.described statement)) }
-        ensures { Forms (λ made. made) (native_statement DB.TypeInfo.kind DB.TypeInfo.named DB.Column.at DB.Column.named DB.Column.typed DB.Statement.text DB.Statement.takes DB.Statement.described statement names) result }
+        ensures { FormsStatement DB.TypeInfo.kind DB.TypeInfo.named DB.Column.at DB.Column.named DB.Column.typed DB.Statement.text DB.Statement.takes DB.Statement.described statement names result }
     {
         let parameters = match parameters_from::<DB::TypeInfo>(alloc, statement.parameters()) {
             Ok(parameters) => parameters,

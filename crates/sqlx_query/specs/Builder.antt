@@ -106,6 +106,10 @@ alone p = p ∷ []
 abbrev pub GainsBound : {L : Type 0} → (ℕ → List ℕ) → (L → ℕ) → (ℕ → L → L) → (Piece L → List (Piece L)) → (L → L) → Draft L → Draft L → Type 0
 GainsBound placeholder count first around adds before now = Gains count first before (around (Bound (placeholder (count now.arguments)) adds)) now
 
+-- the second draft gains a bound value as an entry of a list, with the separator before it unless it is the first
+abbrev pub GainsEntry : {L : Type 0} → (ℕ → List ℕ) → (L → ℕ) → (ℕ → L → L) → Bool → List ℕ → (L → L) → Draft L → Draft L → Type 0
+GainsEntry placeholder count first later separator adds before now = GainsBound placeholder count first (entry later separator) adds before now
+
 -- the second draft is the first with some pieces behind it
 pub record Appends {L : Type 0} (count : L → ℕ) (first : ℕ → L → L) (before now : Draft L) : Type 0 where
   pub pieces : List (Piece L)

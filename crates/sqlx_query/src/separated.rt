@@ -2,7 +2,7 @@
 ghost use Rattle.std.specs.Prelude.{◌≡◌, ◌∷◌, [], Bool, IfErr, OnErr, OnOk};
 ghost use Rattle.sqlx_text.specs.declared.fault.Fault.{Fault};
 ghost use Rattle.sqlx_query.specs.Binding.{OrWantOfMemory};
-ghost use Rattle.sqlx_query.specs.Builder.{Gains, GainsBound, Piece, alone, entry, with_piece};
+ghost use Rattle.sqlx_query.specs.Builder.{Gains, GainsBound, GainsEntry, Piece, alone, entry, with_piece};
 
 use crate::QueryBuilder;
 use sqlx_text::{Fault, OutOfMemory};
@@ -60,8 +60,8 @@ impl<'qb, DB: Database> Separated<'qb, DB> {
     ) -> Result<(), Fault>
         ensures same { (self.new.builder.ghost_name ≡ self.old.builder.ghost_name) × (self.new.separator ≡ self.old.separator) }
         ensures begun { OnOk result (self.new.has_piece ≡ Bool.true) }
-        ensures ok { OnOk result (GainsBound DB.Arguments.placeholder DB.ArgumentBuffer.count DB.ArgumentBuffer.first
-            (entry self.old.has_piece self.old.separator.now) (T.encoded value) self.old.builder.now self.new.builder.now) }
+        ensures ok { OnOk result (GainsEntry DB.Arguments.placeholder DB.ArgumentBuffer.count DB.ArgumentBuffer.first
+            self.old.has_piece self.old.separator.now (T.encoded value) self.old.builder.now self.new.builder.now) }
         ensures err { OnErr result ((self.new.has_piece ≡ self.old.has_piece) × (self.new.builder.now ≡ self.old.builder.now)) }
         ensures refused { IfErr result (OrWantOfMemory (T.refuses value)) }
     {

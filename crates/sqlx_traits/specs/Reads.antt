@@ -69,6 +69,11 @@ ReadAt {T = T} (Ok v) read label r = (answer : Result T Fault) × read v answer 
 abbrev pub RowRead : {R I V T : Type 0} → (R → List V) → (I → R → Result ℕ Error) → (I → List ℕ) → R → I → (V → Result T Fault → Type 0) → Result T Error → Type 0
 RowRead values place shown row index read r = (r ≡ Err error.OutOfMemory) ⊎ ReadAt (at_place (values row) (place index row)) read (shown index) r
 
+-- a row's checked read at an index: the index is refused, or the value at it is read if its type fits, or there is no memory
+abbrev pub RowChecked : {R J V I T : Type 0} → (R → List V) → (J → R → Result ℕ Error) → (J → List ℕ) → R → J → (V → Bool) → (V → I) → (I → Bool) → (I → List ℕ) → Bool → List ℕ → I → (I → Bool) → (V → Result T Fault → Type 0) → Result T Error → Type 0
+RowChecked values place shown row index null type_of null_type named names_own rust own reads_type reads r =
+    RowRead values place shown row index (Checked null type_of null_type named names_own rust own reads_type reads) r
+
 -- each answer that the read may give is a value or want of memory
 abbrev pub NeverRefuses : {T : Type 0} → (Result T Error → Type 0) → Type 0
 NeverRefuses {T} read = (r : Result T Error) → read r → IsGiven r

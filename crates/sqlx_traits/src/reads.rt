@@ -3,7 +3,7 @@
 ghost use Rattle.std.specs.Prelude.{◌≡◌, ◌⊎◌, ◌||◌, Err, IfOk, Ok, true};
 ghost use Rattle.sqlx_text.specs.declared.error.Error.{Error};
 ghost use Rattle.sqlx_traits.specs.Places.{IsGiven};
-ghost use Rattle.sqlx_traits.specs.Reads.{Checked, GivesValue, Misfit, NeverRefuses, RowRead, ValueRead, column_error, fits, mismatch_of, with_error};
+ghost use Rattle.sqlx_traits.specs.Reads.{Checked, GivesValue, Misfit, NeverRefuses, RowChecked, RowRead, ValueRead, column_error, fits, mismatch_of, with_error};
 
 use crate::sql_type::mismatched;
 use crate::{ColumnIndex, Database, Decode, DecodeOwned, Row, SqlType, TypeInfo, Value};
@@ -104,8 +104,8 @@ pub fn get<'r, DB: Database, T: Decode<'r, DB> + SqlType<DB>, I: ColumnIndex<DB:
 ) -> Result<T, OutOfMemory>
 where
     DB::Value: 'r,
-    requires { NeverRefuses (RowRead DB.Row.values I.place I.shown row.now index (Checked DB.Value.null DB.Value.type_of DB.TypeInfo.null_type DB.TypeInfo.named DB.Row.NAMES_OWN T.called T.own_type T.reads_type T.reads)) }
-    ensures { GivesValue (RowRead DB.Row.values I.place I.shown row.now index (Checked DB.Value.null DB.Value.type_of DB.TypeInfo.null_type DB.TypeInfo.named DB.Row.NAMES_OWN T.called T.own_type T.reads_type T.reads)) result }
+    requires { NeverRefuses (RowChecked DB.Row.values I.place I.shown row.now index DB.Value.null DB.Value.type_of DB.TypeInfo.null_type DB.TypeInfo.named DB.Row.NAMES_OWN T.called T.own_type T.reads_type T.reads) }
+    ensures { GivesValue (RowChecked DB.Row.values I.place I.shown row.now index DB.Value.null DB.Value.type_of DB.TypeInfo.null_type DB.TypeInfo.named DB.Row.NAMES_OWN T.called T.own_type T.reads_type T.reads) result }
 {
     given(try_get::<DB, T, I>(alloc, row, index))
 }
