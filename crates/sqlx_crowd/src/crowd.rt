@@ -1,6 +1,6 @@
 //! The crowd: workers in threads of their own over one pool, and what they leave.
 
-ghost use Rattle.std.specs.Prelude.{◌≡◌, ◌⊎◌, ℕ, ◌+◌, ◌*◌, ◌^◌, ◌<◌, ◌≤◌, IfErr, IfOk, None, Err, string_bytes, vec_len};
+ghost use Rattle.std.specs.Prelude.{◌≡◌, ◌⊎◌, ℕ, ◌+◌, ◌*◌, ◌^◌, ◌<◌, ◌≤◌, IfErr, IfOk, None, Err, false, string_bytes, vec_len};
 ghost use Rattle.sqlx_text.specs.declared.error.Error.{Error};
 ghost use Rattle.sqlx_traits.specs.Options.{ReadsText};
 ghost use Rattle.sqlx_crowd.specs.Crowd.{LeavesLog};
@@ -162,7 +162,8 @@ fn audited<DB: Database, H: Ledger, L: Loans, R: Wait>(
 ) -> Result<String, OutOfMemory>
 where
     DB::Connection: Drop,
-    requires { all.old.parts ≡ L.parts }
+    requires parts { all.old.parts ≡ L.parts }
+    requires uncut { L.cuts ≡ false }
     ensures text { IfOk result (λ text. LeavesLog L.max all.old.loans (string_bytes text)) }
     ensures same { all.new ≡ all.old }
 {
@@ -190,6 +191,7 @@ fn crowd_on<
     requires few { vec_len outs < 2 ^ 16 }
     requires parts { vec_len outs < L.parts }
     requires whole { tally ≡ record { parts = L.parts; loans = 0 } }
+    requires uncut { L.cuts ≡ false }
     ensures text { IfOk result (λ crowd. LeavesLog L.max (vec_len outs * loans) (string_bytes crowd.text)) }
     ensures tally { IfOk result (λ crowd. crowd.tally ≡ record { parts = L.parts; loans = vec_len outs * loans }) }
 {
@@ -222,6 +224,7 @@ pub fn crowd_with<
     requires loans { (1 ≤ loans) × (loans ≤ 1000) }
     requires maximum { (1 ≤ maximum) × (maximum ≤ 16) }
     requires max { maximum ≡ L.max }
+    requires uncut { L.cuts ≡ false }
     requires held { (held.name ≡ H.name) × (held.parts ≡ H.parts) × (held.parts ≡ 2 ^ 32) }
     requires made { (made.name ≡ L.name) × (made.parts ≡ L.parts) × (made.parts ≡ 2 ^ 32) }
     ensures text { IfOk result (λ crowd. LeavesLog maximum (vec_len outs * loans) (string_bytes crowd.text)) }

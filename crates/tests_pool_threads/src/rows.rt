@@ -97,8 +97,8 @@ fn polled<C: Depth + Drop, O: Drop, H: Ledger, L: Loans, R: Wait, X: Outside<C, 
     }
 }
 
-// Asks, polls and returns: whether the connection was kept.
-fn lend_and_return<C: Depth + Drop, O: Drop, H: Ledger, L: Loans, R: Wait, X: Outside<C, O>>(
+/// Asks, polls and returns: whether the connection was kept.
+pub fn lend_and_return<C: Depth + Drop, O: Drop, H: Ledger, L: Loans, R: Wait, X: Outside<C, O>>(
     rt: &R,
     alloc: Global,
     pool: &PoolOf<C, O, H, L>,
