@@ -248,25 +248,4 @@ impl<C: Depth + Drop, O: Drop, H: Ledger, L: Loans> PoolOf<C, O, H, L> {
         guard.facts();
         guard.read_log(alloc)
     }
-
-    /// As `read_log`, by the tally with every part: the log has as many `Lent` marks as that has counted loans, however
-    /// many threads made them.
-    pub fn audit_log<R: Wait>(
-        &self,
-        rt: &R,
-        alloc: Global,
-        all: &mut Tally<L>,
-    ) -> Result<MarkLog, OutOfMemory>
-        requires { all.old.parts ≡ L.parts }
-        ensures start { IfOk result (λ log. log.start.items ≡ []) }
-        ensures fair { IfOk result (λ log. IsFair L.max log.start.items log.marks.items) }
-        ensures counted { IfOk result (λ log. lents log.marks.items ≡ all.old.loans) }
-        ensures same { all.new ≡ all.old }
-    {
-        let mut guard = self.shared.locked.lock(rt);
-        guard.audit(all);
-        guard.facts();
-        let marks = guard.read_log(alloc)?;
-        Ok(MarkLog::new(Vec::new(alloc), marks))
-    }
 }
