@@ -1,7 +1,9 @@
 -- What holds of every core's value holds after a reap, after the minimum and after a close.
-use Rattle.std.proofs.Common.{◌≡◌, ℕ, suc, ◌+◌, ◌-◌, ◌<◌, ◌≤◌, List, [], ◌∷◌, ◌++◌, length, refl, ap, sym, ◌∙◌, arith, find, get_or, slice_index_or, Bool, true, false, not, cond, ltb, count_by, Option, Some, None, IfSome, OnSome, IsSome, inl, inr, length-append}
+use Rattle.std.proofs.Common.{◌≡◌, ℕ, suc, ◌+◌, ◌-◌, ◌<◌, ◌≤◌, List, [], ◌∷◌, ◌++◌, length, refl, ap, sym, ◌∙◌, arith, find, get_or, slice_index_or, Bool, true, false, not, cond, ltb, count_by, Option, Some, None, is_some, ◌||◌, IfSome, OnSome, IsSome, inl, inr, length-append}
 use Rattle.std.specs.List.{position_or_len, remove}
 use Rattle.std.proofs.lemmas.Bool.Decides.{eqb_tells}
+use Rattle.sqlx_log.specs.EventTable.{is_beyond}
+use Rattle.sqlx_pool_core.specs.declared.options.PoolOptions.{PoolOptions}
 use Rattle.sqlx_pool_core.specs.declared.steps.Idle.{Idle}
 use Rattle.sqlx_pool_core.specs.Core.{Core}
 use Rattle.sqlx_pool_core.specs.Sound.{IsSound, rests}
@@ -189,3 +191,18 @@ sound-shut core idle s none =
       once = λ c. let w = s.once c in let k = count c in omega (arith, w, k);
       opened = λ c n. let w = s.opened c n in let k = count c in omega (arith, w, k);
     }
+
+-- ---- a pool without limits
+
+never_beyond : (a b : Option ℕ) → (is_some a || is_some b) ≡ false → (x y : ℕ) → (is_beyond a x || is_beyond b y) ≡ false
+never_beyond None None e x y = refl
+never_beyond None (Some k) e x y = cc
+never_beyond (Some k) b e x y = cc
+
+none_found : {X : Type 0} (p : X → Bool) → ((x : X) → p x ≡ false) → (xs : List X) → (find p xs ≡ None) × (without_first p xs ≡ xs)
+none_found p never [] = (refl, refl)
+none_found p never (x ∷ xs) = let rest = none_found p never xs in (rw (never x) rest.0, rw (never x) (ap (λ l. x ∷ l) rest.1))
+
+-- nothing of it is reaped
+pub none-limited : {C : Type 0} (options : PoolOptions) (m : ℕ) (idle : List (Idle C)) → (is_some options.idle_timeout || is_some options.max_lifetime) ≡ false → (find (is_reaped_at options m) idle ≡ None) × (without_first (is_reaped_at options m) idle ≡ idle)
+none-limited options m idle none = none_found (is_reaped_at options m) (λ i. never_beyond options.idle_timeout options.max_lifetime none (m - i.since.0) (m - i.lent.created.0)) idle

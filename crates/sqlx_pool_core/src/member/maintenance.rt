@@ -1,6 +1,6 @@
 //! The steps that keep a pool in shape: reaping, holding places for the minimum, and closing.
 
-ghost use Rattle.std.specs.Prelude.{◌≡◌, ℕ, ◌+◌, ◌-◌, ◌<◌, ◌≤◌, ◌^◌, ◌&&◌, not, nat_lt, max, min, List, [], ◌∷◌, Option, Some, None, true, false, find};
+ghost use Rattle.std.specs.Prelude.{◌≡◌, ℕ, ◌+◌, ◌-◌, ◌<◌, ◌≤◌, ◌^◌, ◌&&◌, ◌||◌, not, nat_lt, max, min, List, [], ◌∷◌, Option, Some, None, is_some, true, false, find};
 ghost use Rattle.std.specs.VecDeque.{deque_capacity};
 ghost use Rattle.sqlx_log.specs.declared.mark.Mark.{Mark};
 ghost use Rattle.sqlx_pool_core.specs.Core.{size, free};
@@ -30,6 +30,13 @@ fn is_reaped<C>(options: &PoolOptions, idle: &Idle<C>, moment: Moment) -> bool
     beyond(options.get_idle_timeout(), rest) || beyond(options.get_max_lifetime(), age)
 }
 
+// The pool has such a limit.
+fn has_limit(options: &PoolOptions) -> bool
+    ensures { result ≡ (is_some options.now.idle_timeout || is_some options.now.max_lifetime) }
+{
+    options.get_idle_timeout().is_some() || options.get_max_lifetime().is_some()
+}
+
 // Takes the first idle connection that is beyond a limit; the others keep their order.
 fn take_reaped<C>(
     options: &PoolOptions,
@@ -40,6 +47,9 @@ fn take_reaped<C>(
     ensures rest { idle.new.items ≡ without_first (is_reaped_at options.now moment.0) idle.old.items }
     ensures capacity { deque_capacity idle.new ≡ deque_capacity idle.old }
 {
+    if !has_limit(options) {
+        return None;
+    }
     let at = idle.iter().position(|i| is_reaped(options, i, moment))?;
     idle.remove(at)
 }
