@@ -25,6 +25,7 @@ pub mod AskCode
 pub mod MaintenanceCode
 pub mod BalanceLemmas
 pub mod Drawn
+pub mod SharedLemmas
 pub mod Alone
 pub mod MaintenanceAtMarks
 pub mod AnswersAtMarks

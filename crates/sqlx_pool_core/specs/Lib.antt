@@ -2,6 +2,7 @@ pub mod Defaults
 pub mod Limits
 pub mod Core
 pub mod Sound
+pub mod Shared
 pub mod StandsFor
 pub mod Makes
 pub mod Numbers

@@ -7,7 +7,7 @@
 
 pub mod idle_check;
 mod lists;
-mod member;
+pub mod member;
 mod options;
 mod outside;
 mod pool_core;

@@ -16,6 +16,7 @@ mod finish;
 mod give;
 mod maintenance;
 mod poll;
+pub mod shared;
 
 use crate::lists;
 use crate::options::PoolOptions;

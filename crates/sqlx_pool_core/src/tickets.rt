@@ -1,8 +1,9 @@
 //! The tickets that haven't ended, by their numbers: none of them is found, changed or ended by a look at the others.
-ghost use Rattle.std.specs.Prelude.{◌≡◌, ◌==◌, ◌*◌, ◌^◌, ◌<◌, ◌≤◌, nat_lt, true, if◌then◌else◌, [], ◌∷◌, ◌++◌, length, All, OnOk, OnErr};
+ghost use Rattle.std.specs.Prelude.{◌≡◌, ◌==◌, ◌*◌, ◌^◌, ◌<◌, ◌≤◌, nat_lt, true, if◌then◌else◌, [], ◌∷◌, ◌++◌, length, All, OnOk, OnErr, count_by, not, ◌&&◌};
 ghost use Rattle.sqlx_pool_core.specs.Core.{waiting, gone, ticket_of, has_gone, is_out, waits};
 ghost use Rattle.sqlx_pool_core.specs.Balance.{testing, left_to_test, all_left_to_test};
 ghost use Rattle.sqlx_pool_core.specs.CoreTurn.{before};
+ghost use Rattle.sqlx_pool_core.specs.Shared.{waits_before};
 ghost use Rattle.sqlx_pool_core.specs.Edits.{without_ticket, with_ticket};
 
 use crate::ticket::{Phase, Ticket};
@@ -134,6 +135,16 @@ impl Tickets {
             .values()
             .take_while(|x| number != x.number)
             .filter(|x| !x.phase.is_out())
+            .count()
+    }
+
+    /// How many waiting tickets have a smaller number.
+    pub fn waiting_before(&self, number: u64) -> usize
+        ensures { result ≡ count_by (waits_before number) self.now }
+    {
+        self.by_number
+            .values()
+            .filter(|x| !x.phase.is_out() && x.number < number)
             .count()
     }
 

@@ -31,8 +31,8 @@ pub(super) fn beyond(limit: Option<u64>, duration: u64) -> bool
 }
 
 impl<C> Member<C> {
-    // A connection of this opening is too old at the moment.
-    fn too_old(&self, created: Moment, moment: Moment) -> bool
+    /// A connection of this opening is too old at the moment.
+    pub fn too_old(&self, created: Moment, moment: Moment) -> bool
         ensures { result ≡ is_too_old (limits_of self.now.options) created.0 moment.0 }
     {
         let age = moment.0.saturating_sub(created.0);

@@ -1,0 +1,5 @@
+pub mod Entries
+pub mod FamilyLemmas
+pub mod LogLemmas
+pub mod RootLineLemmas
+pub mod PollLemmas

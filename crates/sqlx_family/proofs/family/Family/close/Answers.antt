@@ -1,0 +1,18 @@
+use Rattle.std.proofs.Common.{◌<◌, length}
+use Rattle.sqlx_pool_core.specs.Core.{Core}
+use Rattle.sqlx_pool_core.specs.MaintenanceSteps.{close_marks}
+use Rattle.sqlx_family.proofs.FamilyLemmas.{family-closed}
+use Rattle.sqlx_family.proofs.LogLemmas.{logs-kept-of}
+use Rattle.sqlx_family.proofs.family.Family.close.Goals as goal
+
+pub returns-clause-makes : goal.returns-clause-makes
+returns-clause-makes g c =
+    let here : c.args.pool < length c.self.inside.pools.items = rw (← c.self.view_is) at c.requires.named in
+    logs-kept-of (λ (core : Core _). close_marks core.shut c.close-answer.result.items) c.self.inside.pools.items c.self.inside.shared _ c.args.pool c.index_mut.result.now c.hear.new.self c.close-answer.new.self c.self.view_is here c.index_mut.ensures.value
+    c.counts_as_closed-closed.result c.counts_as_closed-closed.ensures c.hear.ensures c.close-answer.ensures.makes c.close-answer.ensures.draws c.shared-self-inside.ensures
+
+pub invariant_of-self : goal.invariant_of-self
+invariant_of-self g c =
+    let here : c.args.pool < length c.self.inside.pools.items = rw (← c.self.view_is) at c.requires.named in
+    family-closed c.self.inside.pools.items c.self.inside.shared c.args.pool c.index_mut.result.now c.hear.new.self c.close-answer.new.self c.self.invariant here c.index_mut.ensures.value c.counts_as_closed-closed.result
+    _ c.hear.ensures c.close-answer.ensures.becomes c.close-answer.ensures.draws c.sound.ensures c.shared-self-inside.ensures
