@@ -8,8 +8,6 @@ use std::test::*;
 use tests_backend::StubBackend;
 use tests_backend::cells::{self, described, listed};
 
-type Db = Any<StubBackend>;
-
 // The name of a Rust type, its own type, and whether it reads a value of the type.
 fn typed<DB: Database, T: SqlType<DB>>(
     alloc: Global,
@@ -45,25 +43,55 @@ fn sized<'t, DB: Database, T: Encode<'t, DB>>(value: &T) -> (usize, bool) {
     (value.size_hint(), value.produces().is_some())
 }
 
-// All that is told of a value as an argument.
-fn argument<'t, T: Encode<'t, Db> + SqlType<Db> + Drop>(
+// What is told of a value as an argument, and whether it and no value count as null, which are added in turn.
+fn described_as<'t, DB: Database, T: Encode<'t, DB> + SqlType<DB> + Drop>(
+    alloc: Global,
+    other: &DB::TypeInfo,
+    args: &mut DB::Arguments,
+    value: T,
+) -> Result<(String, (bool, bool)), Error>
+where
+    Option<T>: Encode<'t, DB>,
+{
+    let ty = typed::<DB, T>(alloc, other)?;
+    let (size, produces) = sized::<DB, T>(&value);
+    let nulls = bound::<DB, T>(alloc, args, value)?;
+    let text = format!(in alloc; "{ty} {size} {produces}")?;
+    Ok((text, nulls))
+}
+
+// The same with the list that it makes.
+fn argument<'t, B: AnyConnectionBackend, T: Encode<'t, Any<B>> + SqlType<Any<B>> + Drop>(
     alloc: Global,
     value: T,
 ) -> Result<String, Error>
 where
-    Option<T>: Encode<'t, Db>,
+    Option<T>: Encode<'t, Any<B>>,
 {
     let kind = AnyTypeInfoKind::Integer;
-    let ty = typed::<Db, T>(alloc, &AnyTypeInfo { kind })?;
-    let (size, produces) = sized::<Db, T>(&value);
-    let mut args = <AnyArguments as Arguments<Db>>::new(alloc);
-    match bound::<Db, T>(alloc, &mut args, value) {
-        Ok((told, null)) => {
-            let values = listed(alloc, args.values.as_slice())?;
-            Ok(format!(in alloc; "{ty} {size} {produces} {values}{told} {null}")?)
-        }
-        Err(fault) => Err(Error::encode(fault)),
-    }
+    let values = AnyArgumentBuffer::new(alloc);
+    let mut args = AnyArguments { values };
+    let told = described_as::<Any<B>, T>(alloc, &AnyTypeInfo { kind }, &mut args, value);
+    let values = listed(alloc, args.values.as_slice());
+    drop(args);
+    let (values, (text, (told, null))) = (values?, told?);
+    Ok(format!(in alloc; "{text} {values}{told} {null}")?)
+}
+
+fn of_bool<B: AnyConnectionBackend>(alloc: Global) -> Result<String, Error> {
+    argument::<B, bool>(alloc, true)
+}
+
+fn of_i16<B: AnyConnectionBackend>(alloc: Global) -> Result<String, Error> {
+    argument::<B, i16>(alloc, -5)
+}
+
+fn of_i32<B: AnyConnectionBackend>(alloc: Global) -> Result<String, Error> {
+    argument::<B, i32>(alloc, 5)
+}
+
+fn of_i64<B: AnyConnectionBackend>(alloc: Global) -> Result<String, Error> {
+    argument::<B, i64>(alloc, 70_000)
 }
 
 #[test]
@@ -71,93 +99,147 @@ fn numbers_are_arguments(rt: HostRuntime) -> Result<(), Fail> {
     let alloc = rt.alloc();
     says(
         &rt,
-        argument::<bool>(alloc, true),
+        of_bool::<StubBackend>(alloc),
         "bool BOOLEAN false 1 false Bool true|Bool true|Null BOOLEAN|false true",
     )?;
     says(
         &rt,
-        argument::<i16>(alloc, -5),
+        of_i16::<StubBackend>(alloc),
         "i16 SMALLINT true 2 false SmallInt -5|SmallInt -5|Null SMALLINT|false true",
     )?;
     says(
         &rt,
-        argument::<i32>(alloc, 5),
+        of_i32::<StubBackend>(alloc),
         "i32 INTEGER true 4 false Integer 5|Integer 5|Null INTEGER|false true",
     )?;
     says(
         &rt,
-        argument::<i64>(alloc, 70_000),
+        of_i64::<StubBackend>(alloc),
         "i64 BIGINT true 8 false BigInt 70000|BigInt 70000|Null BIGINT|false true",
     )
+}
+
+fn of_str<B: AnyConnectionBackend>(alloc: Global) -> Result<String, Error> {
+    argument::<B, &str>(alloc, "milk")
+}
+
+fn of_string<B: AnyConnectionBackend>(alloc: Global) -> Result<String, Error> {
+    argument::<B, String>(alloc, cells::owned(alloc)?)
+}
+
+fn of_slice<B: AnyConnectionBackend>(alloc: Global) -> Result<String, Error> {
+    argument::<B, &[u8]>(alloc, &[1, 2])
+}
+
+fn of_vec<B: AnyConnectionBackend>(alloc: Global) -> Result<String, Error> {
+    argument::<B, Vec<u8>>(alloc, cells::bytes(alloc)?)
 }
 
 #[test]
 fn texts_and_bytes_are_arguments(rt: HostRuntime) -> Result<(), Fail> {
     let alloc = rt.alloc();
-    let owned = cells::owned(alloc)?;
-    let bytes = cells::bytes(alloc)?;
     says(
         &rt,
-        argument::<&str>(alloc, "milk"),
+        of_str::<StubBackend>(alloc),
         "&str TEXT false 4 false Text milk|Text milk|Null TEXT|false true",
     )?;
     says(
         &rt,
-        argument::<String>(alloc, owned),
+        of_string::<StubBackend>(alloc),
         "String TEXT false 1 false Text x|Text x|Null TEXT|false true",
     )?;
     says(
         &rt,
-        argument::<&[u8]>(alloc, &[1, 2]),
+        of_slice::<StubBackend>(alloc),
         "&[u8] BLOB false 2 false Blob [1, 2]|Blob [1, 2]|Null BLOB|false true",
     )?;
     says(
         &rt,
-        argument::<Vec<u8>>(alloc, bytes),
+        of_vec::<StubBackend>(alloc),
         "Vec<u8> BLOB false 2 false Blob [1, 2]|Blob [1, 2]|Null BLOB|false true",
     )
 }
 
+// An option that is lent: whether it counts as null, the list behind it, and what is told of it and of none.
+fn option<'t, DB: Database<ArgumentBuffer = AnyArgumentBuffer>, T: Encode<'t, DB>>(
+    alloc: Global,
+    some: &T,
+    none: &T,
+) -> Result<String, Error> {
+    let mut list = AnyArgumentBuffer::new(alloc);
+    let told = some.encode_by_ref(alloc, &mut list);
+    let listed = listed(alloc, list.as_slice());
+    drop(list);
+    let (null, listed) = (told?.is_null(), listed?);
+    let (some, none) = (sized::<DB, T>(some), sized::<DB, T>(none));
+    Ok(format!(in alloc; "{null} {listed} {some:?} {none:?}")?)
+}
+
+fn of_option<B: AnyConnectionBackend>(alloc: Global) -> Result<String, Error> {
+    option::<Any<B>, Option<i64>>(alloc, &Some(5), &None)
+}
+
 #[test]
 fn options_are_arguments(rt: HostRuntime) -> Result<(), Fail> {
-    let alloc = rt.alloc();
-    let some = Some(5i64);
-    let mut list = AnyArgumentBuffer::new(alloc);
-    let told = Encode::<Db>::encode_by_ref(&some, alloc, &mut list);
-    assert_eq!(rt; told.ok(), Some(IsNull::No));
-    assert_eq!(rt; listed(alloc, list.as_slice())?.as_str(), "BigInt 5|");
-    let sizes = [
-        sized::<Db, Option<i64>>(&some),
-        sized::<Db, Option<i64>>(&None),
-    ];
-    assert_eq!(rt; sizes, [(8, false), (0, false)]);
-    Ok(())
+    let told = of_option::<StubBackend>(rt.alloc());
+    says(&rt, told, "false BigInt 5| (8, false) (0, false)")
 }
 
-// A list of three arguments, cut to so many.
-fn cut(alloc: Global, len: usize) -> Result<AnyArguments, Fault> {
-    let mut args = <AnyArguments as Arguments<Db>>::new(alloc);
-    Arguments::<Db>::reserve(&mut args, alloc, 3, 12)?;
-    Arguments::<Db>::add(&mut args, alloc, 5i32)?;
-    Arguments::<Db>::add(&mut args, alloc, "x")?;
-    Arguments::<Db>::add(&mut args, alloc, None::<i64>)?;
-    Arguments::<Db>::truncate(&mut args, len);
-    Ok(args)
+// Fills a list with three arguments.
+fn fill<'t, DB: Database>(alloc: Global, args: &mut DB::Arguments) -> Result<(), Fault>
+where
+    i32: Encode<'t, DB> + SqlType<DB>,
+    &'t str: Encode<'t, DB> + SqlType<DB>,
+    Option<i64>: Encode<'t, DB> + SqlType<DB>,
+{
+    args.reserve(alloc, 3, 12)?;
+    args.add(alloc, 5i32)?;
+    args.add(alloc, "x")?;
+    args.add(alloc, None::<i64>)
 }
 
-// How many there are, as told in two ways, their placeholder, and the values.
-fn kept(alloc: Global, len: usize) -> Result<String, Error> {
-    let args = match cut(alloc, len) {
-        Ok(args) => ImmutableArguments::<Db>(args).into_arguments(),
-        Err(fault) => return Err(Error::encode(fault)),
-    };
-    let len = Arguments::<Db>::len(&args);
-    let listed_len = ArgumentList::len(&args.values);
+// A list of three arguments, cut to so many; how many there are then, and their placeholder.
+fn cut<'t, DB: Database>(alloc: Global, len: usize) -> Result<(DB::Arguments, String), Error>
+where
+    i32: Encode<'t, DB> + SqlType<DB>,
+    &'t str: Encode<'t, DB> + SqlType<DB>,
+    Option<i64>: Encode<'t, DB> + SqlType<DB>,
+{
+    let mut args = DB::Arguments::new(alloc);
+    let filled = fill::<DB>(alloc, &mut args);
+    args.truncate(len);
+    let args = ImmutableArguments::<DB>(args).into_arguments();
+    match filled {
+        Ok(()) => match counted::<DB>(alloc, &args) {
+            Ok(text) => Ok((args, text)),
+            Err(want) => {
+                drop(args);
+                Err(want.into())
+            }
+        },
+        Err(fault) => {
+            drop(args);
+            Err(Error::encode(fault))
+        }
+    }
+}
+
+fn counted<DB: Database>(alloc: Global, args: &DB::Arguments) -> Result<String, OutOfMemory> {
+    let len = args.len();
     let mut text = "a = ".to_string(alloc)?;
-    Arguments::<Db>::format_placeholder(&args, alloc, &mut text)?;
+    args.format_placeholder(alloc, &mut text)?;
+    Ok(format!(in alloc; "{len} {text}")?)
+}
+
+// The same, how many the list itself counts, and the values.
+fn kept<B: AnyConnectionBackend>(alloc: Global, len: usize) -> Result<String, Error> {
+    let (args, text) = cut::<Any<B>>(alloc, len)?;
+    let listed_len = ArgumentList::len(&args.values);
     let values = args.values.into_values();
-    let values = listed(alloc, values.as_slice())?;
-    Ok(format!(in alloc; "{len} {listed_len} {text} {values}")?)
+    let listed = listed(alloc, values.as_slice());
+    drop(values);
+    let listed = listed?;
+    Ok(format!(in alloc; "{listed_len} {text} {listed}")?)
 }
 
 #[test]
@@ -168,7 +250,7 @@ fn keeps_the_first_arguments(rt: HostRuntime) -> Result<(), Fail> {
         (2, "2 2 a = ? Integer 5|Text x|"),
         (0, "0 0 a = ? "),
     ] {
-        says(&rt, kept(alloc, len), want)?;
+        says(&rt, kept::<StubBackend>(alloc, len), want)?;
     }
     Ok(())
 }

@@ -1,62 +1,16 @@
 //! The calls of a connection besides queries, and its levels.
-ghost use Rattle.std.specs.Prelude.{◌≡◌};
-
 use crate::says::says;
 use sqlx_any::*;
-use sqlx_text::{Depth, Error, SqlStr};
+use sqlx_text::{Depth, Error, OutOfMemory};
 use std::alloc::Global;
 use std::test::*;
-use tests_backend::StubBackend;
+use tests_backend::acts::{Act, answers};
+use tests_backend::{Call, StubBackend};
 use tests_database::answers::shown;
 
-// A call of a connection.
-#[derive(Clone, Copy, PartialEq, Eq)]
-enum Act {
-    Ping,
-    Clear,
-    Shrink,
-    Flush,
-    Begin,
-    BeginWith,
-    Commit,
-    Rollback,
-    StartRollback,
-}
+const NEW: &[Act] = &[];
 
-fn perform<DB: Database>(alloc: Global, act: Act, conn: &mut DB::Connection) -> Result<(), Error> {
-    match act {
-        Act::Ping => conn.ping(),
-        Act::Clear => conn.clear_cached_statements(),
-        Act::Shrink => {
-            conn.shrink_buffers();
-            Ok(())
-        }
-        Act::Flush => conn.flush(),
-        _ => of_levels::<DB>(alloc, act, conn),
-    }
-}
-
-// A call of the levels; none that ends one where none is open.
-fn of_levels<DB: Database>(
-    alloc: Global,
-    act: Act,
-    conn: &mut DB::Connection,
-) -> Result<(), Error> {
-    match act {
-        Act::Begin => DB::TransactionManager::begin(alloc, conn, None),
-        Act::BeginWith => {
-            let sql = SqlStr::from_static("BEGIN IMMEDIATE");
-            DB::TransactionManager::begin(alloc, conn, Some(sql))
-        }
-        _ if DB::TransactionManager::get_transaction_depth(conn) == 0 => Ok(()),
-        Act::Commit => DB::TransactionManager::commit(alloc, conn),
-        Act::Rollback => DB::TransactionManager::rollback(alloc, conn),
-        _ => {
-            DB::TransactionManager::start_rollback(conn);
-            Ok(())
-        }
-    }
-}
+const BEGUN: &[Act] = &[Act::Call(Call::Begin)];
 
 // A connection whose calls are refused, or aren't.
 fn set(conn: AnyConnection<StubBackend>, refuses: bool) -> AnyConnection<StubBackend> {
@@ -65,36 +19,38 @@ fn set(conn: AnyConnection<StubBackend>, refuses: bool) -> AnyConnection<StubBac
     AnyConnection::new(backend)
 }
 
-// The last call of the backend, the depth and the answer.
-fn of_any(alloc: Global, begun: bool, refuses: bool, call: Act) -> Result<String, Error> {
+// What came before, the last call of the backend, the answer and the depth.
+fn of_any(alloc: Global, before: &[Act], refuses: bool, call: Call) -> Result<String, Error> {
     let mut conn = AnyConnection::new(StubBackend::new(alloc, "")?);
-    if begun {
-        perform::<Any<StubBackend>>(alloc, Act::Begin, &mut conn)?;
-    }
+    let before = answers(alloc, &mut conn, before);
     let mut conn = set(conn, refuses);
-    let answer = shown(alloc, perform::<Any<StubBackend>>(alloc, call, &mut conn))?;
+    let line = answers(alloc, &mut conn, &[Act::Call(call), Act::Depth]);
     let last = conn.backend().last;
-    let depth = conn.depth();
-    Ok(format!(in alloc; "{last:?} {depth} {answer}")?)
+    drop(conn);
+    let (before, line) = (before?, line?);
+    Ok(format!(in alloc; "{before}{last:?} {line}")?)
 }
 
 #[test]
 fn a_connection_asks_its_backend(rt: HostRuntime) -> Result<(), Fail> {
     let alloc = rt.alloc();
-    for (begun, call, want) in [
-        (false, Act::Ping, "Some(Ping) 0 ()"),
-        (false, Act::Clear, "Some(Clear) 0 ()"),
-        (false, Act::Shrink, "Some(Shrink) 0 ()"),
-        (false, Act::Flush, "Some(Flush) 0 ()"),
-        (false, Act::Begin, "Some(Begin) 1 ()"),
-        (false, Act::BeginWith, "Some(BeginWith) 1 ()"),
-        (true, Act::Begin, "Some(Begin) 2 ()"),
-        (true, Act::Commit, "Some(Commit) 0 ()"),
-        (true, Act::Rollback, "Some(Rollback) 0 ()"),
-        (true, Act::StartRollback, "Some(StartRollback) 0 ()"),
+    for (call, want) in [
+        (Call::Ping, "Some(Ping) ()|0|"),
+        (Call::Clear, "Some(Clear) ()|0|"),
+        (Call::Shrink, "Some(Shrink) ()|0|"),
+        (Call::Flush, "Some(Flush) ()|0|"),
+        (Call::Begin, "Some(Begin) ()|1|"),
+        (Call::BeginWith, "Some(BeginWith) ()|1|"),
     ] {
-        let answer = of_any(alloc, begun, false, call);
-        says(&rt, answer, want)?;
+        says(&rt, of_any(alloc, NEW, false, call), want)?;
+    }
+    for (call, want) in [
+        (Call::Begin, "()|Some(Begin) ()|2|"),
+        (Call::Commit, "()|Some(Commit) ()|0|"),
+        (Call::Rollback, "()|Some(Rollback) ()|0|"),
+        (Call::StartRollback, "()|Some(StartRollback) ()|0|"),
+    ] {
+        says(&rt, of_any(alloc, BEGUN, false, call), want)?;
     }
     Ok(())
 }
@@ -102,54 +58,57 @@ fn a_connection_asks_its_backend(rt: HostRuntime) -> Result<(), Fail> {
 #[test]
 fn a_connection_hands_on_refusals(rt: HostRuntime) -> Result<(), Fail> {
     let alloc = rt.alloc();
-    let inside = of_any(alloc, true, false, Act::BeginWith);
+    let refused = "error communicating with database: other error";
     says(
         &rt,
-        inside,
-        "Some(Begin) 1 attempted to call begin_with at non-zero transaction depth",
+        of_any(alloc, BEGUN, false, Call::BeginWith),
+        "()|Some(Begin) attempted to call begin_with at non-zero transaction depth|1|",
     )?;
-    for (begun, call, last) in [
-        (false, Act::Ping, "Some(Ping) 0"),
-        (false, Act::Clear, "Some(Clear) 0"),
-        (false, Act::Flush, "Some(Flush) 0"),
-        (false, Act::Begin, "Some(Begin) 0"),
-        (true, Act::Commit, "Some(Commit) 0"),
-        (true, Act::Rollback, "Some(Rollback) 0"),
+    for (before, call, last) in [
+        (NEW, Call::Ping, "Some(Ping)"),
+        (NEW, Call::Clear, "Some(Clear)"),
+        (NEW, Call::Flush, "Some(Flush)"),
+        (NEW, Call::Begin, "Some(Begin)"),
+        (BEGUN, Call::Commit, "()|Some(Commit)"),
+        (BEGUN, Call::Rollback, "()|Some(Rollback)"),
     ] {
-        let answer = of_any(alloc, begun, true, call);
-        let want = format!(in alloc; "{last} error communicating with database: other error")?;
-        says(&rt, answer, want.as_str())?;
+        let want = format!(in alloc; "{last} {refused}|0|")?;
+        says(&rt, of_any(alloc, before, true, call), want.as_str())?;
     }
     Ok(())
 }
 
-// What a connection tells of itself: how many statements are cached, and whether something waits to be flushed.
-fn tells<DB: Database>(alloc: Global, conn: DB::Connection) -> Result<String, Error> {
+// What a connection tells of itself: its backend's name, whether a level is open, how many statements are cached,
+// whether something waits to be flushed, its depth, and how it closes.
+fn tells<B: AnyConnectionBackend>(
+    alloc: Global,
+    conn: AnyConnection<B>,
+) -> Result<String, OutOfMemory> {
+    let name = conn.backend_name().to_string(alloc);
+    let inside = conn.backend().is_in_transaction();
     let cached = conn.cached_statements_size();
     let waits = conn.should_flush();
     let depth = conn.depth();
-    let closed = shown(alloc, conn.close())?;
-    Ok(format!(in alloc; "{cached} {waits} {depth} {closed}")?)
+    let closed = shown(alloc, conn.close());
+    let (name, closed) = (name?, closed?);
+    Ok(format!(in alloc; "{name} {inside} {cached} {waits} {depth} {closed}")?)
 }
 
-fn any_tells(alloc: Global) -> Result<String, Error> {
-    let conn = AnyConnection::new(StubBackend::new(alloc, "")?);
-    let name = conn.backend_name().to_string(alloc);
-    let inside = conn.backend().is_in_transaction();
-    let told = tells::<Any<StubBackend>>(alloc, conn)?;
-    let name = name?;
-    Ok(format!(in alloc; "{name} {inside} {told}")?)
-}
-
-fn closed_hard(alloc: Global) -> Result<String, Error> {
-    let conn = AnyConnection::new(StubBackend::new(alloc, "")?);
-    Ok(shown(alloc, conn.close_hard())?)
+fn closes_hard<B: AnyConnectionBackend>(
+    alloc: Global,
+    conn: AnyConnection<B>,
+) -> Result<String, OutOfMemory> {
+    shown(alloc, conn.close_hard())
 }
 
 #[test]
 fn connections_tell_of_themselves(rt: HostRuntime) -> Result<(), Fail> {
     let alloc = rt.alloc();
-    says(&rt, any_tells(alloc), "stub false 0 false 0 ()")?;
-    says(&rt, closed_hard(alloc), "()")?;
+    let conn = AnyConnection::new(StubBackend::new(alloc, "")?);
+    let told = tells(alloc, conn)?;
+    assert_eq!(rt; told.as_str(), "stub false 0 false 0 ()");
+    let conn = AnyConnection::new(StubBackend::new(alloc, "")?);
+    let closed = closes_hard(alloc, conn)?;
+    assert_eq!(rt; closed.as_str(), "()");
     Ok(())
 }

@@ -58,9 +58,19 @@ fn calls_filter_one_list(rt: HostRuntime) -> Result<(), Fail> {
     Ok(())
 }
 
+fn gives_over<B: AnyConnectionBackend>(
+    alloc: Global,
+    call: Call,
+    conn: &mut AnyConnection<B>,
+) -> Result<String, Error> {
+    gives::<Any<B>, AnyConnection<B>, &str>(alloc, call, conn, "SELECT")
+}
+
 fn of_any(alloc: Global, call: Call, letters: &str) -> Result<String, Error> {
     let mut conn = AnyConnection::new(StubBackend::new(alloc, letters)?);
-    gives::<Any<StubBackend>, AnyConnection<StubBackend>, &str>(alloc, call, &mut conn, "SELECT")
+    let given = gives_over(alloc, call, &mut conn);
+    drop(conn);
+    given
 }
 
 #[test]
@@ -88,10 +98,7 @@ fn a_connection_hands_on_its_backends_list(rt: HostRuntime) -> Result<(), Fail> 
 }
 
 // How many columns and parameters a statement has, and its text.
-fn told_of<DB: Database>(
-    alloc: Global,
-    statement: Result<DB::Statement, Error>,
-) -> Result<String, Error> {
+fn told_of(alloc: Global, statement: Result<AnyStatement, Error>) -> Result<String, Error> {
     let statement = statement?;
     let columns = statement.columns().len();
     let parameters = match statement.parameters() {
@@ -105,17 +112,25 @@ fn told_of<DB: Database>(
 }
 
 // A statement that is prepared for a text as its parameter, or for none.
-fn prepared(alloc: Global, with: bool) -> Result<String, Error> {
-    let mut conn = AnyConnection::new(StubBackend::new(alloc, "")?);
+fn prepares<B: AnyConnectionBackend>(
+    alloc: Global,
+    with: bool,
+    conn: &mut AnyConnection<B>,
+) -> Result<AnyStatement, Error> {
     let sql = SqlStr::from_static("SELECT");
     let kind = AnyTypeInfoKind::Text;
-    let statement = if with {
+    if with {
         conn.prepare_with(alloc, sql, &[AnyTypeInfo { kind }])
     } else {
         conn.prepare(alloc, sql)
-    };
+    }
+}
+
+fn prepared(alloc: Global, with: bool) -> Result<String, Error> {
+    let mut conn = AnyConnection::new(StubBackend::new(alloc, "")?);
+    let statement = prepares(alloc, with, &mut conn);
     drop(conn);
-    told_of::<Any<StubBackend>>(alloc, statement)
+    told_of(alloc, statement)
 }
 
 #[test]

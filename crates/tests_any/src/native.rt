@@ -147,7 +147,9 @@ fn statement(alloc: Global, letters: &str) -> Result<String, Error> {
         types: types_of(alloc, letters)?,
     };
     let form = AnyStatement::try_from_statement::<Toy>(alloc, own, names)?;
-    Ok(told_of(alloc, &form)?)
+    let told = told_of(alloc, &form);
+    drop(form);
+    Ok(told?)
 }
 
 #[test]

@@ -7,8 +7,6 @@ use std::alloc::Global;
 use std::test::*;
 use tests_backend::{StubBackend, cells};
 
-type Db = Any<StubBackend>;
-
 // Names with their positions: `x` is at 3 and then at the one given, `y` at 0.
 fn names(alloc: Global, position: usize) -> Result<ColumnNames, OutOfMemory> {
     let mut names = ColumnNames::new(alloc);
@@ -68,9 +66,12 @@ fn statement(
 // How many columns and values a copy of the row has.
 fn lengths(alloc: Global, row: Result<AnyRow, Error>) -> Result<String, Error> {
     let row = row?;
-    let copy = row.try_clone(alloc)?;
+    let copy = row.try_clone(alloc);
+    drop(row);
+    let copy = copy?;
     let columns = copy.columns().len();
     let (len, empty) = (copy.len(), copy.is_empty());
+    drop(copy);
     Ok(format!(in alloc; "{columns} {len} {empty}")?)
 }
 
@@ -90,11 +91,15 @@ fn rows_fit(rt: HostRuntime) -> Result<(), Fail> {
     Ok(())
 }
 
+fn origin<B: AnyConnectionBackend>(column: &AnyColumn) -> ColumnOrigin {
+    Column::<Any<B>>::origin(column)
+}
+
 // A column's position, name, type and origin.
 fn described(alloc: Global, column: &AnyColumn) -> Result<String, OutOfMemory> {
     let copy = column.try_clone(alloc)?;
     let (at, name, ty) = (copy.ordinal(), copy.name(), copy.type_info());
-    let origin = Column::<Db>::origin(&copy);
+    let origin = origin::<StubBackend>(&copy);
     let text = format!(in alloc; "{at} {name} {ty} {origin:?}");
     drop(origin);
     Ok(text?)
@@ -120,22 +125,28 @@ fn origins_tell_their_tables(rt: HostRuntime) -> Result<(), Fail> {
     says(&rt, table_of(alloc, &ColumnOrigin::Expression), "none")
 }
 
+// The column that was found.
+fn found(alloc: Global, column: Result<&AnyColumn, Error>) -> Result<String, Error> {
+    Ok(described(alloc, column?)?)
+}
+
 // The column at an index of a row.
-fn in_row<I: ColumnIndex<AnyRow> + Drop>(
-    alloc: Global,
-    row: &AnyRow,
-    index: I,
-) -> Result<String, Error> {
-    Ok(described(alloc, row.try_column(alloc, index)?)?)
+fn in_row<I: ColumnIndex<AnyRow> + Drop>(alloc: Global, index: I) -> Result<String, Error> {
+    let row = row(alloc, 2, 1)?;
+    let told = found(alloc, row.try_column(alloc, index));
+    drop(row);
+    told
 }
 
 // The column at an index of a statement.
 fn in_statement<I: ColumnIndex<AnyStatement> + Drop>(
     alloc: Global,
-    statement: &AnyStatement,
     index: I,
 ) -> Result<String, Error> {
-    Ok(described(alloc, statement.try_column(alloc, index)?)?)
+    let statement = statement(alloc, None, 1)?;
+    let told = found(alloc, statement.try_column(alloc, index));
+    drop(statement);
+    told
 }
 
 const PAST: &str = "column index out of bounds: the len is 2, but the index is 2";
@@ -143,13 +154,12 @@ const PAST: &str = "column index out of bounds: the len is 2, but the index is 2
 #[test]
 fn rows_have_columns(rt: HostRuntime) -> Result<(), Fail> {
     let alloc = rt.alloc();
-    let row = row(alloc, 2, 1)?;
-    says(&rt, in_row::<usize>(alloc, &row, 0), "0 y BIGINT Unknown")?;
-    says(&rt, in_row::<usize>(alloc, &row, 2), PAST)?;
-    says(&rt, in_row::<&str>(alloc, &row, "x"), "1 x TEXT Unknown")?;
+    says(&rt, in_row::<usize>(alloc, 0), "0 y BIGINT Unknown")?;
+    says(&rt, in_row::<usize>(alloc, 2), PAST)?;
+    says(&rt, in_row::<&str>(alloc, "x"), "1 x TEXT Unknown")?;
     says(
         &rt,
-        in_row::<&str>(alloc, &row, "z"),
+        in_row::<&str>(alloc, "z"),
         "no column found for name: z",
     )
 }
@@ -157,21 +167,12 @@ fn rows_have_columns(rt: HostRuntime) -> Result<(), Fail> {
 #[test]
 fn statements_have_columns(rt: HostRuntime) -> Result<(), Fail> {
     let alloc = rt.alloc();
-    let it = statement(alloc, None, 1)?;
+    says(&rt, in_statement::<usize>(alloc, 0), "0 y BIGINT Unknown")?;
+    says(&rt, in_statement::<usize>(alloc, 2), PAST)?;
+    says(&rt, in_statement::<&str>(alloc, "x"), "1 x TEXT Unknown")?;
     says(
         &rt,
-        in_statement::<usize>(alloc, &it, 0),
-        "0 y BIGINT Unknown",
-    )?;
-    says(&rt, in_statement::<usize>(alloc, &it, 2), PAST)?;
-    says(
-        &rt,
-        in_statement::<&str>(alloc, &it, "x"),
-        "1 x TEXT Unknown",
-    )?;
-    says(
-        &rt,
-        in_statement::<&str>(alloc, &it, "z"),
+        in_statement::<&str>(alloc, "z"),
         "no column found for name: z",
     )
 }
@@ -200,12 +201,16 @@ fn parameters(alloc: Global, statement: &AnyStatement) -> Result<String, OutOfMe
 
 // The parameters and the text of a copy of the statement.
 fn copied(alloc: Global, statement: Result<AnyStatement, Error>) -> Result<String, Error> {
-    let copy = statement?.try_clone(alloc)?;
-    let parameters = parameters(alloc, &copy)?;
+    let statement = statement?;
+    let copy = statement.try_clone(alloc);
+    drop(statement);
+    let copy = copy?;
+    let parameters = parameters(alloc, &copy);
     let sql = copy.into_sql();
-    let text = format!(in alloc; "{parameters} {sql:?}");
+    let text = format!(in alloc; "{sql:?}");
     drop(sql);
-    Ok(text?)
+    let (parameters, text) = (parameters?, text?);
+    Ok(format!(in alloc; "{parameters} {text}")?)
 }
 
 #[test]

@@ -1,5 +1,6 @@
-//! Whether a value is there, which each value of the toy database can be read as.
+//! Whether a value is there, which each value of the toy database and of `Any` can be read as.
 
+use sqlx_any::{AnyRead, AnyValue};
 use sqlx_text::{AnyTypeInfoKind, Fault};
 use sqlx_traits::{Decode, DecodeOwned, SqlType};
 use std::alloc::Global;
@@ -49,5 +50,20 @@ impl SqlType<Toy> for Present {
 
     fn compatible(_ty: &ToyType) -> bool {
         true
+    }
+}
+
+impl<'r> AnyRead<'r> for Present {
+    ghost use Rattle.std.specs.Prelude.{◌≡◌, Ok};
+
+    ghost reads = { λ _ _ _ r. r ≡ Ok (record {}) };
+
+    fn read(
+        _alloc: Global,
+        _value: &'r AnyValue,
+        _checked: bool,
+        _in_row: bool,
+    ) -> Result<Present, Fault> {
+        Ok(Present)
     }
 }

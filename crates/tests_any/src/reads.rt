@@ -1,5 +1,6 @@
 //! Which Rust types read a value of `Any` of each kind, and what they read.
 
+use crate::present::Present;
 use crate::says::says;
 use sqlx_any::*;
 use sqlx_text::{Error, OutOfMemory};
@@ -8,8 +9,6 @@ use std::fmt::Debug;
 use std::test::*;
 use tests_backend::{StubBackend, cells};
 use tests_database::answers::shown;
-
-type Db = Any<StubBackend>;
 
 // Puts a type's name and what it reads of a row's one value behind a line, where it reads it.
 fn read_as<'r, T: AnyRead<'r> + Debug + Drop>(
@@ -125,75 +124,145 @@ fn inherent<'r, T: AnyRead<'r> + Debug + Drop>(
 }
 
 // The same by the calls of a driver's rows and values.
-fn by_traits<T: DecodeOwned<Db> + SqlType<Db> + Debug + Drop>(
+fn by_traits<DB: Database, T: DecodeOwned<DB> + SqlType<DB> + Debug + Drop>(
     alloc: Global,
-    row: &AnyRow,
-) -> Result<String, Error> {
-    let named = shown(alloc, Row::<Db>::try_get::<T, &str>(row, alloc, "what"))?;
-    let unchecked = Row::<Db>::try_get_unchecked::<T, usize>(row, alloc, 0);
-    let unchecked = shown(alloc, unchecked)?;
-    let value = Row::<Db>::try_get_raw(row, alloc, 0usize)?;
-    let alone = shown(alloc, Value::<Db>::try_decode::<T>(value, alloc))?;
-    let unchecked_alone = Value::<Db>::try_decode_unchecked::<T>(value, alloc);
-    let unchecked_alone = shown(alloc, unchecked_alone)?;
+    row: &DB::Row,
+) -> Result<String, Error>
+where
+    usize: ColumnIndex<DB::Row>,
+    &'static str: ColumnIndex<DB::Row>,
+{
+    let named = shown(alloc, row.try_get::<T, &'static str>(alloc, "what"))?;
+    let unchecked = shown(alloc, row.try_get_unchecked::<T, usize>(alloc, 0))?;
+    let value = row.try_get_raw(alloc, 0usize)?;
+    let alone = shown(alloc, value.try_decode::<T>(alloc))?;
+    let unchecked_alone = shown(alloc, value.try_decode_unchecked::<T>(alloc))?;
     Ok(format!(in alloc; "{named}; {unchecked}; {alone}; {unchecked_alone}")?)
+}
+
+fn small_by_traits<B: AnyConnectionBackend>(alloc: Global, row: &AnyRow) -> Result<String, Error> {
+    by_traits::<Any<B>, i16>(alloc, row)
+}
+
+// A value that isn't read as an `i16`.
+#[derive(Clone, Copy)]
+enum Unread {
+    TooLarge,
+    Null,
+    Text,
+}
+
+// What both ways of calls tell of it.
+fn refusals(alloc: Global, unread: Unread) -> Result<(String, String), Error> {
+    let kind = match unread {
+        Unread::TooLarge => AnyValueKind::BigInt(70_000),
+        Unread::Null => AnyValueKind::Null(AnyTypeInfoKind::Text),
+        Unread::Text => cells::text("5"),
+    };
+    let row = cells::single(alloc, kind)?;
+    let inherent = inherent::<i16>(alloc, &row);
+    let by_traits = small_by_traits::<StubBackend>(alloc, &row);
+    drop(row);
+    Ok((inherent?, by_traits?))
+}
+
+// The same where a read refuses it so: checked in a row, checked alone, and unchecked.
+fn wanted(
+    alloc: Global,
+    in_row: &str,
+    alone: &str,
+    unchecked: &str,
+) -> Result<String, OutOfMemory> {
+    let column = "error occurred while decoding column";
+    let value = "error occurred while decoding:";
+    Ok(format!(in alloc;
+        "{column} \"what\": {in_row}; {column} 0: {unchecked}; {value} {alone}; {value} {unchecked}"
+    )?)
 }
 
 #[test]
 fn tells_why_a_value_is_not_read(rt: HostRuntime) -> Result<(), Fail> {
-    let alloc = rt.alloc();
-    let in_row = "error occurred while decoding column";
-    let alone = "error occurred while decoding:";
-    for (kind, checked, checked_alone, unchecked) in [
+    let range = "out of range integral type conversion attempted";
+    let null = "expected SMALLINT, got NULL";
+    for (unread, in_row, alone, unchecked) in [
+        (Unread::TooLarge, range, range, range),
+        (Unread::Null, null, null, null),
         (
-            AnyValueKind::BigInt(70_000),
-            "out of range integral type conversion attempted",
-            "out of range integral type conversion attempted",
-            "out of range integral type conversion attempted",
-        ),
-        (
-            AnyValueKind::Null(AnyTypeInfoKind::Text),
-            "expected SMALLINT, got NULL",
-            "expected SMALLINT, got NULL",
-            "expected SMALLINT, got NULL",
-        ),
-        (
-            cells::text("5"),
+            Unread::Text,
             "mismatched types; Rust type `i16` is not compatible with SQL type `TEXT`",
             "mismatched types; Rust type `i16` (as SQL type `SMALLINT`) is not compatible with SQL type `TEXT`",
             "expected SMALLINT, got TEXT",
         ),
     ] {
-        let row = cells::single(alloc, kind)?;
-        let want = format!(in alloc;
-            "{in_row} \"what\": {checked}; {in_row} 0: {unchecked}; {alone} {checked_alone}; {alone} {unchecked}"
-        )?;
-        says(&rt, inherent::<i16>(alloc, &row), want.as_str())?;
-        says(&rt, by_traits::<i16>(alloc, &row), want.as_str())?;
+        let want = wanted(rt.alloc(), in_row, alone, unchecked)?;
+        let (inherent, by_traits) = refusals(rt.alloc(), unread)?;
+        assert_eq!(rt; inherent.as_str(), want.as_str());
+        assert_eq!(rt; by_traits.as_str(), want.as_str());
     }
     Ok(())
 }
 
 // The number at an index of a row.
-fn at<I: ColumnIndex<AnyRow> + Drop>(
-    alloc: Global,
-    row: &AnyRow,
-    index: I,
-) -> Result<String, Error> {
-    Ok(shown(alloc, row.try_get::<i64, I>(alloc, index))?)
+fn at<I: ColumnIndex<AnyRow> + Drop>(alloc: Global, index: I) -> Result<String, Error> {
+    let row = cells::pair(alloc)?;
+    let told = shown(alloc, row.try_get::<i64, I>(alloc, index));
+    drop(row);
+    Ok(told?)
 }
 
 #[test]
 fn finds_columns(rt: HostRuntime) -> Result<(), Fail> {
     let alloc = rt.alloc();
-    let row = cells::pair(alloc)?;
     let past = "column index out of bounds: the len is 2, but the index is 2";
-    says(&rt, at::<usize>(alloc, &row, 1), "7")?;
-    says(&rt, at::<usize>(alloc, &row, 2), past)?;
-    says(&rt, at::<&str>(alloc, &row, "x"), "5")?;
-    says(
-        &rt,
-        at::<&str>(alloc, &row, "z"),
-        "no column found for name: z",
-    )
+    says(&rt, at::<usize>(alloc, 1), "7")?;
+    says(&rt, at::<usize>(alloc, 2), past)?;
+    says(&rt, at::<&str>(alloc, "x"), "5")?;
+    says(&rt, at::<&str>(alloc, "z"), "no column found for name: z")
+}
+
+// The value at a position by the two calls of a row that need to know that it can be read; `None` where there is none.
+fn known(alloc: Global, row: &AnyRow, at: usize) -> Result<Option<[Present; 2]>, OutOfMemory> {
+    match row.try_get_raw(alloc, at) {
+        Ok(_value) => {
+            let checked = row.get::<Present, usize>(alloc, at)?;
+            let unchecked = row.get_unchecked::<Present, usize>(alloc, at)?;
+            Ok(Some([checked, unchecked]))
+        }
+        Err(error) => {
+            drop(error);
+            Ok(None)
+        }
+    }
+}
+
+// A value by its two such calls.
+fn known_alone(alloc: Global, value: &AnyValue) -> Result<[Present; 2], OutOfMemory> {
+    let checked = value.decode::<Present>(alloc)?;
+    let unchecked = value.decode_unchecked::<Present>(alloc)?;
+    Ok([checked, unchecked])
+}
+
+// A truth value, which is known to be read as one.
+fn flag(alloc: Global) -> Result<bool, OutOfMemory> {
+    let value = AnyValue {
+        kind: AnyValueKind::Bool(true),
+    };
+    let flag = value.decode::<bool>(alloc);
+    drop(value);
+    flag
+}
+
+#[test]
+fn reads_what_is_known_to_be_there(rt: HostRuntime) -> Result<(), Fail> {
+    let alloc = rt.alloc();
+    let row = cells::pair(alloc)?;
+    let there = (known(alloc, &row, 1)?, known(alloc, &row, 2)?);
+    drop(row);
+    assert_eq!(rt; there, (Some([Present; 2]), None));
+    let null = AnyValue {
+        kind: AnyValueKind::Null(AnyTypeInfoKind::Text),
+    };
+    assert_eq!(rt; known_alone(alloc, &null)?, [Present; 2]);
+    assert_eq!(rt; flag(alloc)?, true);
+    Ok(())
 }

@@ -14,7 +14,9 @@ use tests_database::{Toy, ToyArguments, ToyConnection};
 fn asked<Q: Execute<Toy>>(alloc: Global, query: Q) -> Result<String, Error> {
     let mut conn = ToyConnection::new(alloc, "")?;
     drop(conn.fetch_many(alloc, query));
-    Ok(conn.asked_shown(alloc)?)
+    let shown = conn.asked_shown(alloc);
+    drop(conn);
+    Ok(shown?)
 }
 
 #[test]
@@ -84,12 +86,56 @@ impl<DB: Database> Execute<DB> for Unbound {
     }
 }
 
-/// What a backend is handed with a query, and the steps that come of it.
-pub fn handed<Q: Execute<Any<StubBackend>>>(alloc: Global, query: Q) -> Result<String, Error> {
-    let mut conn = AnyConnection::new(StubBackend::new(alloc, "i")?);
-    let steps = steps::<Any<StubBackend>>(alloc, conn.fetch_many(alloc, query))?;
-    let handed = conn.backend().handed_shown(alloc)?;
+/// The steps that come of a query.
+pub fn steps_of<B: AnyConnectionBackend, Q: Execute<Any<B>>>(
+    alloc: Global,
+    conn: &mut AnyConnection<B>,
+    query: Q,
+) -> Result<String, OutOfMemory> {
+    steps::<Any<B>>(alloc, conn.fetch_many(alloc, query))
+}
+
+/// A connection that hands out a row.
+pub fn of_a_row(alloc: Global) -> Result<AnyConnection<StubBackend>, Error> {
+    Ok(AnyConnection::new(StubBackend::new(alloc, "i")?))
+}
+
+/// What the backend was handed with a query, and the steps that came of it.
+pub fn handed(
+    alloc: Global,
+    conn: AnyConnection<StubBackend>,
+    steps: Result<String, OutOfMemory>,
+) -> Result<String, Error> {
+    let handed = conn.backend().handed_shown(alloc);
+    drop(conn);
+    let (handed, steps) = (handed?, steps?);
     Ok(format!(in alloc; "{handed}, {steps}")?)
+}
+
+// A query to a backend.
+#[derive(Clone, Copy)]
+enum Sent {
+    Numbers,
+    Text,
+    Unbound,
+}
+
+fn asks<B: AnyConnectionBackend>(
+    alloc: Global,
+    conn: &mut AnyConnection<B>,
+    query: Sent,
+) -> Result<String, OutOfMemory> {
+    match query {
+        Sent::Numbers => steps_of(alloc, conn, ("SELECT", Some(numbers(alloc)?))),
+        Sent::Text => steps_of(alloc, conn, "SELECT"),
+        Sent::Unbound => steps_of(alloc, conn, Unbound),
+    }
+}
+
+fn of_backend(alloc: Global, query: Sent) -> Result<String, Error> {
+    let mut conn = of_a_row(alloc)?;
+    let steps = asks(alloc, &mut conn, query);
+    handed(alloc, conn, steps)
 }
 
 fn numbers(alloc: Global) -> Result<AnyArguments, OutOfMemory> {
@@ -102,15 +148,15 @@ fn numbers(alloc: Global) -> Result<AnyArguments, OutOfMemory> {
 #[test]
 fn a_backend_is_handed_the_query(rt: HostRuntime) -> Result<(), Fail> {
     let alloc = rt.alloc();
-    let pair = ("SELECT", Some(numbers(alloc)?));
-    let unbound =
-        "nothing, error occurred while encoding a value: out of range integral type conversion attempted|";
-    says(
-        &rt,
-        handed(alloc, pair),
-        "SELECT kept BigInt 5|Bool true|, number|",
-    )?;
-    says(&rt, handed(alloc, "SELECT"), "SELECT kept bare, number|")?;
-    says(&rt, handed(alloc, Unbound), unbound)?;
+    for (query, want) in [
+        (Sent::Numbers, "SELECT kept BigInt 5|Bool true|, number|"),
+        (Sent::Text, "SELECT kept bare, number|"),
+        (
+            Sent::Unbound,
+            "nothing, error occurred while encoding a value: out of range integral type conversion attempted|",
+        ),
+    ] {
+        says(&rt, of_backend(alloc, query), want)?;
+    }
     says(&rt, asked(alloc, Unbound), "nothing")
 }
