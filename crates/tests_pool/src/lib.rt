@@ -1,7 +1,9 @@
-//! Tests of the pool's core: each call once on its happy path, and the keeping of the minimum.
+//! Tests of the pool's core and of families: each call once on its happy path, and the keeping of the minimum.
 #![tactic(auto)]
 
 #[cfg(test)]
 mod each_call;
+#[cfg(test)]
+mod families;
 #[cfg(test)]
 mod minimum;
