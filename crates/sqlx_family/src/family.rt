@@ -211,6 +211,7 @@ impl<C> Family<C> {
         requires room { owned_by to (with_less from count self.old) + count ≤ (entry_of to self.old).core.options.max_connections }
         ensures freed { count ≤ free (entry_of to self.new).core }
         ensures becomes { self.new ≡ moved from to count self.old }
+        ensures names { length self.new.pools ≡ length self.old.pools }
     {
         let lender = &mut self.pools[from as usize].core;
         lender.sound();
@@ -223,7 +224,8 @@ impl<C> Family<C> {
     // What a retired pool has free goes to the root.
     fn settle(&mut self, pool: u32)
         requires named { pool < length self.old.pools }
-        ensures { self.new ≡ settled pool self.old }
+        ensures becomes { self.new ≡ settled pool self.old }
+        ensures names { length self.new.pools ≡ length self.old.pools }
     {
         let settling = &self.pools[pool as usize];
         if settling.retired {

@@ -27,6 +27,7 @@ impl<C> Family<C> {
         ensures causes { IfErr result (λ e. (e ≡ Error.PoolClosed) ⊎ ((e ≡ Error.Exhausted) ⊎ (e ≡ Error.OutOfMemory))) }
         ensures makes { IfOk result (λ ticket. FamilyLogs self.old pool (asked_marks (pool_in pool self.old) client (moment_of (pool_in pool self.old) now) ticket) self.new) }
         ensures becomes { let core = pool_in pool self.old in OnOk result (self.new ≡ with_pool pool (at_moment (moment_of core now) (asked client (moment_of core now + core.options.acquire_timeout) core)) self.old) }
+        ensures names { length self.new.pools ≡ length self.old.pools }
         ensures err { OnErr result (self.new ≡ with_pool pool (pool_in pool self.old) self.old) }
     {
         let moment = self.moment(now);
@@ -45,6 +46,7 @@ impl<C> Family<C> {
         ensures answer { result ≡ may_cancel (phase_for client ticket (pool_in pool self.old).tickets) }
         ensures makes { FamilyLogs self.old pool (cancel_marks ticket result) self.new }
         ensures becomes { self.new ≡ stepped pool (cancelled ticket result (pool_in pool self.old)) self.old }
+        ensures names { length self.new.pools ≡ length self.old.pools }
     {
         let closed = self.counts_as_closed(pool);
         let member = &mut self.pools[pool as usize].core;
@@ -63,6 +65,7 @@ impl<C> Family<C> {
         ensures answer { result ≡ try_lent (passes_in pool self.old) (pool_in pool self.old).idle }
         ensures makes { FamilyLogs self.old pool (try_marks client result) self.new }
         ensures becomes { let core = pool_in pool self.old in self.new ≡ with_pool pool (after_try client (moment_of core now) result core) self.old }
+        ensures names { length self.new.pools ≡ length self.old.pools }
     {
         let moment = self.moment(now);
         let passes = self.passes(pool);

@@ -19,6 +19,7 @@ impl<C> Family<C> {
         ensures answer { let core = pool_in pool self.old in result.items ≡ close_answer core.shut core.idle }
         ensures makes { FamilyLogs self.old pool (close_marks (pool_in pool self.old).shut result.items) self.new }
         ensures becomes { let core = pool_in pool self.old in self.new ≡ with_pool pool (closed_from core.shut core) self.old }
+        ensures names { length self.new.pools ≡ length self.old.pools }
     {
         let closed = self.counts_as_closed(pool);
         let member = &mut self.pools[pool as usize].core;
@@ -36,6 +37,7 @@ impl<C> Family<C> {
         ensures answer { let core = pool_in pool self.old in result.items ≡ close_answer core.shut core.idle }
         ensures makes { FamilyLogs self.old pool (close_marks (pool_in pool self.old).shut result.items) self.new }
         ensures becomes { let core = pool_in pool self.old in self.new ≡ settled pool (retiring pool (with_pool pool (closed_from core.shut core) self.old)) }
+        ensures names { length self.new.pools ≡ length self.old.pools }
     {
         let idle = self.close(pool);
         self.mark_retired(pool);
@@ -46,7 +48,8 @@ impl<C> Family<C> {
     // The pool is retired from now on.
     fn mark_retired(&mut self, pool: u32)
         requires named { pool < length self.old.pools }
-        ensures { self.new ≡ retiring pool self.old }
+        ensures becomes { self.new ≡ retiring pool self.old }
+        ensures names { length self.new.pools ≡ length self.old.pools }
     {
         self.pools[pool as usize].retired = true;
     }

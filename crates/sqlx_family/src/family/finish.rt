@@ -27,6 +27,7 @@ impl<C> Family<C> {
         ensures answer { let core = pool_in pool self.old in result ≡ verdict_answer client ticket core.closed core verdict }
         ensures makes { FamilyLogs self.old pool (test_marks client ticket (judged verdict) result) self.new }
         ensures becomes { self.new ≡ stepped pool (after_test client ticket result (pool_in pool self.old)) self.old }
+        ensures names { length self.new.pools ≡ length self.old.pools }
     {
         let closed = self.counts_as_closed(pool);
         let member = &mut self.pools[pool as usize].core;
@@ -52,6 +53,7 @@ impl<C> Family<C> {
         ensures answer { let core = pool_in pool self.old in result ≡ connect_answer (ticket_of client ticket core.tickets) core.closed core.next_conn (moment_of core now) tried }
         ensures makes { FamilyLogs self.old pool (connect_marks client ticket (moment_of (pool_in pool self.old) now) result) self.new }
         ensures becomes { let core = pool_in pool self.old in self.new ≡ stepped pool (after_connect client ticket (moment_of core now) result core) self.old }
+        ensures names { length self.new.pools ≡ length self.old.pools }
     {
         let moment = self.moment(now);
         let closed = self.counts_as_closed(pool);

@@ -40,6 +40,7 @@ impl<C> Family<C> {
         ensures answer { let core = pool_in pool self.old in result ≡ give_answer core.options core.closed (moment_of core now) accepted (loan_of client lent.id core.held) lent }
         ensures makes { FamilyLogs self.old pool (give_marks lent.id (moment_of (pool_in pool self.old) now) result) self.new }
         ensures becomes { let core = pool_in pool self.old in self.new ≡ stepped pool (core_after_give (loan_of client lent.id core.held) lent (moment_of core now) result core) self.old }
+        ensures names { length self.new.pools ≡ length self.old.pools }
     {
         let moment = self.moment(now);
         let closed = self.counts_as_closed(pool);
@@ -58,6 +59,7 @@ impl<C> Family<C> {
         ensures answer { result ≡ is_some (loan_of client id (pool_in pool self.old).held) }
         ensures makes { FamilyLogs self.old pool (end_marks id result) self.new }
         ensures becomes { self.new ≡ stepped pool (released id result (pool_in pool self.old)) self.old }
+        ensures names { length self.new.pools ≡ length self.old.pools }
     {
         let closed = self.counts_as_closed(pool);
         let member = &mut self.pools[pool as usize].core;
@@ -75,6 +77,7 @@ impl<C> Family<C> {
         ensures answer { result ≡ is_some (loan_of client id (pool_in pool self.old).held) }
         ensures makes { FamilyLogs self.old pool (detach_marks id result) self.new }
         ensures becomes { self.new ≡ stepped pool (released id result (pool_in pool self.old)) self.old }
+        ensures names { length self.new.pools ≡ length self.old.pools }
     {
         let closed = self.counts_as_closed(pool);
         let member = &mut self.pools[pool as usize].core;
@@ -92,6 +95,7 @@ impl<C> Family<C> {
         ensures answer { result ≡ is_some (loan_of client id (pool_in pool self.old).held) }
         ensures makes { FamilyLogs self.old pool (leak_marks id result) self.new }
         ensures becomes { self.new ≡ with_pool pool (leaked id result (pool_in pool self.old)) self.old }
+        ensures names { length self.new.pools ≡ length self.old.pools }
     {
         let closed = self.counts_as_closed(pool);
         let member = &mut self.pools[pool as usize].core;

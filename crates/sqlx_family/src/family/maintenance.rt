@@ -21,6 +21,7 @@ impl<C> Family<C> {
         ensures answer { let core = pool_in pool self.old in result ≡ reap_answer (passes_in pool self.old) core.options (moment_of core now) core.idle }
         ensures makes { FamilyLogs self.old pool (reap_marks result) self.new }
         ensures becomes { let core = pool_in pool self.old in self.new ≡ with_pool pool (reaped (moment_of core now) result core) self.old }
+        ensures names { length self.new.pools ≡ length self.old.pools }
     {
         let moment = self.moment(now);
         let passes = self.passes(pool);
@@ -40,6 +41,7 @@ impl<C> Family<C> {
         ensures answer { let core = pool_in pool self.old in result ≡ has_place_if (passes_in pool self.old) (max core.options.min_connections 1) core }
         ensures makes { FamilyLogs self.old pool [] self.new }
         ensures becomes { self.new ≡ with_pool pool (placed result (pool_in pool self.old)) self.old }
+        ensures names { length self.new.pools ≡ length self.old.pools }
     {
         let minimum = self.pools[pool as usize]
             .core
@@ -55,6 +57,7 @@ impl<C> Family<C> {
         ensures answer { let core = pool_in pool self.old in result ≡ has_place_if (passes_in pool self.old) core.options.min_connections core }
         ensures makes { FamilyLogs self.old pool [] self.new }
         ensures becomes { self.new ≡ with_pool pool (placed result (pool_in pool self.old)) self.old }
+        ensures names { length self.new.pools ≡ length self.old.pools }
     {
         let minimum = self.pools[pool as usize]
             .core
@@ -69,6 +72,7 @@ impl<C> Family<C> {
         ensures answer { result ≡ has_place_if (passes_in pool self.old) minimum (pool_in pool self.old) }
         ensures makes { FamilyLogs self.old pool [] self.new }
         ensures becomes { self.new ≡ with_pool pool (placed result (pool_in pool self.old)) self.old }
+        ensures names { length self.new.pools ≡ length self.old.pools }
     {
         let passes = self.passes(pool);
         let closed = self.counts_as_closed(pool);
@@ -88,6 +92,7 @@ impl<C> Family<C> {
         ensures answer { result ≡ handed_back (counts_as_closed pool self.old) raw }
         ensures makes { let core = pool_in pool self.old in FamilyLogs self.old pool (done_marks core.closed core.next_conn (moment_of core now) raw) self.new }
         ensures becomes { let core = pool_in pool self.old in self.new ≡ stepped pool (done core.closed (moment_of core now) raw core) self.old }
+        ensures names { length self.new.pools ≡ length self.old.pools }
     {
         let moment = self.moment(now);
         let closed = self.counts_as_closed(pool);

@@ -68,6 +68,7 @@ impl<C> Family<C> {
         requires permit { takes ≡ true → MayGrant pool self.old }
         ensures permit { takes ≡ true → 0 < free (entry_of pool self.new).core }
         ensures becomes { self.new ≡ granted takes pool self.old }
+        ensures names { length self.new.pools ≡ length self.old.pools }
     {
         if takes {
             self.move_permits(0, pool, 1);
@@ -88,6 +89,7 @@ impl<C> Family<C> {
         ensures answer { let core = pool_in pool self.old in result ≡ start_answer (turn_of entitled core.closed moment.0 core (ticket_of client ticket core.tickets)) core.idle }
         ensures makes { FamilyLogs self.old pool (start_marks ticket (phase_for client ticket (pool_in pool self.old).tickets) result) self.new }
         ensures becomes { self.new ≡ stepped pool (started ticket moment.0 result (pool_in pool self.old)) self.old }
+        ensures names { length self.new.pools ≡ length self.old.pools }
     {
         let closed = self.counts_as_closed(pool);
         let member = &mut self.pools[pool as usize].core;
@@ -106,6 +108,7 @@ impl<C> Family<C> {
         ensures answer { let core = pool_in pool self.old in result ≡ start_answer (turn_of (is_entitled pool ticket self.old) core.closed (moment_of core now) core (ticket_of client ticket core.tickets)) core.idle }
         ensures makes { FamilyLogs self.old pool (start_marks ticket (phase_for client ticket (pool_in pool self.old).tickets) result) self.new }
         ensures becomes { let m = moment_of (pool_in pool self.old) now in let f = granting pool client ticket m self.old in self.new ≡ stepped pool (started ticket m result (pool_in pool f)) f }
+        ensures names { length self.new.pools ≡ length self.old.pools }
     {
         let moment = self.moment(now);
         let alone = self.is_entitled_alone(pool, ticket);

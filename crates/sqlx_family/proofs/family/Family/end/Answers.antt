@@ -7,7 +7,7 @@ pub returns-clause-makes : goal.returns-clause-makes
 returns-clause-makes g c =
     let here : c.args.pool < length c.self.inside.pools.items = rw (← c.self.view_is) at c.requires.named in
     logs-stepped c.self.inside.pools.items c.self.inside.shared _ c.args.pool c.index_mut.result.now c.hear.new.self c.end-answer.new.self _ c.self.view_is here c.index_mut.ensures.value c.counts_as_closed-closed.result c.counts_as_closed-closed.ensures c.hear.ensures
-    c.end-answer.ensures.makes c.end-answer.ensures.draws c.settle.new.self (rw c.shared-self-inside.ensures at c.settle.ensures)
+    c.end-answer.ensures.makes c.end-answer.ensures.draws c.settle.new.self (rw c.shared-self-inside.ensures at c.settle.ensures.becomes)
 
 pub invariant_of-self : goal.invariant_of-self
 invariant_of-self g c =

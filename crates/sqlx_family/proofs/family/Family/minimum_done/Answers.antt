@@ -10,7 +10,7 @@ returns-clause-makes g c =
     let here : c.args.pool < length c.self.inside.pools.items = rw (← c.self.view_is) at c.requires.named in
     rw (← c.moment-moment.ensures)
     (logs-stepped-of (λ (core : Core _). done_marks core.closed core.next_conn c.moment-moment.result.0 c.args.raw) c.self.inside.pools.items c.self.inside.shared _ c.args.pool c.index_mut.result.now c.hear.new.self c.minimum_done-answer.new.self c.self.view_is here c.index_mut.ensures.value
-    c.counts_as_closed-closed.result c.counts_as_closed-closed.ensures c.hear.ensures c.minimum_done-answer.ensures.makes c.minimum_done-answer.ensures.draws c.settle.new.self (rw c.shared-self-inside.ensures at c.settle.ensures))
+    c.counts_as_closed-closed.result c.counts_as_closed-closed.ensures c.hear.ensures c.minimum_done-answer.ensures.makes c.minimum_done-answer.ensures.draws c.settle.new.self (rw c.shared-self-inside.ensures at c.settle.ensures.becomes))
 
 pub invariant_of-self : goal.invariant_of-self
 invariant_of-self g c =

@@ -5,4 +5,4 @@ use Rattle.sqlx_family.proofs.family.Family.retire.Goals as goal
 pub returns-clause-makes : goal.returns-clause-makes
 returns-clause-makes g c =
     let here : c.args.pool < length c.close-idle.new.self.pools = search rules in
-    logs-retired _ c.args.pool _ c.close-idle.new.self c.settle.new.self here c.close-idle.ensures.makes (rw c.mark_retired.ensures at c.settle.ensures)
+    logs-retired _ c.args.pool _ c.close-idle.new.self c.settle.new.self here c.close-idle.ensures.makes (rw c.mark_retired.ensures.becomes at c.settle.ensures.becomes)

@@ -9,7 +9,7 @@ pub returns-clause-makes : goal.returns-clause-makes
 returns-clause-makes g c =
     let here : c.args.pool < length c.self.inside.pools.items = rw (← c.self.view_is) at c.requires.named in
     logs-stepped-of (λ (core : Core _). start_marks c.args.ticket (phase_for c.args.client c.args.ticket core.tickets) c.start-answer.result) c.self.inside.pools.items c.self.inside.shared _ c.args.pool c.index_mut.result.now c.hear.new.self c.start-answer.new.self c.self.view_is here c.index_mut.ensures.value c.counts_as_closed-closed.result c.counts_as_closed-closed.ensures c.hear.ensures
-    c.start-answer.ensures.makes c.start-answer.ensures.draws c.settle.new.self (rw c.shared-self-inside.ensures at c.settle.ensures)
+    c.start-answer.ensures.makes c.start-answer.ensures.draws c.settle.new.self (rw c.shared-self-inside.ensures at c.settle.ensures.becomes)
 
 pub invariant_of-self : goal.invariant_of-self
 invariant_of-self g c =
