@@ -1,5 +1,6 @@
 //! Tests of the threaded pool: a pool of one on one thread, call by call with the length of its log; a close while a
-//! ticket waits; the first connections; loans by two threads; and what goes between threads.
+//! ticket waits; the first connections; loans by two threads; calls that wait; a log that is cut; and what
+//! goes between threads.
 #![tactic(auto)]
 
 #[cfg(test)]
@@ -14,3 +15,5 @@ mod shared;
 mod traits;
 #[cfg(test)]
 mod two_threads;
+#[cfg(test)]
+mod waits;
