@@ -7,6 +7,7 @@ use std::process::Abort;
 use std::test::*;
 
 const WAITS: u32 = 1;
+
 const CONNECTS: u32 = 2;
 
 // What the start of a poll comes to.
@@ -82,7 +83,10 @@ fn a_retired_child_hands_over_its_permits(rt: HostRuntime) -> Result<(), Fail> {
     let between = [family.owned(0), family.owned(child)];
     let ended = family.end(child, 2, two);
     let after = [family.owned(0), family.owned(child)];
-    assert_eq!(rt; [one, two, idle as u64, u64::from(kept), u64::from(ended)], [1, 2, 1, 1, 1]);
+    assert_eq!(rt;
+        [one, two, idle as u64, u64::from(kept), u64::from(ended)],
+        [1, 2, 1, 1, 1]
+    );
     assert_eq!(rt; waits, WAITS);
     assert_eq!(rt; [held, between, after], [[1, 2], [2, 1], [3, 0]]);
     Ok(())
