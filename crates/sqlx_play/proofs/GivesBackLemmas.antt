@@ -18,7 +18,7 @@ use Rattle.sqlx_pool_core.specs.Makes.{Makes}
 use Rattle.sqlx_pool_core.proofs.Fair.{makes-nothing}
 use Rattle.sqlx_pool_core.specs.StandsFor.{StandsFor}
 use Rattle.sqlx_log.proofs.ListFacts.{found_passes}
-use Rattle.sqlx_pool_core.proofs.Known.{loan-found}
+use Rattle.sqlx_play.proofs.Numbers.{loan-found}
 use Rattle.mem_store.specs.Store.{Store, Link}
 use Rattle.sqlx_script.specs.declared.answers.GiveAnswers.{GiveAnswers}
 use Rattle.sqlx_script.specs.Built.{accepts}

@@ -55,3 +55,4 @@ pub mod KeepsMinimumBehind
 pub mod PlaysGive
 pub mod LoanEndsLemmas
 pub mod PlaysLeave
+pub mod Numbers

@@ -12,7 +12,7 @@ use Rattle.sqlx_pool_core.specs.MaintenanceSteps.{without_first}
 use Rattle.sqlx_pool_core.specs.Makes.{Makes}
 use Rattle.sqlx_pool_core.specs.StandsFor.{StandsFor}
 use Rattle.sqlx_log.proofs.ListFacts.{found_passes, count_by-cons}
-use Rattle.sqlx_pool_core.proofs.Known.{loan-found}
+use Rattle.sqlx_play.proofs.Numbers.{loan-found}
 use Rattle.mem_store.specs.Store.{Store, Link}
 use Rattle.sqlx_brackets.specs.Changes.{leaves}
 use Rattle.sqlx_play.specs.declared.stage.Stage.{Stage}

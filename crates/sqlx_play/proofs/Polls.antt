@@ -12,7 +12,8 @@ use Rattle.sqlx_pool_core.specs.Edits.{with_ticket, without_ticket, to_try, to_b
 use Rattle.sqlx_pool_core.specs.Sound.{IsNumbered}
 use Rattle.sqlx_pool_core.specs.PollSteps.{started, wait_of}
 use Rattle.sqlx_pool_core.specs.Makes.{Makes}
-use Rattle.sqlx_pool_core.proofs.Known.{KeepsNumber, ticket-number, ticket-is_only, ticket-below, gone-changed}
+use Rattle.sqlx_pool_core.proofs.Known.{KeepsNumber, ticket-number, gone-changed}
+use Rattle.sqlx_play.proofs.Numbers.{ticket-is_only, ticket-below}
 use Rattle.sqlx_log.proofs.ListFacts.{same_number, number_comm, none_any, list_any-map}
 use Rattle.mem_store.specs.Store.{Link}
 use Rattle.sqlx_script.specs.declared.answers.PollAnswers.{PollAnswers}

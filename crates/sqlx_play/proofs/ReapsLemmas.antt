@@ -15,7 +15,7 @@ use Rattle.sqlx_log.specs.Marks.{idle_of, next_conn}
 use Rattle.sqlx_pool_core.specs.Sound.{IsNumbered, rests}
 use Rattle.sqlx_log.specs.Born.{IsBorn}
 use Rattle.sqlx_pool_core.specs.StandsFor.{StandsFor}
-use Rattle.sqlx_pool_core.proofs.Known.{idle-found}
+use Rattle.sqlx_play.proofs.Numbers.{idle-found}
 use Rattle.sqlx_log.proofs.ListFacts.{same_number, count_by-cons, filter_none, found_counts, length-filter_not, map-append, length_map}
 use Rattle.mem_store.specs.Store.{Store, Link}
 use Rattle.sqlx_brackets.specs.Changes.{leaves, History}
