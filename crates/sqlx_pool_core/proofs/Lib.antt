@@ -22,6 +22,7 @@ pub mod FinishCode
 pub mod AskSoundness
 pub mod GiveCode
 pub mod AskCode
+mod IdleQueues
 pub mod MaintenanceCode
 pub mod BalanceLemmas
 pub mod Drawn

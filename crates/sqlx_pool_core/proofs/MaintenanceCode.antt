@@ -12,6 +12,7 @@ use Rattle.sqlx_pool_core.specs.MaintenanceSteps.{is_reaped_at, without_first, r
 use Rattle.sqlx_log.proofs.ListFacts.{found_counts, filter_none, length-filter_not, count_by-cons, same_number}
 use Rattle.sqlx_log.proofs.Counting.{one, count-filter, count-push}
 use Rattle.sqlx_pool_core.proofs.Soundness.{one-le}
+use Rattle.sqlx_pool_core.proofs.IdleQueues.{all-left}
 
 -- ---- the first that passes a test
 
@@ -124,19 +125,11 @@ reaping core i idle m s is left =
     let e = left ∙ first-out (is_reaped_at core.options m) core.idle i (sym is) (omega (arith, w)) in
     (rw e (sound-without core i.lent.id m s), rw e refl)
 
-rest_none : {C : Type 0} (p : Idle C → Bool) (xs : List (Idle C)) → find p xs ≡ None → without_first p xs ≡ xs
-rest_none p [] e = refl
-rest_none {C} p (x ∷ xs) e = by (rest_none p xs) (p x) e
-  where
-    by : (find p xs ≡ None → without_first p xs ≡ xs) → (b : Bool) → cond b (Some x) (find p xs) ≡ None → cond b xs (x ∷ without_first p xs) ≡ x ∷ xs
-    by rest true k = absurd cc
-    by rest false k = ap (λ l. x ∷ l) (rest k)
-
 -- the idle list from which none was taken
 pub reaping-none : {C : Type 0} (core : Core C) (idle : List (Idle C)) (m : ℕ) → IsSound core → None ≡ find (is_reaped_at core.options m) core.idle → idle ≡ without_first (is_reaped_at core.options m) core.idle
     → IsSound (record core { idle = idle }) × (record core { idle = idle } ≡ core)
 reaping-none core idle m s is left =
-    let e = left ∙ rest_none (is_reaped_at core.options m) core.idle (sym is) in
+    let e = left ∙ all-left (is_reaped_at core.options m) core.idle (sym is) in
     (rw e s, rw e refl)
 
 -- ---- the minimum
@@ -191,18 +184,3 @@ sound-shut core idle s none =
       once = λ c. let w = s.once c in let k = count c in omega (arith, w, k);
       opened = λ c n. let w = s.opened c n in let k = count c in omega (arith, w, k);
     }
-
--- ---- a pool without limits
-
-never_beyond : (a b : Option ℕ) → (is_some a || is_some b) ≡ false → (x y : ℕ) → (is_beyond a x || is_beyond b y) ≡ false
-never_beyond None None e x y = refl
-never_beyond None (Some k) e x y = cc
-never_beyond (Some k) b e x y = cc
-
-none_found : {X : Type 0} (p : X → Bool) → ((x : X) → p x ≡ false) → (xs : List X) → (find p xs ≡ None) × (without_first p xs ≡ xs)
-none_found p never [] = (refl, refl)
-none_found p never (x ∷ xs) = let rest = none_found p never xs in (rw (never x) rest.0, rw (never x) (ap (λ l. x ∷ l) rest.1))
-
--- nothing of it is reaped
-pub none-limited : {C : Type 0} (options : PoolOptions) (m : ℕ) (idle : List (Idle C)) → (is_some options.idle_timeout || is_some options.max_lifetime) ≡ false → (find (is_reaped_at options m) idle ≡ None) × (without_first (is_reaped_at options m) idle ≡ idle)
-none-limited options m idle none = none_found (is_reaped_at options m) (λ i. never_beyond options.idle_timeout options.max_lifetime none (m - i.since.0) (m - i.lent.created.0)) idle

@@ -13,6 +13,7 @@ pub mod CoreTurn
 pub mod Outside
 pub mod Edits
 pub mod Tickets
+pub mod IdleList
 pub mod Place
 pub mod PollSteps
 pub mod ReturnSteps

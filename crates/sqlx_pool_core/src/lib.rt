@@ -6,6 +6,7 @@
 #![tactic(auto)]
 
 pub mod idle_check;
+mod idle_list;
 mod lists;
 pub mod member;
 mod options;

@@ -18,14 +18,14 @@ mod maintenance;
 mod poll;
 pub mod shared;
 
+use crate::idle_list::IdleList;
 use crate::lists;
 use crate::options::PoolOptions;
-use crate::steps::{CloseState, Idle, Numbers};
+use crate::steps::{CloseState, Numbers};
 use crate::ticket::{OwnedConn, Phase, Ticket};
 use crate::tickets::Tickets;
 use sqlx_text::{Moment, OutOfMemory};
 use std::alloc::Global;
-use std::collections::VecDeque;
 use std::marker::Model;
 
 // How many tickets, and how many connections, a pool numbers.
@@ -37,7 +37,7 @@ pub struct Member<C> {
     options: PoolOptions,
     tickets: Tickets,
     held: Vec<OwnedConn>,
-    idle: VecDeque<Idle<C>>,
+    idle: IdleList<C>,
     leaked: u32,
     // A close came to this pool.
     shut: bool,
@@ -52,7 +52,6 @@ pub struct Member<C> {
 
 impl<C> Model for Member<C> {
     ghost use Rattle.std.specs.Prelude.{◌≤◌, vec_capacity};
-    ghost use Rattle.std.specs.VecDeque.{deque_capacity};
     ghost use Rattle.sqlx_pool_core.specs.Core.{Core, core_of};
     ghost use Rattle.sqlx_pool_core.specs.Sound.{IsSound, HasRoom};
 
@@ -61,7 +60,7 @@ impl<C> Model for Member<C> {
     ghost view = { λ s. core_of s.options s.tickets s.held.items s.idle.items s.leaked s.shut s.closed s.places s.permits s.next_ticket s.next_conn s.last.0 };
 
     ghost invariant = { λ s. IsSound (core_of s.options s.tickets s.held.items s.idle.items s.leaked s.shut s.closed s.places s.permits s.next_ticket s.next_conn s.last.0)
-        × HasRoom s.options.max_connections s.shut (vec_capacity s.held) (deque_capacity s.idle) };
+        × HasRoom s.options.max_connections s.shut (vec_capacity s.held) s.idle.room };
 }
 
 impl<C> Member<C> {
@@ -86,9 +85,7 @@ impl<C> Member<C> {
         let Ok(held) = Vec::with_capacity(alloc, max) else {
             return Err(OutOfMemory);
         };
-        let Ok(idle) = VecDeque::with_capacity(alloc, max) else {
-            return Err(OutOfMemory);
-        };
+        let idle = IdleList::with_capacity(alloc, max)?;
         Ok(Member {
             options,
             tickets: Tickets::new(alloc),

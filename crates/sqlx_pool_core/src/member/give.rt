@@ -2,7 +2,7 @@
 
 ghost use Rattle.std.specs.Prelude.{◌≡◌, ℕ, ◌+◌, ◌-◌, ◌<◌, ◌≤◌, List, Option, Some, None, IfSome, is_some, ◌||◌, true, false};
 ghost use Rattle.sqlx_log.specs.declared.mark.Mark.{Mark};
-ghost use Rattle.sqlx_log.specs.EventTable.{is_beyond, is_too_old, closes};
+ghost use Rattle.sqlx_log.specs.EventTable.{is_too_old, closes};
 ghost use Rattle.sqlx_pool_core.specs.Limits.{limits_of};
 ghost use Rattle.sqlx_pool_core.specs.Core.{loan_of};
 ghost use Rattle.sqlx_pool_core.specs.Sound.{IsSound};
@@ -15,20 +15,11 @@ ghost use Rattle.sqlx_pool_core.specs.PollSteps.{lent_since};
 ghost use Rattle.sqlx_pool_core.specs.Edits.{at_moment, core_without_loan, kept};
 
 use super::Member;
+use crate::idle_list::beyond;
 use crate::lists;
 use crate::steps::{Given, Lent};
 use crate::ticket::OwnedConn;
 use sqlx_text::Moment;
-
-// A duration is above its limit; without a limit none is.
-pub(super) fn beyond(limit: Option<u64>, duration: u64) -> bool
-    ensures { result ≡ is_beyond limit duration }
-{
-    match limit {
-        Some(limit) => limit < duration,
-        None => false,
-    }
-}
 
 impl<C> Member<C> {
     /// A connection of this opening is too old at the moment.
@@ -68,7 +59,7 @@ impl<C> Member<C> {
             raw,
         };
         lists::end_loan(&mut self.held, loan.conn);
-        lists::put_last(&mut self.idle, lent, moment);
+        self.idle.push(lent, moment);
         self.last = moment;
     }
 

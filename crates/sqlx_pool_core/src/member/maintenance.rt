@@ -1,7 +1,6 @@
 //! The steps that keep a pool in shape: reaping, holding places for the minimum, and closing.
 
 ghost use Rattle.std.specs.Prelude.{◌≡◌, ℕ, ◌+◌, ◌-◌, ◌<◌, ◌≤◌, ◌^◌, ◌&&◌, ◌||◌, not, nat_lt, max, min, List, [], ◌∷◌, Option, Some, None, is_some, true, false, find};
-ghost use Rattle.std.specs.VecDeque.{deque_capacity};
 ghost use Rattle.sqlx_log.specs.declared.mark.Mark.{Mark};
 ghost use Rattle.sqlx_pool_core.specs.Core.{size, free};
 ghost use Rattle.sqlx_pool_core.specs.Sound.{IsSound};
@@ -9,50 +8,13 @@ ghost use Rattle.sqlx_pool_core.specs.StandsFor.{StandsIn};
 ghost use Rattle.sqlx_pool_core.specs.Makes.{MakesIn};
 ghost use Rattle.sqlx_pool_core.specs.Numbers.{Draws, Stays};
 ghost use Rattle.sqlx_pool_core.specs.Balance.{Balance, place_room};
-ghost use Rattle.sqlx_pool_core.specs.MaintenanceSteps.{is_reaped_at, without_first, reap_answer, reap_marks, reaped, has_place_if, placed, handed_back, done_marks, placed_back, done, close_marks, close_answer, closed_from};
+ghost use Rattle.sqlx_pool_core.specs.MaintenanceSteps.{reap_answer, reap_marks, reaped, has_place_if, placed, handed_back, done_marks, placed_back, done, close_marks, close_answer, closed_from};
 ghost use Rattle.sqlx_pool_core.specs.Edits.{at_moment, kept, opened};
 
-use super::give::beyond;
 use super::{Member, NUMBERS};
-use crate::lists;
-use crate::options::PoolOptions;
 use crate::steps::{Idle, Lent};
 use sqlx_text::Moment;
 use std::collections::VecDeque;
-use std::mem;
-
-// An idle connection is beyond the idle limit or the lifetime.
-fn is_reaped<C>(options: &PoolOptions, idle: &Idle<C>, moment: Moment) -> bool
-    ensures { result ≡ is_reaped_at options.now moment.0 idle.now }
-{
-    let rest = moment.0.saturating_sub(idle.since.0);
-    let age = moment.0.saturating_sub(idle.lent.created.0);
-    beyond(options.get_idle_timeout(), rest) || beyond(options.get_max_lifetime(), age)
-}
-
-// The pool has such a limit.
-fn has_limit(options: &PoolOptions) -> bool
-    ensures { result ≡ (is_some options.now.idle_timeout || is_some options.now.max_lifetime) }
-{
-    options.get_idle_timeout().is_some() || options.get_max_lifetime().is_some()
-}
-
-// Takes the first idle connection that is beyond a limit; the others keep their order.
-fn take_reaped<C>(
-    options: &PoolOptions,
-    idle: &mut VecDeque<Idle<C>>,
-    moment: Moment,
-) -> Option<Idle<C>>
-    ensures first { result ≡ find (is_reaped_at options.now moment.0) idle.old.items }
-    ensures rest { idle.new.items ≡ without_first (is_reaped_at options.now moment.0) idle.old.items }
-    ensures capacity { deque_capacity idle.new ≡ deque_capacity idle.old }
-{
-    if !has_limit(options) {
-        return None;
-    }
-    let at = idle.iter().position(|i| is_reaped(options, i, moment))?;
-    idle.remove(at)
-}
 
 impl<C> Member<C> {
     /// Takes the first idle connection that is beyond a limit at a moment, where the line lets one pass.
@@ -77,7 +39,7 @@ impl<C> Member<C> {
         if !passes {
             return None;
         }
-        let idle = take_reaped(&self.options, &mut self.idle, moment)?;
+        let idle = self.idle.take_reaped(&self.options, moment)?;
         self.last = moment;
         Some(idle)
     }
@@ -122,7 +84,7 @@ impl<C> Member<C> {
             created: moment,
             raw,
         };
-        lists::put_last(&mut self.idle, lent, moment);
+        self.idle.push(lent, moment);
         self.next_conn += 1;
         self.places -= 1;
         self.last = moment;
@@ -189,12 +151,11 @@ impl<C> Member<C> {
         ensures shut { self.new.shut ≡ true }
         ensures sound { IsSound self.old }
     {
-        let alloc = *self.idle.allocator();
         if self.shut {
-            return VecDeque::new(alloc);
+            return self.idle.none();
         }
         self.shut = true;
         self.closed = true;
-        mem::replace(&mut self.idle, VecDeque::new(alloc))
+        self.idle.take_all()
     }
 }

@@ -4,6 +4,6 @@ use Rattle.sqlx_pool_core.proofs.member.Member.keep.Goals as goal
 
 pub invariant_of-self : goal.invariant_of-self
 invariant_of-self g c = (
-  keeping _ _ c.args.loan (record { lent = record { id = c.args.loan.conn; created = c.args.loan.created; raw = c.args.raw }; since = c.args.moment }) c.args.moment.0 c.end_loan.new.held.items c.put_last.new.idle.items c.self.view_is c.self.invariant.0 refl c.end_loan.ensures.rest c.put_last.ensures.rest c.requires.found,
-  record { to_hold = let h = c.self.invariant.1.to_hold in let k = c.end_loan.ensures.capacity in omega (arith, h, k); to_rest = let h = c.self.invariant.1.to_rest in let k = c.put_last.ensures.capacity in omega (arith, h, k) },
+  keeping _ _ c.args.loan (record { lent = record { id = c.args.loan.conn; created = c.args.loan.created; raw = c.args.raw }; since = c.args.moment }) c.args.moment.0 c.end_loan.new.held.items c.push.new.self.items c.self.view_is c.self.invariant.0 refl c.end_loan.ensures.rest c.push.ensures.rest c.requires.found,
+  record { to_hold = let h = c.self.invariant.1.to_hold in let k = c.end_loan.ensures.capacity in omega (arith, h, k); to_rest = let h = c.self.invariant.1.to_rest in let k = c.push.ensures.capacity in omega (arith, h, k) },
 )

@@ -1,0 +1,118 @@
+-- Idle connections in turn, and bounds of their moments.
+use Rattle.std.proofs.Common.{◌≡◌, ℕ, suc, ◌+◌, ◌-◌, ◌<◌, ◌≤◌, List, [], ◌∷◌, ◌++◌, length, map, refl, ap, sym, ◌∙◌, arith, find, get_or, Bool, true, false, not, cond, ltb, Option, Some, None, ◌||◌, ◌&&◌, min}
+use Rattle.std.specs.Prelude.{option_to_list}
+use Rattle.std.specs.List.{AllByRecursion}
+use Rattle.sqlx_log.specs.EventTable.{is_beyond}
+use Rattle.sqlx_pool_core.specs.declared.options.PoolOptions.{PoolOptions}
+use Rattle.sqlx_pool_core.specs.declared.steps.Idle.{Idle}
+use Rattle.sqlx_pool_core.specs.MaintenanceSteps.{is_reaped_at, without_first}
+use Rattle.sqlx_pool_core.specs.IdleList.{AreOpenedFrom, AreRestingFrom, AreRestingBy, AreInTurn, AreBounded}
+
+-- ---- of all
+
+module _ {X : Type 0} where
+  pub all-each : {P Q : X → Type 0} → ((x : X) → P x → Q x) → (xs : List X) → AllByRecursion P xs → AllByRecursion Q xs
+  all-each f [] h = tt
+  all-each f (x ∷ xs) h = (f x h.0, all-each f xs h.1)
+
+  pub all-push : (P : X → Type 0) (xs : List X) (x : X) → AllByRecursion P xs → P x → AllByRecursion P (xs ++ x ∷ [])
+  all-push P [] x h k = (k, tt)
+  all-push P (y ∷ ys) x h k = (h.0, all-push P ys x h.1 k)
+
+  pub all-map : {Y : Type 0} (P : Y → Type 0) (v : X → Y) (xs : List X) → AllByRecursion (λ x. P (v x)) xs → AllByRecursion P (map v xs)
+  all-map P v [] h = tt
+  all-map P v (x ∷ xs) h = (h.0, all-map P v xs h.1)
+
+  pub all-without : (P : X → Type 0) (p : X → Bool) (xs : List X) → AllByRecursion P xs → AllByRecursion P (without_first p xs)
+  all-without P p [] h = tt
+  all-without P p (x ∷ xs) h = by (all-without P p xs h.1) (p x)
+    where
+      by : AllByRecursion P (without_first p xs) → (b : Bool) → AllByRecursion P (cond b xs (x ∷ without_first p xs))
+      by rest true = h.1
+      by rest false = (h.0, rest)
+
+module _ {C : Type 0} where
+  -- ---- in turn
+
+  pub in-turn-push : (xs : List (Idle C)) (i : Idle C) → AreInTurn xs → AreRestingBy i.since.0 xs → AreInTurn (xs ++ i ∷ [])
+  in-turn-push [] i h k = (tt, tt)
+  in-turn-push (x ∷ xs) i h k = (all-push _ xs i h.0 k.0, in-turn-push xs i h.1 k.1)
+
+  pub in-turn-without : (p : Idle C → Bool) (xs : List (Idle C)) → AreInTurn xs → AreInTurn (without_first p xs)
+  in-turn-without p [] h = tt
+  in-turn-without p (x ∷ xs) h = by (in-turn-without p xs h.1) (p x)
+    where
+      by : AreInTurn (without_first p xs) → (b : Bool) → AreInTurn (cond b xs (x ∷ without_first p xs))
+      by rest true = h.1
+      by rest false = (all-without _ p xs h.0, rest)
+
+  -- all rested when the last came
+  pub by-last : (xs : List (Idle C)) (y : Idle C) → AreInTurn xs → y ≡ get_or xs (length xs - 1) y → AreRestingBy y.since.0 xs
+  by-last [] y h e = tt
+  by-last (x ∷ []) y h e = (let same : y ≡ x = e in rw same (omega arith), tt)
+  by-last (x ∷ z ∷ zs) y h e =
+      let n : length (x ∷ z ∷ zs) - 1 ≡ suc (length (z ∷ zs) - 1) = omega arith in
+      let rest = by-last (z ∷ zs) y h.1 (e ∙ ap (λ k. get_or (x ∷ z ∷ zs) k y) n) in
+      let a = h.0.0 in let b = rest.0 in
+      (omega (arith, a, b), rest)
+
+  -- none rested before the first
+  pub from-first : (xs : List (Idle C)) (y : Idle C) → AreInTurn xs → y ≡ get_or xs 0 y → AreRestingFrom y.since.0 xs
+  from-first [] y h e = tt
+  from-first (x ∷ xs) y h e = let same : y ≡ x = e in let le : y.since.0 ≤ x.since.0 = rw same (omega arith) in (le, all-each (λ z k. omega (arith, k, le)) xs h.0)
+
+  pub from-nothing : (xs : List (Idle C)) → AreRestingFrom 0 xs
+  from-nothing [] = tt
+  from-nothing (x ∷ xs) = (omega arith, from-nothing xs)
+
+  -- ---- the bounds behind each edit
+
+  pub bounded-taken : (r : Option (Idle C)) (old new : List (Idle C)) (from : ℕ) (in_turn : Bool) → AreBounded old from in_turn → old ≡ option_to_list r ++ new → AreBounded new from in_turn
+  bounded-taken None old new from in_turn h e = let same : old ≡ new = e in rw (← same) h
+  bounded-taken (Some i) old new from in_turn h e =
+      let k : AreBounded (i ∷ new) from in_turn = rw e at h in
+      record { opened = k.opened.1; resting = λ t. (k.resting t).1 }
+
+  pub rests-by-later : (by since : ℕ) → by ≤ since → (xs : List (Idle C)) → AreRestingBy by xs → AreRestingBy since xs
+  rests-by-later by since le xs h = all-each (λ x k. omega (arith, k, le)) xs h
+
+  pub bounded-pushed : (old : List (Idle C)) (i : Idle C) (new : List (Idle C)) (from : ℕ) (was in_turn : Bool) → AreBounded old from was
+      → (in_turn ≡ true → AreInTurn old × AreRestingBy i.since.0 old) → new ≡ old ++ i ∷ [] → AreBounded new (min from i.lent.created.0) in_turn
+  bounded-pushed old i new from was in_turn h turned e = rw e (record {
+    opened = all-push _ old i (all-each (λ x k. omega (arith, k)) old h.opened) (omega arith);
+    resting = λ t. let both = turned t in in-turn-push old i both.0 both.1;
+  })
+
+  pub bounded-without : (p : Idle C → Bool) (old new : List (Idle C)) (from : ℕ) (in_turn : Bool) → AreBounded old from in_turn → new ≡ without_first p old → AreBounded new from in_turn
+  bounded-without p old new from in_turn h e = rw e (record { opened = all-without _ p old h.opened; resting = λ t. in-turn-without p old (h.resting t) })
+
+-- ---- beyond a limit
+
+beyond-less : (limit : Option ℕ) (a b : ℕ) → b ≤ a → is_beyond limit a ≡ false → is_beyond limit b ≡ false
+beyond-less None a b le e = refl
+beyond-less (Some l) a b le e = grind (arith, le, e)
+
+both-false : (a b : Bool) → (a || b) ≡ false → (a ≡ false) × (b ≡ false)
+both-false true b e = absurd cc
+both-false false b e = (refl, e)
+
+-- where the longest rest and the greatest age are within their limits, nothing is beyond one
+pub none-beyond : {C : Type 0} (options : PoolOptions) (m since from : ℕ) (xs : List (Idle C)) → AreRestingFrom since xs → AreOpenedFrom from xs
+    → (is_beyond options.idle_timeout (m - since) || is_beyond options.max_lifetime (m - from)) ≡ false → find (is_reaped_at options m) xs ≡ None
+none-beyond options m since from [] rests opened e = refl
+none-beyond options m since from (x ∷ xs) rests opened e =
+    let both = both-false _ _ e in
+    let le = rests.0 in let up = opened.0 in
+    let r = beyond-less options.idle_timeout (m - since) (m - x.since.0) (omega (arith, le)) both.0 in
+    let a = beyond-less options.max_lifetime (m - from) (m - x.lent.created.0) (omega (arith, up)) both.1 in
+    let here : is_reaped_at options m x ≡ false = rw (r, a) refl in
+    rw here (none-beyond options m since from xs rests.1 opened.1 e)
+
+-- where none is found, none is left out
+pub all-left : {X : Type 0} (p : X → Bool) (xs : List X) → find p xs ≡ None → without_first p xs ≡ xs
+all-left p [] e = refl
+all-left {X} p (x ∷ xs) e = by (all-left p xs) (p x) e
+  where
+    by : (find p xs ≡ None → without_first p xs ≡ xs) → (b : Bool) → cond b (Some x) (find p xs) ≡ None → cond b xs (x ∷ without_first p xs) ≡ x ∷ xs
+    by rest true k = absurd cc
+    by rest false k = ap (λ l. x ∷ l) (rest k)
