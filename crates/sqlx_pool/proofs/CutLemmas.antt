@@ -1,12 +1,12 @@
 -- The value under the lock stands after its log was cut.
-use Rattle.std.proofs.Common.{◌≡◌, ℕ, ◌+◌, ◌≤◌, Bool, true, false, List, [], All, length, take, drop, refl, sym, ap, ◌∙◌, subst, arith}
+use Rattle.std.proofs.Common.{◌≡◌, ℕ, ◌+◌, ◌≤◌, Bool, true, List, Option, length, take, drop, sym, ap, ◌∙◌, subst, arith}
 use Rattle.std.proofs.Math.Seq.{drop-length}
 use Rattle.std.proofs.lemmas.List.Elements.{All-weaker}
 use Rattle.sqlx_log.specs.declared.mark.Mark.{Mark}
-use Rattle.sqlx_log.specs.Marks.{opened_at, next_ticket, next_conn}
+use Rattle.sqlx_log.specs.Marks.{next_ticket, next_conn}
 use Rattle.sqlx_log.specs.Born.{IsBorn, IsNamedBelow}
 use Rattle.sqlx_log.specs.FairLog.{IsFair}
-use Rattle.sqlx_log.specs.Cut.{needed_of, cut_of}
+use Rattle.sqlx_log.specs.Cut.{cut_of}
 use Rattle.sqlx_log.proofs.FairLaws.{says-the-same}
 use Rattle.sqlx_log.proofs.CutLemmas.{view-cut, all-needed, fewer-needed, shorter-needed}
 use Rattle.sqlx_pool_core.specs.declared.steps.Idle.{Idle}
@@ -17,9 +17,7 @@ use Rattle.sqlx_pool_core.specs.declared.ticket.Phase.TheVariants as phase
 use Rattle.sqlx_pool_core.specs.Core.{Core}
 use Rattle.sqlx_pool_core.specs.StandsFor.{StandsFor, IsTestedBorn}
 use Rattle.sqlx_pool_core.specs.Balance.{is_lent, lents}
-use Rattle.sqlx_pool.specs.Booked.{Booked}
-use Rattle.sqlx_pool.specs.declared.log_start.LogStart.{LogStart}
-use Rattle.sqlx_pool.specs.State.{PoolState, state_of, no_start, IsKept}
+use Rattle.sqlx_pool.specs.State.{PoolState, state_of, IsKept}
 
 -- a core stands for its log where that is cut
 stands-cut : {C : Type 0} (core : Core C) (marks : List Mark) → StandsFor core marks → StandsFor core (cut_of marks)
@@ -58,9 +56,9 @@ lents-cut {state = state} kept now e =
     omega (arith, fewer, made, same)
 
 pub cut-kept : {C O : Type 0} {levels : C → ℕ} {max : ℕ} {cuts : Bool} {state : PoolState C O} {capacity : ℕ} → IsKept levels max cuts state capacity → cuts ≡ true
-    → (now : List Mark) → now ≡ cut_of state.marks → (len before room : ℕ) → len ≡ length now → before + lents now ≡ state.booked.made → room ≡ capacity
-    → IsKept levels max cuts (state_of state.core now (record { len = len; lent_before = before }) state.connect state.booked) room
-cut-kept {levels = levels} {max = max} {cuts = cuts} {state = state} {capacity = capacity} kept may now e len before room long counted same =
+    → (now : List Mark) → now ≡ cut_of state.marks → (limit : Option ℕ) → (len before room : ℕ) → len ≡ length now → before + lents now ≡ state.booked.made → room ≡ capacity
+    → IsKept levels max cuts (state_of state.core now (record { len = len; lent_before = before; limit = limit }) state.connect state.booked) room
+cut-kept {levels = levels} {max = max} {cuts = cuts} {state = state} {capacity = capacity} kept may now e limit len before room long counted same =
     let shorter : length (cut_of state.marks) ≤ length state.marks = shorter-needed (next_ticket state.marks) (next_conn state.marks) state.marks in
     let short = ap length e in
     let old = kept.room in

@@ -1,4 +1,5 @@
 pub mod Booked
+pub mod LogStart
 pub mod State
 pub mod Answers
 pub mod Places

@@ -1,5 +1,5 @@
 -- The value under the lock of a pool.
-use Rattle.std.specs.Prelude.{◌≡◌, ℕ, ◌+◌, ◌^◌, ◌≤◌, Bool, false, List, All, length, take, drop}
+use Rattle.std.specs.Prelude.{◌≡◌, ℕ, ◌+◌, ◌^◌, ◌≤◌, Bool, false, List, All, None, IfSome, length, max, take, drop}
 use Rattle.sqlx_log.specs.declared.mark.Mark.{Mark}
 use Rattle.sqlx_log.specs.FairLog.{IsFair}
 use Rattle.sqlx_pool_core.specs.declared.steps.Idle.{Idle}
@@ -21,9 +21,9 @@ pub record PoolState (C O : Type 0) : Type 0 where
 abbrev pub state_of : {C O : Type 0} → Core C → List Mark → LogStart → O → Booked → PoolState C O
 state_of core marks start connect booked = record { core = core; marks = marks; start = start; connect = connect; booked = booked }
 
--- the start of a log that was never cut: no mark is in it, and no loan is forgotten
+-- the start of a log that was never cut: no mark is in it, no loan is forgotten, and no limit is set
 abbrev pub no_start : LogStart
-no_start = record { len = 0; lent_before = 0 }
+no_start = record { len = 0; lent_before = 0; limit = None }
 
 -- the marks with which the log begins
 abbrev pub start_of : {C O : Type 0} → PoolState C O → List Mark
@@ -33,11 +33,15 @@ start_of state = take state.start.len state.marks
 abbrev pub since_start : {C O : Type 0} → PoolState C O → List Mark
 since_start state = drop state.start.len state.marks
 
+-- where a limit is set, there are behind the start at most as many marks as that, or as the start has
+abbrev pub IsWithinLimit : {C O : Type 0} → PoolState C O → Type 0
+IsWithinLimit state = IfSome state.start.limit (λ limit. length (since_start state) ≤ max limit state.start.len)
+
 -- each of these idle connections has no level open
 abbrev pub RestFlat : {C : Type 0} → (C → ℕ) → List (Idle C) → Type 0
 RestFlat levels idle = All (λ i. levels i.lent.raw ≡ 0) idle
 
--- What holds whenever the lock is free: the core stands for its log, which is fair behind its start for a pool of this maximum; where it can't be cut the start is empty; the books are the counts; and no idle connection has a level open.
+-- What holds whenever the lock is free: the core stands for its log, which is fair behind its start for a pool of this maximum; where it can't be cut the start is empty and no limit is set; the books are the counts; and no idle connection has a level open.
 pub record IsStanding {C O : Type 0} (levels : C → ℕ) (max : ℕ) (cuts : Bool) (state : PoolState C O) : Type 0 where
   pub stands : StandsFor state.core state.marks
   pub fair : IsFair max (start_of state) (since_start state)

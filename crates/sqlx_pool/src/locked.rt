@@ -76,6 +76,7 @@ impl<C: Depth + Drop, O: Drop, H: Ledger, L: Loans> Locked<C, O, H, L> {
             start: LogStart {
                 len: 0,
                 lent_before: 0,
+                limit: None,
             },
             connect,
             books,

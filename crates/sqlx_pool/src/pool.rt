@@ -17,7 +17,7 @@ use sqlx_pool_core::{CloseState, PoolOptions};
 use sqlx_text::{Depth, Error, Moment, OutOfMemory};
 use std::alloc::Global;
 use std::sync::ledger::{Blank, Ledger};
-use std::sync::{Arc, Condvar, Mutex, Wait};
+use std::sync::{Arc, Condvar, Mutex, MutexGuard, Wait};
 
 // What the handles of a pool share: the locked value, and how the pool was set up.
 #[derive(Drop)]
@@ -27,6 +27,9 @@ pub(crate) struct Shared<C: Depth, O, H: Ledger, L: Loans> {
     pub(crate) freed: Condvar,
     pub(crate) options: PoolOptions,
 }
+
+// What is under the lock, while it is held.
+pub(crate) type Guard<'a, C, O, H, L> = MutexGuard<'a, Locked<C, Arc<O, Global>, H, L>>;
 
 /// A pool of connections of the type `C`, which are opened by options of the type `O`. Handles on it go into as many
 /// threads as need be.
@@ -66,6 +69,13 @@ impl<C: Depth + Drop, O: Drop, H: Ledger, L: Loans> PoolOf<C, O, H, L> {
         }
     }
 
+    // Takes the lock, and cuts the log where it is long: before each step that reserves room for marks.
+    pub(crate) fn lock_and_cut<R: Wait>(&self, rt: &R) -> Guard<'_, C, O, H, L> {
+        let mut guard = self.shared.locked.lock(rt);
+        guard.cut_if_long();
+        guard
+    }
+
     // Wakes those that wait for their turn: after each step that frees a permit, ends a ticket without a loan, or closes
     // the pool.
     pub(crate) fn notify(&self) {
@@ -95,7 +105,7 @@ impl<C: Depth + Drop, O: Drop, H: Ledger, L: Loans> PoolOf<C, O, H, L> {
         let Ok(pool) = self.try_clone() else {
             return Err(Error::OutOfMemory);
         };
-        let asked = self.shared.locked.lock(rt).ask(alloc, now, client);
+        let asked = self.lock_and_cut(rt).ask(alloc, now, client);
         match asked {
             Ok(ticket) => Ok(AcquiringOf::new(pool, client, ticket)),
             Err(error) => {
@@ -124,11 +134,7 @@ impl<C: Depth + Drop, O: Drop, H: Ledger, L: Loans> PoolOf<C, O, H, L> {
         let Ok(pool) = self.try_clone() else {
             return Err(Error::OutOfMemory);
         };
-        let tried = self
-            .shared
-            .locked
-            .lock(rt)
-            .try_acquire(alloc, now, client, tally);
+        let tried = self.lock_and_cut(rt).try_acquire(alloc, now, client, tally);
         match tried {
             Ok(Some((lent, held))) => Ok(Some(PoolConnectionOf::new(pool, client, lent, held))),
             Ok(None) => {
@@ -216,6 +222,14 @@ impl<C: Depth + Drop, O: Drop, H: Ledger, L: Loans> PoolOf<C, O, H, L> {
         requires { L.cuts ≡ true }
     {
         self.shared.locked.lock(rt).cut();
+    }
+
+    /// Sets that the pool cuts its log by itself, before a step that reserves room for marks, where behind the start there
+    /// are at least so many marks, and as many as the start has. None, as at first: it doesn't.
+    pub fn set_log_limit<R: Wait>(&self, rt: &R, limit: Option<usize>)
+        requires { L.cuts ≡ true }
+    {
+        self.shared.locked.lock(rt).set_log_limit(limit);
     }
 
     /// A copy of the log: fair behind its start, for a pool of this maximum. The start is empty where the log may not be

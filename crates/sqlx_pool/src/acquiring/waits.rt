@@ -8,16 +8,14 @@ ghost use Rattle.sqlx_pool.specs.Refusals.{IsEnd, IsPollRefusal};
 ghost use Rattle.sqlx_pool.specs.Stage.{has_lent, IfLent, IfEnded};
 
 use super::AcquiringOf;
+use crate::pool::Guard;
 use crate::stage::{Stage, Why};
 use crate::{Clock, Held, Loans, Locked, Polling, PoolConnectionOf, PoolOf, PoolPollOf, Tally};
 use sqlx_pool_core::Outside;
 use sqlx_text::{Depth, Error, Moment};
 use std::alloc::Global;
+use std::sync::Wait;
 use std::sync::ledger::Ledger;
-use std::sync::{Arc, MutexGuard, Wait};
-
-// What is under the lock of a pool's handles.
-type Guard<'a, C, O, H, L> = MutexGuard<'a, Locked<C, Arc<O, Global>, H, L>>;
 
 impl<C: Depth, O, H: Ledger, L: Loans> Locked<C, O, H, L> {
     // Asks, and begins the first poll.
@@ -72,7 +70,7 @@ impl<C: Depth + Drop, O: Drop, H: Ledger, L: Loans> PoolOf<C, O, H, L> {
         ensures causes { IfErr result (λ e. (e ≡ Error.PoolClosed) ⊎ ((e ≡ Error.Exhausted) ⊎ (e ≡ Error.OutOfMemory))) }
         ensures err { OnErr result (tally.new ≡ tally.old) }
     {
-        let mut guard = self.shared.locked.lock(rt);
+        let mut guard = self.lock_and_cut(rt);
         match guard.ask_and_begin(alloc, client, now, tally) {
             Ok((ticket, begun)) => {
                 self.sleep_if_waiting(rt, guard, &begun);

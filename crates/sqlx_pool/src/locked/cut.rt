@@ -1,8 +1,10 @@
 //! Cutting the log.
 
-ghost use Rattle.std.specs.Prelude.{◌≡◌, ◌+◌, ◌≤◌, ℕ, true, length};
+ghost use Rattle.std.specs.Prelude.{◌≡◌, ◌+◌, ◌≤◌, ℕ, true, None, length, if◌then◌else◌};
 ghost use Rattle.sqlx_log.specs.Cut.{cut_of};
 ghost use Rattle.sqlx_pool_core.specs.Balance.{lents};
+ghost use Rattle.sqlx_pool.specs.LogStart.{is_long};
+ghost use Rattle.sqlx_pool.specs.State.{IsWithinLimit};
 
 use super::Locked;
 use crate::{Loans, LogStart};
@@ -27,6 +29,7 @@ impl<C: Depth, O, H: Ledger, L: Loans> Locked<C, O, H, L> {
         requires { L.cuts ≡ true }
         ensures marks { self.new.marks ≡ cut_of self.old.marks }
         ensures start { self.new.start.len ≡ length (cut_of self.old.marks) }
+        ensures limit { self.new.start.limit ≡ self.old.start.limit }
         ensures core { self.new.core ≡ self.old.core }
         ensures connect { self.new.connect ≡ self.old.connect }
         ensures booked { self.new.booked ≡ self.old.booked }
@@ -37,6 +40,31 @@ impl<C: Depth, O, H: Ledger, L: Loans> Locked<C, O, H, L> {
         self.start = LogStart {
             len: self.log.len(),
             lent_before: self.books.made() - lent,
+            limit: self.start.limit,
         };
+    }
+
+    /// Cuts the log where a limit is set, and behind the start there are at least as many marks as that, and as the
+    /// start has. Where none is set nothing changes.
+    pub fn cut_if_long(&mut self)
+        ensures marks { self.new.marks ≡ (if is_long self.old.start (length self.old.marks) then cut_of self.old.marks else self.old.marks) }
+        ensures within { IsWithinLimit self.new }
+        ensures unset { self.old.start.limit ≡ None → self.new ≡ self.old }
+        ensures limit { self.new.start.limit ≡ self.old.start.limit }
+        ensures core { self.new.core ≡ self.old.core }
+        ensures connect { self.new.connect ≡ self.old.connect }
+        ensures booked { self.new.booked ≡ self.old.booked }
+    {
+        if self.start.is_long(self.log.len()) {
+            self.cut();
+        }
+    }
+
+    /// Sets by how many marks behind its start the log is one to be cut.
+    pub fn set_log_limit(&mut self, limit: Option<usize>)
+        requires { L.cuts ≡ true }
+        ensures { self.new ≡ record self.old { start = record self.old.start { limit = limit } } }
+    {
+        self.start.limit = limit;
     }
 }

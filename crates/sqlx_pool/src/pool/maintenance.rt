@@ -187,7 +187,7 @@ impl<C: Depth + Drop, O: Drop, H: Ledger, L: Loans> PoolOf<C, O, H, L> {
     ) -> Filled
         ensures counts { (X.faults out.old ≤ X.faults out.new) × (X.refusals out.old ≤ X.refusals out.new) }
     {
-        let place = self.shared.locked.lock(rt).minimum_place(alloc);
+        let place = self.lock_and_cut(rt).minimum_place(alloc);
         match place {
             Ok(true) => self.fill_place::<R, X>(rt, alloc, now, out),
             Ok(false) => Filled::Full,

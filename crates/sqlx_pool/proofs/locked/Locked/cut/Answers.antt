@@ -1,5 +1,5 @@
-use Rattle.std.proofs.Common.{◌≡◌, ◌+◌, ◌-◌, ◌≤◌, ℕ, List, ap, ◌∙◌, sym, arith}
-use Rattle.sqlx_log.specs.Cut.{needed_of, cut_of}
+use Rattle.std.proofs.Common.{◌-◌, ap, ◌∙◌, arith}
+use Rattle.sqlx_log.specs.Cut.{needed_of}
 use Rattle.sqlx_pool_core.specs.declared.steps.Numbers.{Numbers}
 use Rattle.sqlx_pool_core.specs.Balance.{lents}
 use Rattle.sqlx_pool.proofs.CutLemmas.{lents-cut, cut-kept}
@@ -20,4 +20,4 @@ invariant_of-self g c =
     let fewer = lents-cut c.self.invariant c.keep_needed.new.log.items is in
     let count = c.count_lent-lent.ensures ∙ ap lents c.as_slice.ensures.value in
     let made = c.made.ensures in
-    cut-kept c.self.invariant c.requires c.keep_needed.new.log.items is c.len.result (c.made.result - c.count_lent-lent.result) _ (c.len.ensures ∙ c.keep_needed.new.log.ok.0) (omega (arith, fewer, count, made)) c.keep_needed.ensures.capacity
+    cut-kept c.self.invariant c.requires c.keep_needed.new.log.items is _ c.len.result (c.made.result - c.count_lent-lent.result) _ (c.len.ensures ∙ c.keep_needed.new.log.ok.0) (omega (arith, fewer, count, made)) c.keep_needed.ensures.capacity
