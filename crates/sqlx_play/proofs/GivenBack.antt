@@ -1,5 +1,5 @@
 -- What a giving back comes to over the outside of a script.
-use Rattle.std.proofs.Common.{◌≡◌, ℕ, ◌+◌, ◌≤◌, ◌==◌, max, Bool, true, false, not, ◌&&◌, ◌||◌, cond, Option, Some, None, Result, Ok, Err, is_ok, if◌then◌else◌, refl, sym, ap, subst, ◌∙◌, arith}
+use Rattle.std.proofs.Common.{◌≡◌, ℕ, ◌≤◌, ◌==◌, max, Bool, true, false, not, ◌&&◌, ◌||◌, cond, Option, Some, None, Result, Ok, Err, is_ok, if◌then◌else◌, refl, sym, ap, subst, ◌∙◌, arith}
 use Rattle.std.proofs.lemmas.Bool.{eqb-true, eqb-false, ne_eqb}
 use Rattle.sqlx_text.specs.declared.error.Error.{Error}
 use Rattle.sqlx_pool_core.specs.declared.outside.PoolConnectionMetadata.{PoolConnectionMetadata}
@@ -205,46 +205,3 @@ pub was-not_held : (raw : Link) (made : Given Link) → word.NotHeld raw ≡ ret
 was-not_held raw given.Kept e = absurd cc
 was-not_held raw (given.Closed other) e = absurd cc
 was-not_held raw (given.NotHeld other) e = cc
-
--- ---- what it leaves
-
-given-runs : (made : Given Link) (store : Store) → (given_store made store).runs ≡ store.runs
-given-runs given.Kept store = refl
-given-runs (given.Closed raw) store = refl
-given-runs (given.NotHeld raw) store = refl
-
-pub came-runs : (k m : ℕ) (answers : GiveAnswers) (l : Lent Link) (core new : Core Link) (old out : ScriptOutside) (result : Returned Link) → Came k m answers l core new old out result → out.store.runs ≡ old.store.runs
-came-runs k m answers l core new old out result w = ap (λ (s : Store). s.runs) w.store ∙ given-runs w.made old.store
-
-self : (n : ℕ) → n ≤ n
-self n = omega arith
-
-gave-last : (o : Option OwnedConn) (l : Lent Link) (m : ℕ) (made : Given Link) (core : Core Link) → core.last ≤ m → (core_after_give o l m made core).last ≤ m
-gave-last o l m given.Kept core h = self m
-gave-last o l m (given.Closed raw) core h = self m
-gave-last o l m (given.NotHeld raw) core h = h
-
-gave-ticket : (o : Option OwnedConn) (l : Lent Link) (m : ℕ) (made : Given Link) (core : Core Link) → (core_after_give o l m made core).next_ticket ≡ core.next_ticket
-gave-ticket None l m given.Kept core = refl
-gave-ticket (Some h) l m given.Kept core = refl
-gave-ticket o l m (given.Closed raw) core = refl
-gave-ticket o l m (given.NotHeld raw) core = refl
-
-gave-conn : (o : Option OwnedConn) (l : Lent Link) (m : ℕ) (made : Given Link) (core : Core Link) → (core_after_give o l m made core).next_conn ≡ core.next_conn
-gave-conn None l m given.Kept core = refl
-gave-conn (Some h) l m given.Kept core = refl
-gave-conn o l m (given.Closed raw) core = refl
-gave-conn o l m (given.NotHeld raw) core = refl
-
--- What a giving back leaves.
-pub record Moved (m : ℕ) (core new : Core Link) (old out : ScriptOutside) : Type 0 where
-  pub runs : out.store.runs ≡ old.store.runs
-  pub last : core.last ≤ m → new.last ≤ m
-  pub used : new.next_ticket + new.next_conn ≡ core.next_ticket + core.next_conn
-
-pub came-moves : (k m : ℕ) (answers : GiveAnswers) (l : Lent Link) (core new : Core Link) (old out : ScriptOutside) (result : Returned Link) → Came k m answers l core new old out result → Moved m core new old out
-came-moves k m answers l core new old out result w = record {
-  runs = came-runs k m answers l core new old out result w;
-  last = λ h. subst (λ (c : Core Link). c.last ≤ m) (sym w.becomes) (gave-last (loan_of k l.id core.held) l m w.made core h);
-  used = (λ i. (w.becomes i).next_ticket + (w.becomes i).next_conn) ∙ (λ i. gave-ticket (loan_of k l.id core.held) l m w.made core i + gave-conn (loan_of k l.id core.held) l m w.made core i);
-}

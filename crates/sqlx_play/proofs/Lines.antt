@@ -11,10 +11,10 @@ use Rattle.sqlx_script.specs.Words.{lines_of}
 use Rattle.sqlx_script.specs.Grammar.{Reading, reading_at, reading_from, event_of}
 use Rattle.sqlx_play.specs.declared.stage.Stage.{Stage}
 use Rattle.sqlx_rules.specs.Answer.{answer}
-use Rattle.sqlx_play.specs.StageStands.{StageStands}
+use Rattle.sqlx_play.specs.StageStands.{StageStands, IsFresh}
 use Rattle.sqlx_rules.specs.Output.{pairs_after, reply_line, replies_text}
 use Rattle.sqlx_play.specs.Causes.{WrotePart}
-use Rattle.sqlx_play.specs.Plays.{reading_of, PlaysLines, StopsAt, lines_text}
+use Rattle.sqlx_play.specs.Plays.{Replies, reading_of, PlaysLines, StopsAt, lines_text}
 use Rattle.sqlx_play.specs.ScriptRuns.{runs_of, runs_after}
 use Rattle.sqlx_play.proofs.RunsAdded.{runs_of-push}
 use Rattle.sqlx_rules.proofs.Events.{pairs_after-append, pairs_after-nil, pairs_after-push, pairs_after-front, replies_text-append, replies_text-push}
@@ -34,14 +34,14 @@ pub record PlayedSoFar (text rest : List ℕ) (number last : ℕ) (pool : PoolLi
   pub runs : stage.out.store.runs ≡ runs_of (pairs_after pool [] done)
 
 -- nothing was played yet
-pub begun : (text : List ℕ) (pool : PoolLine) (now : Option (List ℕ)) (stage : Stage) → StageStands stage [] → stage.out.store.runs ≡ runs_of [] → PlayedSoFar text text 2 0 pool now now stage
-begun text pool now stage s none = record {
+pub begun : (text : List ℕ) (pool : PoolLine) (now : Option (List ℕ)) (stage : Stage) → IsFresh stage → PlayedSoFar text text 2 0 pool now now stage
+begun text pool now stage fresh = record {
   done = [];
   reads = refl;
   written = subst (λ ps. Appends now now (replies_text ps)) (sym (pairs_after-nil pool [])) (Appends-nil now);
-  stands = subst (StageStands stage) (sym (pairs_after-nil pool [])) s;
+  stands = subst (StageStands stage) (sym (pairs_after-nil pool [])) fresh.stands;
   counted = ap (λ (ps : Pairs). length ps + 2) (pairs_after-nil pool []);
-  runs = none ∙ ap runs_of (sym (pairs_after-nil pool []));
+  runs = fresh.runs ∙ ap runs_of (sym (pairs_after-nil pool []));
 }
 
 -- ---- what the next line says
@@ -84,16 +84,14 @@ pub more : (text rest line rest' : List ℕ) (number last : ℕ) (pool : PoolLin
     → PlayedSoFar text rest number last pool before now stage
     → lines_of rest ≡ line ∷ lines_of rest' → event_of pool.counts_tests line ≡ Some e → last ≤ e.moment.0
     → stage.pool ≡ pool → stage'.pool ≡ stage.pool
-    → ((pairs : Pairs) → StageStands stage pairs
-    → Appends now now' (line_of (reply_text (answer stage.pool pairs e))) × StageStands stage' (pairs ++ (e, answer stage.pool pairs e) ∷ []))
+    → Replies now now' stage stage' e
     → number < 2 ^ 64
-    → ((pairs : Pairs) → StageStands stage pairs → stage'.out.store.runs ≡ runs_after e.step (answer stage.pool pairs e) stage.out.store.runs)
     → PlayedSoFar text rest' (number + 1) e.moment.0 pool before now' stage'
 unfolding reply_line
-more text rest line rest' number last pool before now now' stage stage' e w lines is late same stays plays few runs =
+more text rest line rest' number last pool before now now' stage stage' e w lines is late same stays plays few =
     let pairs = pairs_after pool [] w.done in
     let played =
-    subst (λ p. Appends now now' (line_of (reply_text (answer p pairs e))) × StageStands stage' (pairs ++ (e, answer p pairs e) ∷ [])) same (plays pairs w.stands) in
+    subst (λ p. Appends now now' (line_of (reply_text (answer p pairs e))) × StageStands stage' (pairs ++ (e, answer p pairs e) ∷ []) × (stage'.out.store.runs ≡ runs_after e.step (answer p pairs e) stage.out.store.runs)) same (plays pairs w.stands) in
     let pushed = pairs_after-push pool [] w.done e in
     record {
       done = w.done ++ e ∷ [];
@@ -104,7 +102,7 @@ more text rest line rest' number last pool before now now' stage stage' e w line
       stands = subst (StageStands stage') (sym pushed) played.1;
       counted = ap (λ (ps : Pairs). length ps + 2) pushed ∙ longer pairs (e, answer pool pairs e) number w.counted;
       runs =
-          subst (λ (p : PoolLine). stage'.out.store.runs ≡ runs_after e.step (answer p pairs e) stage.out.store.runs) same (runs pairs w.stands)
+          played.2
           ∙ ap (runs_after e.step (answer pool pairs e)) w.runs
           ∙ sym (ap runs_of pushed ∙ runs_of-push pairs (e, answer pool pairs e) (omega (arith, w.counted, few)));
     }

@@ -15,6 +15,7 @@ pub mod Closes
 pub mod GivesBack
 pub mod LoanEnds
 pub mod PlaysEvent
+pub mod EventFrame
 pub mod ConnectByReply
 pub mod LinkActs
 pub mod StatementRuns

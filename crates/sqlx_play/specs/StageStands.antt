@@ -1,5 +1,5 @@
 -- When a stage is what events and their replies come to.
-use Rattle.std.specs.Prelude.{◌≡◌, ℕ, ◌+◌, ◌≤◌, All, Some, None}
+use Rattle.std.specs.Prelude.{◌≡◌, ℕ, ◌+◌, ◌≤◌, [], All, Some, None}
 use Rattle.sqlx_script.specs.declared.pool_line.PoolLine.{PoolLine}
 use Rattle.sqlx_pool_core.specs.declared.options.PoolOptions.{PoolOptions}
 use Rattle.sqlx_pool_core.specs.declared.ticket.Ticket.{Ticket}
@@ -11,6 +11,7 @@ use Rattle.sqlx_rules.specs.ScriptMarks.{marks_of}
 use Rattle.sqlx_rules.specs.ScriptLevels.{history_of}
 use Rattle.sqlx_rules.specs.Tries.{tries_of}
 use Rattle.sqlx_play.specs.LinksStand.{LinksStand}
+use Rattle.sqlx_play.specs.ScriptRuns.{runs_of}
 use Rattle.sqlx_rules.specs.Pairs.{Pairs}
 
 -- The options of a core are those that the first line of a script sets up.
@@ -53,3 +54,14 @@ last_of stage = stage.core.last
 -- how many numbers of the stage are used up
 abbrev pub numbers_of : Stage → ℕ
 numbers_of stage = stage.core.next_ticket + stage.core.next_conn
+
+-- A stage before the first event.
+pub record IsFresh (stage : Stage) : Type 0 where
+  -- it stands for no event
+  pub stands : StageStands stage []
+  -- no text ran
+  pub runs : stage.out.store.runs ≡ runs_of []
+  -- no moment has passed
+  pub last : last_of stage ≡ 0
+  -- two numbers are used up at the most
+  pub numbers : numbers_of stage ≤ 2

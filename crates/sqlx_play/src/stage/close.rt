@@ -1,9 +1,10 @@
 //! The event `close`: the pool serves nobody any more, and its idle connections are closed.
-ghost use Rattle.std.specs.Prelude.{◌≡◌, ◌≤◌};
+ghost use Rattle.std.specs.Prelude.{◌≡◌};
 ghost use Rattle.sqlx_script.specs.declared.step.Step.{Step};
 ghost use Rattle.sqlx_play.specs.Closes.{closed_all};
 ghost use Rattle.sqlx_play.specs.PlaysEvent.{PlaysEvent};
-ghost use Rattle.sqlx_play.specs.StageStands.{last_of, numbers_of};
+ghost use Rattle.sqlx_play.specs.EventFrame.{Frame};
+ghost use Rattle.sqlx_play.specs.StageStands.{last_of};
 
 use super::Stage;
 use mem_store::{MemStore, StoreLink};
@@ -26,10 +27,8 @@ fn close_all(store: &mut MemStore, idle: &mut VecDeque<Idle<StoreLink>>)
 #[tactic(auto, unfolding(sqlx_rules::specs::Answer::answer))]
 pub fn close(stage: &mut Stage, moment: Moment) -> Reply
     ensures ok { PlaysEvent stage.old stage.new (record { moment = moment; step = Step.Close }) result }
-    ensures pool { stage.new.pool ≡ stage.old.pool }
+    ensures frame { Frame stage.old stage.new (last_of stage.old) 0 }
     ensures runs { stage.new.out.store.runs ≡ stage.old.out.store.runs }
-    ensures last { last_of stage.new ≡ last_of stage.old }
-    ensures used { numbers_of stage.new ≡ numbers_of stage.old }
 {
     stage.core.bounds();
     let mut idle = stage.core.close();

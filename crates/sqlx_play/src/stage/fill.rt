@@ -1,6 +1,7 @@
 //! Keeping the minimum: connections that are opened before any client asks.
 ghost use Rattle.std.specs.Prelude.{◌≡◌, ◌+◌, ◌^◌, ◌≤◌, IfOk, OnOk, IfErr};
 ghost use Rattle.sqlx_play.specs.KeepsMinimum.{KeepsMinimum};
+ghost use Rattle.sqlx_play.specs.EventFrame.{Frame};
 ghost use Rattle.sqlx_play.specs.StageStands.{last_of, numbers_of};
 
 use super::Stage;
@@ -14,10 +15,8 @@ pub fn fill(stage: &mut Stage, alloc: Global, moment: Moment, opens: u32) -> Res
     requires numbers { numbers_of stage.old + opens ≤ 2 ^ 63 }
     requires in_order { last_of stage.old ≤ moment.0 }
     ensures ok { IfOk result (KeepsMinimum stage.old stage.new moment.0 opens) }
-    ensures pool { stage.new.pool ≡ stage.old.pool }
+    ensures frame { Frame stage.old stage.new moment.0 opens }
     ensures runs { OnOk result (stage.new.out.store.runs ≡ stage.old.out.store.runs) }
-    ensures last { last_of stage.new ≤ moment.0 }
-    ensures used { numbers_of stage.new ≤ numbers_of stage.old + opens }
     ensures memory { IfErr result (λ e. e ≡ PlayError.OutOfMemory) }
 {
     stage.out.begin_minimum(opens);

@@ -1,8 +1,9 @@
 //! The event `give`: a client gives its connection back.
-ghost use Rattle.std.specs.Prelude.{◌≡◌, ◌+◌, ◌^◌, ◌≤◌, IfOk, OnOk, IfErr};
+ghost use Rattle.std.specs.Prelude.{◌≡◌, ◌^◌, ◌≤◌, IfOk, OnOk, IfErr};
 ghost use Rattle.sqlx_script.specs.declared.step.Step.{Step};
 ghost use Rattle.sqlx_play.specs.PlaysEvent.{PlaysEvent};
 ghost use Rattle.sqlx_play.specs.GivesBack.{GivesBack};
+ghost use Rattle.sqlx_play.specs.EventFrame.{EventFrame, Frame};
 ghost use Rattle.sqlx_play.specs.StageStands.{last_of, numbers_of};
 
 use super::Stage;
@@ -33,10 +34,8 @@ fn take_back(
 ) -> Result<Returned, PlayError>
     requires in_order { last_of stage.old ≤ moment.0 }
     ensures ok { IfOk result (GivesBack stage.old stage.new answers moment.0 client conn) }
-    ensures pool { stage.new.pool ≡ stage.old.pool }
+    ensures frame { Frame stage.old stage.new moment.0 0 }
     ensures runs { OnOk result (stage.new.out.store.runs ≡ stage.old.out.store.runs) }
-    ensures last { last_of stage.new ≤ moment.0 }
-    ensures used { numbers_of stage.new ≡ numbers_of stage.old }
     ensures memory { IfErr result (λ e. e ≡ PlayError.OutOfMemory) }
 {
     stage.core.bounds();
@@ -78,11 +77,7 @@ pub fn give(
     requires in_order { last_of stage.old ≤ moment.0 }
     requires few { opens ≤ 2 ^ 16 }
     ensures ok { IfOk result (PlaysEvent stage.old stage.new (record { moment = moment; step = Step.Give client connection answers opens })) }
-    ensures pool { stage.new.pool ≡ stage.old.pool }
-    ensures runs { OnOk result (stage.new.out.store.runs ≡ stage.old.out.store.runs) }
-    ensures last { last_of stage.new ≤ moment.0 }
-    ensures used { numbers_of stage.new ≤ numbers_of stage.old + 2 ^ 20 }
-    ensures memory { IfErr result (λ e. e ≡ PlayError.OutOfMemory) }
+    ensures frame { EventFrame stage.old stage.new (record { moment = moment; step = Step.Give client connection answers opens }) result }
 {
     match take_back(stage, moment, client, u64::from(connection), answers)? {
         Returned::Kept => Ok(Reply::Kept),

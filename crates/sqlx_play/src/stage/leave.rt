@@ -1,5 +1,5 @@
 //! The events `end`, `detach` and `leak`: a client's connection leaves the pool.
-ghost use Rattle.std.specs.Prelude.{◌≡◌, ◌+◌, ◌^◌, ◌≤◌, find, Some, IfOk, OnOk, IfErr};
+ghost use Rattle.std.specs.Prelude.{◌≡◌, ◌^◌, ◌≤◌, find, Some, IfOk};
 ghost use Rattle.sqlx_log.specs.declared.mark.Mark.{Mark};
 ghost use Rattle.sqlx_pool_core.specs.declared.steps.Lent.{Lent};
 ghost use Rattle.sqlx_pool_core.specs.MaintenanceSteps.{without_first};
@@ -8,6 +8,7 @@ ghost use Rattle.sqlx_script.specs.declared.step.Step.{Step};
 ghost use Rattle.sqlx_play.specs.PlaysEvent.{PlaysEvent};
 ghost use Rattle.sqlx_play.specs.LentLinks.{is_lent};
 ghost use Rattle.sqlx_play.specs.LoanEnds.{LoanEnds};
+ghost use Rattle.sqlx_play.specs.EventFrame.{EventFrame, Frame};
 ghost use Rattle.sqlx_play.specs.StageStands.{last_of, numbers_of};
 
 use super::Stage;
@@ -34,10 +35,8 @@ fn close_lent(stage: &mut Stage, conn: u64)
 // Ends a client's connection.
 fn end_loan(stage: &mut Stage, client: u32, conn: u64) -> bool
     ensures ok { LoanEnds stage.old stage.new (Mark.Closed conn) client conn result }
-    ensures pool { stage.new.pool ≡ stage.old.pool }
+    ensures frame { Frame stage.old stage.new (last_of stage.old) 0 }
     ensures runs { stage.new.out.store.runs ≡ stage.old.out.store.runs }
-    ensures last { last_of stage.new ≡ last_of stage.old }
-    ensures used { numbers_of stage.new ≡ numbers_of stage.old }
 {
     stage.core.bounds();
     if !stage.core.end(client, conn) {
@@ -50,10 +49,8 @@ fn end_loan(stage: &mut Stage, client: u32, conn: u64) -> bool
 // Takes a client's connection out of the pool.
 fn detach_loan(stage: &mut Stage, client: u32, conn: u64) -> bool
     ensures ok { LoanEnds stage.old stage.new (Mark.Detached conn) client conn result }
-    ensures pool { stage.new.pool ≡ stage.old.pool }
+    ensures frame { Frame stage.old stage.new (last_of stage.old) 0 }
     ensures runs { stage.new.out.store.runs ≡ stage.old.out.store.runs }
-    ensures last { last_of stage.new ≡ last_of stage.old }
-    ensures used { numbers_of stage.new ≡ numbers_of stage.old }
 {
     stage.core.bounds();
     if !stage.core.detach(client, conn) {
@@ -66,10 +63,8 @@ fn detach_loan(stage: &mut Stage, client: u32, conn: u64) -> bool
 // Takes a client's connection out of the pool, which keeps its place.
 fn leak_loan(stage: &mut Stage, client: u32, conn: u64) -> bool
     ensures ok { LoanEnds stage.old stage.new (Mark.Leaked conn) client conn result }
-    ensures pool { stage.new.pool ≡ stage.old.pool }
+    ensures frame { Frame stage.old stage.new (last_of stage.old) 0 }
     ensures runs { stage.new.out.store.runs ≡ stage.old.out.store.runs }
-    ensures last { last_of stage.new ≡ last_of stage.old }
-    ensures used { numbers_of stage.new ≡ numbers_of stage.old }
 {
     stage.core.bounds();
     if !stage.core.leak(client, conn) {
@@ -92,11 +87,7 @@ pub fn end(
     requires in_order { last_of stage.old ≤ moment.0 }
     requires few { opens ≤ 2 ^ 16 }
     ensures ok { IfOk result (PlaysEvent stage.old stage.new (record { moment = moment; step = Step.End client connection opens })) }
-    ensures pool { stage.new.pool ≡ stage.old.pool }
-    ensures runs { OnOk result (stage.new.out.store.runs ≡ stage.old.out.store.runs) }
-    ensures last { last_of stage.new ≤ moment.0 }
-    ensures used { numbers_of stage.new ≤ numbers_of stage.old + 2 ^ 20 }
-    ensures memory { IfErr result (λ e. e ≡ PlayError.OutOfMemory) }
+    ensures frame { EventFrame stage.old stage.new (record { moment = moment; step = Step.End client connection opens }) result }
 {
     if !end_loan(stage, client, u64::from(connection)) {
         return Ok(Reply::NotHeld);
@@ -118,11 +109,7 @@ pub fn detach(
     requires in_order { last_of stage.old ≤ moment.0 }
     requires few { opens ≤ 2 ^ 16 }
     ensures ok { IfOk result (PlaysEvent stage.old stage.new (record { moment = moment; step = Step.Detach client connection opens })) }
-    ensures pool { stage.new.pool ≡ stage.old.pool }
-    ensures runs { OnOk result (stage.new.out.store.runs ≡ stage.old.out.store.runs) }
-    ensures last { last_of stage.new ≤ moment.0 }
-    ensures used { numbers_of stage.new ≤ numbers_of stage.old + 2 ^ 20 }
-    ensures memory { IfErr result (λ e. e ≡ PlayError.OutOfMemory) }
+    ensures frame { EventFrame stage.old stage.new (record { moment = moment; step = Step.Detach client connection opens }) result }
 {
     if !detach_loan(stage, client, u64::from(connection)) {
         return Ok(Reply::NotHeld);
@@ -144,11 +131,7 @@ pub fn leak(
     requires in_order { last_of stage.old ≤ moment.0 }
     requires few { opens ≤ 2 ^ 16 }
     ensures ok { IfOk result (PlaysEvent stage.old stage.new (record { moment = moment; step = Step.Leak client connection opens })) }
-    ensures pool { stage.new.pool ≡ stage.old.pool }
-    ensures runs { OnOk result (stage.new.out.store.runs ≡ stage.old.out.store.runs) }
-    ensures last { last_of stage.new ≤ moment.0 }
-    ensures used { numbers_of stage.new ≤ numbers_of stage.old + 2 ^ 20 }
-    ensures memory { IfErr result (λ e. e ≡ PlayError.OutOfMemory) }
+    ensures frame { EventFrame stage.old stage.new (record { moment = moment; step = Step.Leak client connection opens }) result }
 {
     if !leak_loan(stage, client, u64::from(connection)) {
         return Ok(Reply::NotHeld);

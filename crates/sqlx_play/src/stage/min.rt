@@ -1,7 +1,8 @@
 //! The event `min`: the pool is filled up to its minimum.
-ghost use Rattle.std.specs.Prelude.{◌≡◌, ◌+◌, ◌^◌, ◌≤◌, IfOk, OnOk, IfErr};
+ghost use Rattle.std.specs.Prelude.{◌^◌, ◌≤◌, IfOk};
 ghost use Rattle.sqlx_script.specs.declared.step.Step.{Step};
 ghost use Rattle.sqlx_play.specs.PlaysEvent.{PlaysEvent};
+ghost use Rattle.sqlx_play.specs.EventFrame.{EventFrame};
 ghost use Rattle.sqlx_play.specs.StageStands.{last_of, numbers_of};
 
 use super::Stage;
@@ -17,11 +18,7 @@ pub fn min(stage: &mut Stage, alloc: Global, moment: Moment, opens: u32) -> Resu
     requires in_order { last_of stage.old ≤ moment.0 }
     requires few { opens ≤ 2 ^ 16 }
     ensures ok { IfOk result (PlaysEvent stage.old stage.new (record { moment = moment; step = Step.Min opens })) }
-    ensures pool { stage.new.pool ≡ stage.old.pool }
-    ensures runs { OnOk result (stage.new.out.store.runs ≡ stage.old.out.store.runs) }
-    ensures last { last_of stage.new ≤ moment.0 }
-    ensures used { numbers_of stage.new ≤ numbers_of stage.old + 2 ^ 20 }
-    ensures memory { IfErr result (λ e. e ≡ PlayError.OutOfMemory) }
+    ensures frame { EventFrame stage.old stage.new (record { moment = moment; step = Step.Min opens }) result }
 {
     let opened = fill(stage, alloc, moment, opens)?;
     Ok(Reply::Opened(opened))

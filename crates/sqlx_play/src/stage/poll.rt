@@ -1,8 +1,9 @@
 //! The event `poll`.
-ghost use Rattle.std.specs.Prelude.{◌≡◌, ℕ, ◌+◌, ◌^◌, ◌≤◌, List, Some, Err, IfOk, OnOk, IfErr};
+ghost use Rattle.std.specs.Prelude.{◌≡◌, ◌^◌, ◌≤◌, Some, IfOk, OnOk, IfErr};
 ghost use Rattle.sqlx_script.specs.declared.step.Step.{Step};
 ghost use Rattle.sqlx_play.specs.PlaysEvent.{PlaysEvent};
 ghost use Rattle.sqlx_play.specs.PolledReply.{owned_after, reply_of};
+ghost use Rattle.sqlx_play.specs.EventFrame.{EventFrame};
 ghost use Rattle.sqlx_play.specs.StageStands.{last_of, numbers_of};
 
 use super::Stage;
@@ -54,11 +55,7 @@ pub fn poll(
     requires numbers { numbers_of stage.old ≤ 2 ^ 62 }
     requires in_order { last_of stage.old ≤ moment.0 }
     ensures ok { IfOk result (PlaysEvent stage.old stage.new (record { moment = moment; step = Step.Poll client ticket answers })) }
-    ensures pool { stage.new.pool ≡ stage.old.pool }
-    ensures runs { OnOk result (stage.new.out.store.runs ≡ stage.old.out.store.runs) }
-    ensures last { last_of stage.new ≤ moment.0 }
-    ensures used { numbers_of stage.new ≤ numbers_of stage.old + 2 ^ 20 }
-    ensures memory { IfErr result (λ e. e ≡ PlayError.OutOfMemory) }
+    ensures frame { EventFrame stage.old stage.new (record { moment = moment; step = Step.Poll client ticket answers }) result }
 {
     stage.core.bounds();
     stage.out.begin_poll(answers);

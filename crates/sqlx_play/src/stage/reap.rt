@@ -1,8 +1,9 @@
 //! The event `reap`: idle connections beyond a limit leave, and the pool is filled up to its minimum.
-ghost use Rattle.std.specs.Prelude.{◌≡◌, ◌+◌, ◌^◌, ◌≤◌, IfOk, OnOk, IfErr};
+ghost use Rattle.std.specs.Prelude.{◌≡◌, ◌^◌, ◌≤◌, IfOk};
 ghost use Rattle.sqlx_script.specs.declared.step.Step.{Step};
 ghost use Rattle.sqlx_play.specs.PlaysEvent.{PlaysEvent};
 ghost use Rattle.sqlx_play.specs.Reaps.{ReapsOne, ReapsAll};
+ghost use Rattle.sqlx_play.specs.EventFrame.{EventFrame, Frame};
 ghost use Rattle.sqlx_play.specs.StageStands.{last_of, numbers_of};
 
 use super::Stage;
@@ -16,10 +17,8 @@ use std::alloc::Global;
 fn reap_one(stage: &mut Stage, moment: Moment) -> bool
     requires in_order { last_of stage.old ≤ moment.0 }
     ensures reaps { ReapsOne stage.old stage.new moment.0 result }
-    ensures pool { stage.new.pool ≡ stage.old.pool }
+    ensures frame { Frame stage.old stage.new moment.0 0 }
     ensures runs { stage.new.out.store.runs ≡ stage.old.out.store.runs }
-    ensures last { last_of stage.new ≤ moment.0 }
-    ensures used { numbers_of stage.new ≡ numbers_of stage.old }
 {
     stage.core.bounds();
     match stage.core.reap(moment) {
@@ -35,10 +34,8 @@ fn reap_one(stage: &mut Stage, moment: Moment) -> bool
 fn reap_all(stage: &mut Stage, moment: Moment) -> u64
     requires in_order { last_of stage.old ≤ moment.0 }
     ensures reaps { ReapsAll stage.old stage.new moment.0 result }
-    ensures pool { stage.new.pool ≡ stage.old.pool }
+    ensures frame { Frame stage.old stage.new moment.0 0 }
     ensures runs { stage.new.out.store.runs ≡ stage.old.out.store.runs }
-    ensures last { last_of stage.new ≤ moment.0 }
-    ensures used { numbers_of stage.new ≡ numbers_of stage.old }
 {
     let before = stage.core.num_idle();
     while reap_one(stage, moment) {}
@@ -56,11 +53,7 @@ pub fn reap(
     requires in_order { last_of stage.old ≤ moment.0 }
     requires few { opens ≤ 2 ^ 16 }
     ensures ok { IfOk result (PlaysEvent stage.old stage.new (record { moment = moment; step = Step.Reap opens })) }
-    ensures pool { stage.new.pool ≡ stage.old.pool }
-    ensures runs { OnOk result (stage.new.out.store.runs ≡ stage.old.out.store.runs) }
-    ensures last { last_of stage.new ≤ moment.0 }
-    ensures used { numbers_of stage.new ≤ numbers_of stage.old + 2 ^ 20 }
-    ensures memory { IfErr result (λ e. e ≡ PlayError.OutOfMemory) }
+    ensures frame { EventFrame stage.old stage.new (record { moment = moment; step = Step.Reap opens }) result }
 {
     let reaped = reap_all(stage, moment);
     let opened = fill(stage, alloc, moment, opens)?;

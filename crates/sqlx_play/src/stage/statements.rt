@@ -1,12 +1,12 @@
 //! The events that are statements on a connection of the client's.
-ghost use Rattle.std.specs.Prelude.{◌≡◌, ◌+◌, ◌^◌, ◌≤◌, true, false, Some, IfOk, IfErr, IfSome, IfNone};
+ghost use Rattle.std.specs.Prelude.{◌≡◌, ◌≤◌, true, false, Some, IfOk, IfErr, IfSome, IfNone};
 ghost use Rattle.sqlx_pool_core.specs.Sound.{IsNumbered};
 ghost use Rattle.sqlx_rules.specs.ScriptLevels as levels;
 ghost use Rattle.sqlx_play.specs.LinkActs.{IsMet};
 ghost use Rattle.sqlx_play.specs.StatementRuns.{said, acts, done_by, Runs};
 ghost use Rattle.sqlx_play.specs.PlaysEvent.{PlaysEvent};
-ghost use Rattle.sqlx_play.specs.ScriptRuns.{runs_after};
-ghost use Rattle.sqlx_play.specs.StageStands.{last_of, numbers_of};
+ghost use Rattle.sqlx_play.specs.EventFrame.{EventFrame};
+ghost use Rattle.sqlx_play.specs.StageStands.{last_of};
 
 use super::Stage;
 use super::acts::{Act, run_on};
@@ -115,11 +115,7 @@ pub fn play(stage: &mut Stage, alloc: Global, event: &Event) -> Result<Reply, Pl
     requires acts { acts event.now.step ≡ true }
     requires in_order { last_of stage.old ≤ event.now.moment.0 }
     ensures ok { IfOk result (PlaysEvent stage.old stage.new event.now) }
-    ensures pool { stage.new.pool ≡ stage.old.pool }
-    ensures runs { IfOk result (λ reply. stage.new.out.store.runs ≡ runs_after event.now.step reply stage.old.out.store.runs) }
-    ensures last { last_of stage.new ≤ event.now.moment.0 }
-    ensures used { numbers_of stage.new ≤ numbers_of stage.old + 2 ^ 20 }
-    ensures memory { IfErr result (λ e. e ≡ PlayError.OutOfMemory) }
+    ensures frame { EventFrame stage.old stage.new event.now result }
 {
     let Some(statement) = statement_of(&event.step) else {
         return Ok(Reply::NotHeld);

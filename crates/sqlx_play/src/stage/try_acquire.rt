@@ -1,7 +1,8 @@
 //! The event `try`.
-ghost use Rattle.std.specs.Prelude.{◌≡◌, ◌+◌, ◌^◌, ◌≤◌, IfOk, OnOk, IfErr};
+ghost use Rattle.std.specs.Prelude.{◌^◌, ◌≤◌, IfOk};
 ghost use Rattle.sqlx_script.specs.declared.step.Step.{Step};
 ghost use Rattle.sqlx_play.specs.PlaysEvent.{PlaysEvent};
+ghost use Rattle.sqlx_play.specs.EventFrame.{EventFrame};
 ghost use Rattle.sqlx_play.specs.StageStands.{last_of, numbers_of};
 
 use super::Stage;
@@ -16,11 +17,7 @@ pub fn try_acquire(stage: &mut Stage, moment: Moment, client: u32) -> Result<Rep
     requires numbers { numbers_of stage.old ≤ 2 ^ 62 }
     requires in_order { last_of stage.old ≤ moment.0 }
     ensures ok { IfOk result (PlaysEvent stage.old stage.new (record { moment = moment; step = Step.Try client })) }
-    ensures pool { stage.new.pool ≡ stage.old.pool }
-    ensures runs { OnOk result (stage.new.out.store.runs ≡ stage.old.out.store.runs) }
-    ensures last { last_of stage.new ≤ moment.0 }
-    ensures used { numbers_of stage.new ≤ numbers_of stage.old + 2 ^ 20 }
-    ensures memory { IfErr result (λ e. e ≡ PlayError.OutOfMemory) }
+    ensures frame { EventFrame stage.old stage.new (record { moment = moment; step = Step.Try client }) result }
 {
     match stage.core.try_acquire(moment, client) {
         Some(lent) => hand_over(&mut stage.lent, lent),

@@ -1,4 +1,4 @@
-use Rattle.std.proofs.Common.{◌≡◌, ℕ, ◌+◌, sym, ap, subst, ◌∙◌, arith}
+use Rattle.std.proofs.Common.{◌≡◌, ℕ, ◌+◌, refl, sym, ap, subst, ◌∙◌, arith}
 use Rattle.mem_store.specs.Store.{Store}
 use Rattle.sqlx_play.specs.KeepsMinimum.{KeepsMinimum}
 use Rattle.sqlx_play.proofs.KeepsMinimumLemmas.{opened-none, fills-from}
@@ -27,28 +27,18 @@ returns-clause-runs c =
     let w = keeps-moved c.args.moment.0 c.keep_minimum-kept.ensures.keeps.tries _ _ _ _ c.keep_minimum-kept.ensures.keeps.keeps c.begin_minimum.ensures.refuses c.begin_minimum.ensures.sets_up in
     w.runs ∙ ap (λ (s : Store). s.runs) c.begin_minimum.ensures.store
 
-pub returns-clause-last : goal.returns-clause-last
-returns-clause-last c =
-    let w = keeps-moved c.args.moment.0 c.keep_minimum-kept.ensures.keeps.tries _ _ _ _ c.keep_minimum-kept.ensures.keeps.keeps c.begin_minimum.ensures.refuses c.begin_minimum.ensures.sets_up in
-    w.last c.requires.in_order
-
-pub returns-clause-used : goal.returns-clause-used
-returns-clause-used c =
+pub returns-clause-frame : goal.returns-clause-frame
+returns-clause-frame c =
     let w = keeps-moved c.args.moment.0 c.keep_minimum-kept.ensures.keeps.tries _ _ _ _ c.keep_minimum-kept.ensures.keeps.keeps c.begin_minimum.ensures.refuses c.begin_minimum.ensures.sets_up in
     let a = w.ticket in
     let b = w.conn in
     let n = c.begin_minimum.ensures.opens in
-    omega (arith, a, b, n)
+    record { pool = refl; last = w.last c.requires.in_order; used = omega (arith, a, b, n) }
 
-pub returns-then-kept-clause-last : goal.returns-then-kept-clause-last
-returns-then-kept-clause-last c =
-    let w = keeps-moved c.args.moment.0 c.keep_minimum-kept.ensures.keeps.tries _ _ _ _ c.keep_minimum-kept.ensures.keeps.keeps c.begin_minimum.ensures.refuses c.begin_minimum.ensures.sets_up in
-    w.last c.requires.in_order
-
-pub returns-then-kept-clause-used : goal.returns-then-kept-clause-used
-returns-then-kept-clause-used c =
+pub returns-then-kept-clause-frame : goal.returns-then-kept-clause-frame
+returns-then-kept-clause-frame c =
     let w = keeps-moved c.args.moment.0 c.keep_minimum-kept.ensures.keeps.tries _ _ _ _ c.keep_minimum-kept.ensures.keeps.keeps c.begin_minimum.ensures.refuses c.begin_minimum.ensures.sets_up in
     let a = w.ticket in
     let b = w.conn in
     let n = c.begin_minimum.ensures.opens in
-    omega (arith, a, b, n)
+    record { pool = refl; last = w.last c.requires.in_order; used = omega (arith, a, b, n) }

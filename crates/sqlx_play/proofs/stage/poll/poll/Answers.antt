@@ -1,5 +1,6 @@
-use Rattle.std.proofs.Common.{◌∙◌, ◌≡◌, Result, Ok, Err, OnOk, ap, arith}
+use Rattle.std.proofs.Common.{◌∙◌, ap, arith, refl}
 use Rattle.mem_store.specs.Store.{Store}
+use Rattle.sqlx_play.proofs.Frames.{event-frame}
 use Rattle.sqlx_play.proofs.PolledMoves.{Moved, polled-moves}
 use Rattle.std.proofs.Math.Nat.{max-eq_right}
 use Rattle.sqlx_play.proofs.PollPlays.{few-conns}
@@ -15,21 +16,17 @@ returns-clause-ok c =
     (few-conns stage c.requires.numbers) c.bounds.ensures.numbered c.begin_poll.ensures.letters c.begin_poll.ensures.opens c.begin_poll.ensures.left c.begin_poll.ensures.store refl (max-eq_right c.requires.in_order)
     c.poll_with-polled.result c.poll_with-polled.ensures.polls c.reply.result c.reply.ensures.answer c.reply.ensures.owned
 
-on-ok : {T E A : Type 0} (r : Result T E) (a b : A) → a ≡ b → OnOk r (a ≡ b)
-on-ok (Ok v) a b e = e
-on-ok (Err x) a b e = tt
-
 moved : (c : goal.After-reply) → Moved c.args.moment.0 c.args.stage.now.core c.poll_with-polled.new.self c.begin_poll.new.self c.poll_with-polled.new.out
 moved c = polled-moves c.args.client c.args.ticket _ c.args.moment.0 c.args.answers _ _ _ _ c.begin_poll.ensures.letters c.begin_poll.ensures.opens (max-eq_right c.requires.in_order) c.poll_with-polled.result c.poll_with-polled.ensures.polls
 
-pub returns-clause-runs : goal.returns-clause-runs
-returns-clause-runs c = on-ok c.reply.result _ _ ((moved c).runs ∙ ap (λ (s : Store). s.runs) c.begin_poll.ensures.store)
-
-pub returns-clause-last : goal.returns-clause-last
-returns-clause-last c = (moved c).last c.requires.in_order
-
-pub returns-clause-used : goal.returns-clause-used
-returns-clause-used c = let a = (moved c).ticket in let b = (moved c).conn in omega (arith, a, b)
+pub returns-clause-frame : goal.returns-clause-frame
+returns-clause-frame c =
+    let stage = c.args.stage.now in
+    let m = moved c in
+    let a = m.ticket in
+    let b = m.conn in
+    event-frame stage (record stage { core = c.poll_with-polled.new.self; out = c.poll_with-polled.new.out; lent = c.reply.new.owned }) c.args.moment _ c.reply.result (λ reply. refl)
+    (record { pool = refl; last = m.last c.requires.in_order; used = omega (arith, a, b) }) (m.runs ∙ ap (λ (s : Store). s.runs) c.begin_poll.ensures.store) c.reply.ensures.memory
 
 pub reply-requires : goal.reply-requires
 reply-requires c = polls-not _ _ _ _ _ _ _ _ _ _ _ (few-conns c.args.stage.now c.requires.numbers) c.poll_with-polled.ensures.polls

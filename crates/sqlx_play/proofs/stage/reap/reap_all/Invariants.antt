@@ -1,17 +1,15 @@
-use Rattle.std.proofs.Common.{◌≡◌, ◌≤◌, List, length}
+use Rattle.std.proofs.Common.{◌≡◌, List, length}
 use Rattle.sqlx_pool_core.specs.declared.steps.Idle.{Idle}
 use Rattle.mem_store.specs.Store.{Link}
 use Rattle.sqlx_play.specs.Reaps.{Reaps, reapable}
-use Rattle.sqlx_play.specs.StageStands.{last_of, numbers_of}
+use Rattle.sqlx_play.specs.EventFrame.{Frame}
 use Rattle.sqlx_play.proofs.stage.reap.reap_all.Given as goal
 
 -- some were reaped, in their order
 abbrev pub invariant-loop-moment : goal.invariant-loop-moment
 invariant-loop-moment l = record {
   reaps : (taken : List (Idle Link)) × Reaps l.initial.stage l.stage l.moment.0 taken;
-  pool : l.stage.pool ≡ l.initial.stage.pool;
-  in_order : last_of l.stage ≤ l.moment.0;
-  used : numbers_of l.stage ≡ numbers_of l.initial.stage;
+  frame : Frame l.initial.stage l.stage l.moment.0 0;
   runs : l.stage.out.store.runs ≡ l.initial.stage.out.store.runs;
 }
 

@@ -6,6 +6,7 @@ use Rattle.sqlx_rules.specs.Answer.{answer}
 use Rattle.sqlx_play.specs.PlaysEvent.{PlaysEvent}
 use Rattle.sqlx_play.specs.declared.error.PlayError.{PlayError}
 use Rattle.sqlx_play.proofs.CancelAndTry.{try-reply, unlent-stands, tried-stands, first-idle}
+use Rattle.sqlx_play.proofs.Frames.{frame-at, frame-still, event-frame}
 use Rattle.sqlx_play.proofs.stage.try_acquire.try_acquire.Goals as goal
 
 pub returns-in-None-clause-ok : goal.returns-in-None-clause-ok
@@ -26,3 +27,11 @@ returns-in-Some-clause-ok c = by c.hand_over.result c.hand_over.ensures.answer c
       tried-stands c.args.stage.now _ pairs c.args.moment c.args.client _ c.in-Some.lent reply s (first-idle c.args.stage.now.core _ c.in-Some.lent c.in-Some.ensures.answer) is c.in-Some.ensures.becomes refl owned refl (c.in-Some.ensures.makes _ s.stands),
     )
     by (Err e) is owned = tt
+
+pub returns-in-None-clause-frame : goal.returns-in-None-clause-frame
+returns-in-None-clause-frame c = record { frame = frame-still c.args.stage.now _ _ _ _ refl c.in-None.ensures.becomes c.requires.in_order refl refl; runs = refl; memory = tt }
+
+pub returns-in-Some-clause-frame : goal.returns-in-Some-clause-frame
+returns-in-Some-clause-frame c =
+    event-frame c.args.stage.now (record c.args.stage.now { core = c.try_acquire.new.self; lent = c.hand_over.new.owned }) c.args.moment (Try c.args.client) c.hand_over.result (λ reply. refl)
+    (frame-at c.args.stage.now _ _ _ _ refl c.in-Some.ensures.becomes c.requires.in_order refl refl) refl c.hand_over.ensures.memory
