@@ -16,7 +16,6 @@ pub mod PollTries
 pub mod PollMarks
 pub mod CancelAndTry
 pub mod Dispatch
-pub mod Frames
 pub mod Asked
 pub mod Polls
 pub mod PollTests

@@ -1,5 +1,5 @@
 -- How a stage's events change the counts of its store.
-use Rattle.std.proofs.Common.{◌≡◌, ℕ, zero, suc, ℤ, pos, ◌==◌, Bool, true, false, cond, inl, inr, Option, Some, None, Result, Ok, Err, IfOk, OnOk, refl, sym, ap, subst, ◌∙◌}
+use Rattle.std.proofs.Common.{◌≡◌, ℕ, zero, suc, ℤ, pos, ◌==◌, Bool, true, false, cond, inl, inr, Option, Some, None, Result, Ok, Err, IfOk, refl, sym, ap, subst, ◌∙◌}
 use Rattle.mem_store.specs.declared.runs.Runs.{Runs as Counts}
 use Rattle.mem_store.specs.declared.refusal.Refusal.{Refusal}
 use Rattle.mem_store.specs.declared.refusal.Refusal.TheVariants.{Fault, Refused, Unread, Deep, Busy}
@@ -20,15 +20,6 @@ use Rattle.sqlx_play.specs.LinkActs.{refused_reply, found_reply, reply_met, left
 use Rattle.sqlx_play.specs.ScriptRuns.{runs_after}
 use Rattle.sqlx_play.specs.StatementRuns.{done_by, Runs, at_work}
 use Rattle.sqlx_play.proofs.LinkOutcomes.{met_by}
-
--- ---- events of the pool
-
--- an event that runs no text
-pub counts-nothing : (old new : Counts) (at s : Step) (r : Result Reply PlayError) → at ≡ s → ((reply : Reply) → old ≡ runs_after s reply old) → OnOk r (new ≡ old) → IfOk r (λ reply. new ≡ runs_after at reply old)
-counts-nothing old new at s (Ok reply) is none same = subst (λ (x : Step). new ≡ runs_after x reply old) (sym is) (same ∙ none reply)
-counts-nothing old new at s (Err error) is none same = tt
-
--- ---- statements
 
 -- the counts after a session's act are those of its step and reply
 abbrev Counted : Step → Act → Session → Type 0

@@ -1,7 +1,6 @@
-use Rattle.std.proofs.Common.{arith, refl}
+use Rattle.std.proofs.Common.{arith}
 use Rattle.sqlx_rules.specs.Answer.{answer}
 use Rattle.sqlx_play.proofs.Asks.{ask-came, ask-plays}
-use Rattle.sqlx_play.proofs.Frames.{asked-frame}
 use Rattle.sqlx_play.proofs.stage.ask.ask.Goals as goal
 
 pub returns-in-Some-clause-ok : goal.returns-in-Some-clause-ok
@@ -12,11 +11,3 @@ returns-in-Some-clause-ok c pairs s =
     (ask-came c.ask-answer.result c.ask_reply-reply.result c.in-Some.reply c.in-Some.is c.ask_reply-reply.ensures.drawn c.ask_reply-reply.ensures.closed c.ask_reply-reply.ensures.memory
     (λ e. let full = (asked.exhausted.0 e).1 in absurd (omega (arith, full, c.requires.numbers))) asked.causes)
     asked.numbered asked.closed (asked.makes _ s.stands) asked.becomes asked.err
-
-pub returns-in-Some-clause-frame : goal.returns-in-Some-clause-frame
-returns-in-Some-clause-frame c =
-    record { frame = asked-frame c.args.stage.now _ _ _ _ _ c.ask-answer.result c.ask-answer.ensures.becomes c.ask-answer.ensures.err c.requires.in_order (omega arith); runs = refl; memory = tt }
-
-pub returns-in-None-clause-frame : goal.returns-in-None-clause-frame
-returns-in-None-clause-frame c =
-    record { frame = asked-frame c.args.stage.now _ _ _ _ _ c.ask-answer.result c.ask-answer.ensures.becomes c.ask-answer.ensures.err c.requires.in_order (omega arith); runs = tt; memory = refl }

@@ -1,7 +1,6 @@
 use Rattle.std.proofs.Common.{refl, ◌∙◌}
 use Rattle.sqlx_play.specs.declared.stage.Stage.{Stage}
 use Rattle.sqlx_rules.specs.Answer.{answer}
-use Rattle.sqlx_play.proofs.Frames.{closed-frame}
 use Rattle.sqlx_play.proofs.ClosesLemmas.{close-told, close-stands}
 use Rattle.sqlx_play.proofs.stage.close.close.Goals as goal
 
@@ -13,6 +12,3 @@ returns-clause-ok c pairs s =
       close-told c.args.stage.now new _ pairs c.args.moment _ s c.bounds.ensures.numbered c.close-idle.ensures.answer c.close-idle.ensures.becomes makes c.close_all.ensures.store refl refl (c.len-count.ensures ∙ c.close-idle.result.ok.0),
       close-stands c.args.stage.now new _ pairs c.args.moment _ s c.bounds.ensures.numbered c.close-idle.ensures.answer c.close-idle.ensures.becomes makes c.close_all.ensures.store refl refl (c.len-count.ensures ∙ c.close-idle.result.ok.0),
     )
-
-pub returns-clause-frame : goal.returns-clause-frame
-returns-clause-frame c = closed-frame c.args.stage.now _ _ refl c.close-idle.ensures.becomes

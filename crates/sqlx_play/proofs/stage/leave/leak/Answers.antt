@@ -1,9 +1,8 @@
-use Rattle.std.proofs.Common.{ℕ, Bool, true, false, subst, ◌∙◌, arith}
+use Rattle.std.proofs.Common.{ℕ, Bool, true, false, subst}
 use Rattle.sqlx_log.specs.declared.mark.Mark.TheVariants as mark
 use Rattle.sqlx_rules.specs.Answer.{answer}
 use Rattle.sqlx_play.specs.LoanEnds.{LoanEnds}
 use Rattle.sqlx_play.proofs.PlaysLeave.{leak-not, leak-done}
-use Rattle.sqlx_play.proofs.Frames.{frame-wider, frame-then, event-failed}
 use Rattle.sqlx_play.proofs.stage.leave.leak.Goals as goal
 
 pub returns-then-not-leak_loan-clause-ok : goal.returns-then-not-leak_loan-clause-ok
@@ -20,15 +19,3 @@ returns-clause-ok c pairs s =
     (subst (λ (n : ℕ). LoanEnds c.args.stage.now c.leak_loan.new.stage (mark.Leaked n) c.args.client n true) c.from.ensures
     (subst (λ (b : Bool). LoanEnds c.args.stage.now c.leak_loan.new.stage (mark.Leaked c.from.result) c.args.client c.from.result b) c.if-not-leak_loan.false c.leak_loan.ensures.ok))
     c.in_ok-opened.ensures.ok
-
-pub returns-then-not-leak_loan-clause-frame : goal.returns-then-not-leak_loan-clause-frame
-returns-then-not-leak_loan-clause-frame c = record { frame = frame-wider _ _ _ _ _ _ c.leak_loan.ensures.frame c.requires.in_order (omega arith); runs = c.leak_loan.ensures.runs; memory = tt }
-
-pub returns-in_err-opened-clause-frame : goal.returns-in_err-opened-clause-frame
-returns-in_err-opened-clause-frame c =
-    event-failed c.args.stage.now _ _ c.from_residual.result _ c.from_residual.ensures.1 c.in_err-opened.ensures.memory
-    (frame-then _ _ _ _ _ _ _ _ c.leak_loan.ensures.frame c.fill.ensures.frame (omega (arith, c.requires.few)))
-
-pub returns-clause-frame : goal.returns-clause-frame
-returns-clause-frame c =
-    record { frame = frame-then _ _ _ _ _ _ _ _ c.leak_loan.ensures.frame c.fill.ensures.frame (omega (arith, c.requires.few)); runs = c.in_ok-opened.ensures.runs ∙ c.leak_loan.ensures.runs; memory = tt }

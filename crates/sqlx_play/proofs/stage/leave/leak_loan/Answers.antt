@@ -1,11 +1,10 @@
-use Rattle.std.proofs.Common.{Bool, true, refl, sym, ap, subst, ◌∙◌}
+use Rattle.std.proofs.Common.{Bool, true, sym, ap, subst, ◌∙◌}
 use Rattle.sqlx_log.specs.declared.mark.Mark.TheVariants as mark
 use Rattle.sqlx_pool_core.specs.Core.{Core}
 use Rattle.sqlx_pool_core.specs.Makes.{Makes}
 use Rattle.sqlx_pool_core.specs.ReturnSteps.{leak_marks, leaked}
 use Rattle.mem_store.specs.Store.{Link}
 use Rattle.sqlx_play.proofs.LoanEndsLemmas.{departs-not, departs, leaks-loan}
-use Rattle.sqlx_play.proofs.Frames.{leaked-frame}
 use Rattle.sqlx_play.proofs.stage.leave.leak_loan.Goals as goal
 
 pub returns-then-not-leak-clause-ok : goal.returns-then-not-leak-clause-ok
@@ -24,9 +23,3 @@ returns-clause-ok c =
     (λ marks s. subst (λ (d : Core Link). Makes old.core.options.max_connections marks (leak_marks c.args.conn true) d) (sym c.close_lent.ensures.core)
     (subst (λ (b : Bool). Makes old.core.options.max_connections marks (leak_marks c.args.conn b) c.leak.new.self) c.if-not-leak.false (c.leak.ensures.makes marks s)))
     c.close_lent.ensures.store c.close_lent.ensures.lent
-
-pub returns-then-not-leak-clause-frame : goal.returns-then-not-leak-clause-frame
-returns-then-not-leak-clause-frame c = leaked-frame c.args.stage.now _ c.args.conn _ refl c.leak.ensures.becomes
-
-pub returns-clause-frame : goal.returns-clause-frame
-returns-clause-frame c = leaked-frame c.args.stage.now c.close_lent.new.stage c.args.conn _ c.close_lent.ensures.pool (c.close_lent.ensures.core ∙ c.leak.ensures.becomes)

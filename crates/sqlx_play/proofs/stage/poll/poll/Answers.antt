@@ -1,6 +1,6 @@
 use Rattle.std.proofs.Common.{◌∙◌, ap, arith, refl}
 use Rattle.mem_store.specs.Store.{Store}
-use Rattle.sqlx_play.proofs.Frames.{event-frame}
+use Rattle.sqlx_play.proofs.Dispatch.{frames-no_text}
 use Rattle.sqlx_play.proofs.PolledMoves.{Moved, polled-moves}
 use Rattle.std.proofs.Math.Nat.{max-eq_right}
 use Rattle.sqlx_play.proofs.PollPlays.{few-conns}
@@ -25,7 +25,7 @@ returns-clause-frame c =
     let m = moved c in
     let a = m.ticket in
     let b = m.conn in
-    event-frame stage (record stage { core = c.poll_with-polled.new.self; out = c.poll_with-polled.new.out; lent = c.reply.new.owned }) c.args.moment _ c.reply.result (λ reply. refl)
+    frames-no_text stage (record stage { core = c.poll_with-polled.new.self; out = c.poll_with-polled.new.out; lent = c.reply.new.owned }) c.args.moment _ c.reply.result (λ reply. refl)
     (record { pool = refl; last = m.last c.requires.in_order; used = omega (arith, a, b) }) (m.runs ∙ ap (λ (s : Store). s.runs) c.begin_poll.ensures.store) c.reply.ensures.memory
 
 pub reply-requires : goal.reply-requires

@@ -1,18 +1,7 @@
 use Rattle.sqlx_rules.specs.Answer.{answer}
 use Rattle.sqlx_play.proofs.ReapsLemmas.{plays-reap}
-use Rattle.std.proofs.Common.{◌∙◌, arith}
-use Rattle.sqlx_play.proofs.Frames.{frame-then, event-failed}
 use Rattle.sqlx_play.proofs.stage.reap.reap.Goals as goal
 
 pub returns-clause-ok : goal.returns-clause-ok
 unfolding answer
 returns-clause-ok c pairs s = plays-reap c.args.stage.now _ _ pairs c.args.moment c.args.opens _ _ s c.reap_all-reaped.ensures.frame.pool c.reap_all-reaped.ensures.reaps c.in_ok-opened.ensures.ok
-
-pub returns-in_err-opened-clause-frame : goal.returns-in_err-opened-clause-frame
-returns-in_err-opened-clause-frame c =
-    event-failed c.args.stage.now _ _ c.from_residual.result _ c.from_residual.ensures.1 c.in_err-opened.ensures.memory
-    (frame-then _ _ _ _ _ _ _ _ c.reap_all-reaped.ensures.frame c.fill.ensures.frame (omega (arith, c.requires.few)))
-
-pub returns-clause-frame : goal.returns-clause-frame
-returns-clause-frame c =
-    record { frame = frame-then _ _ _ _ _ _ _ _ c.reap_all-reaped.ensures.frame c.fill.ensures.frame (omega (arith, c.requires.few)); runs = c.in_ok-opened.ensures.runs ∙ c.reap_all-reaped.ensures.runs; memory = tt }

@@ -1,7 +1,5 @@
 use Rattle.std.proofs.Math.Nat.{max-eq_right}
 use Rattle.sqlx_play.proofs.ReapsLemmas.{reaps-none, reaps-one}
-use Rattle.std.proofs.Common.{refl}
-use Rattle.sqlx_play.proofs.Frames.{frame-at, frame-still}
 use Rattle.sqlx_play.proofs.stage.reap.reap_one.Goals as goal
 
 pub returns-in-Some-clause-reaps : goal.returns-in-Some-clause-reaps
@@ -10,9 +8,3 @@ returns-in-Some-clause-reaps c =
 
 pub returns-in-None-clause-reaps : goal.returns-in-None-clause-reaps
 returns-in-None-clause-reaps c = reaps-none c.args.stage.now _ c.args.moment.0 _ (max-eq_right c.requires.in_order) c.in-None.ensures.answer c.in-None.ensures.becomes
-
-pub returns-in-Some-clause-frame : goal.returns-in-Some-clause-frame
-returns-in-Some-clause-frame c = frame-at c.args.stage.now _ _ _ _ refl c.in-Some.ensures.becomes c.requires.in_order refl refl
-
-pub returns-in-None-clause-frame : goal.returns-in-None-clause-frame
-returns-in-None-clause-frame c = frame-still c.args.stage.now _ _ _ _ refl c.in-None.ensures.becomes c.requires.in_order refl refl

@@ -1,7 +1,6 @@
 use Rattle.sqlx_play.proofs.StatementStands.{statement-plays_if}
 use Rattle.sqlx_play.proofs.RunsCounted.{statement-counted_if}
-use Rattle.std.proofs.Common.{◌≡◌, true, false, refl, sym, ◌∙◌}
-use Rattle.sqlx_play.proofs.Frames.{frame-still}
+use Rattle.std.proofs.Common.{rules}
 use Rattle.sqlx_play.proofs.stage.statements.play.Goals as goal
 
 pub returns-clause-ok : goal.returns-clause-ok
@@ -10,12 +9,7 @@ returns-clause-ok c =
 
 pub returns-clause-frame : goal.returns-clause-frame
 returns-clause-frame c = record {
-  frame = frame-still c.args.stage.now c.run.new.stage _ _ _ c.run.ensures.pool c.run.ensures.core c.requires.in_order refl refl;
+  frame = search rules;
   runs = statement-counted_if c.args.stage.now c.run.new.stage c.in-Some.statement c.args.event.now.step c.run.result c.in-Some.ensures.act c.run.ensures.ok;
   memory = c.run.ensures.memory;
 }
-
-pub returns-in_default-clause-frame : goal.returns-in_default-clause-frame
-returns-in_default-clause-frame c =
-    let none : true ≡ false = sym c.requires.acts ∙ c.in_default.ensures.none in
-    absurd cc

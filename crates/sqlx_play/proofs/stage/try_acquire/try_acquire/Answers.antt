@@ -1,12 +1,12 @@
-use Rattle.std.proofs.Common.{◌≡◌, [], ◌∷◌, ◌++◌, IfOk, OnOk, Ok, Err, Result, refl, ◌∙◌}
+use Rattle.std.proofs.Common.{◌≡◌, [], ◌∷◌, ◌++◌, IfOk, OnOk, Ok, Err, Result, refl, ◌∙◌, rules}
 use Rattle.sqlx_script.specs.declared.step.Step.TheVariants.{Try}
 use Rattle.sqlx_script.specs.declared.reply.Reply.{Reply}
 use Rattle.sqlx_script.specs.declared.reply.Reply.TheVariants.{Ready}
 use Rattle.sqlx_rules.specs.Answer.{answer}
 use Rattle.sqlx_play.specs.PlaysEvent.{PlaysEvent}
 use Rattle.sqlx_play.specs.declared.error.PlayError.{PlayError}
+use Rattle.sqlx_play.proofs.Dispatch.{frames-no_text}
 use Rattle.sqlx_play.proofs.CancelAndTry.{try-reply, unlent-stands, tried-stands, first-idle}
-use Rattle.sqlx_play.proofs.Frames.{frame-at, frame-still, event-frame}
 use Rattle.sqlx_play.proofs.stage.try_acquire.try_acquire.Goals as goal
 
 pub returns-in-None-clause-ok : goal.returns-in-None-clause-ok
@@ -28,10 +28,7 @@ returns-in-Some-clause-ok c = by c.hand_over.result c.hand_over.ensures.answer c
     )
     by (Err e) is owned = tt
 
-pub returns-in-None-clause-frame : goal.returns-in-None-clause-frame
-returns-in-None-clause-frame c = record { frame = frame-still c.args.stage.now _ _ _ _ refl c.in-None.ensures.becomes c.requires.in_order refl refl; runs = refl; memory = tt }
-
 pub returns-in-Some-clause-frame : goal.returns-in-Some-clause-frame
 returns-in-Some-clause-frame c =
-    event-frame c.args.stage.now (record c.args.stage.now { core = c.try_acquire.new.self; lent = c.hand_over.new.owned }) c.args.moment (Try c.args.client) c.hand_over.result (λ reply. refl)
-    (frame-at c.args.stage.now _ _ _ _ refl c.in-Some.ensures.becomes c.requires.in_order refl refl) refl c.hand_over.ensures.memory
+    frames-no_text c.args.stage.now (record c.args.stage.now { core = c.try_acquire.new.self; lent = c.hand_over.new.owned }) c.args.moment (Try c.args.client) c.hand_over.result (λ reply. refl)
+    (search rules) refl c.hand_over.ensures.memory
