@@ -20,7 +20,7 @@ use Rattle.sqlx_rules.specs.Headline.{HoldsHeadline}
 use Rattle.sqlx_play.specs.declared.error.PlayError.{PlayError}
 use Rattle.sqlx_play.specs.declared.stage.Stage.{Stage}
 use Rattle.sqlx_play.specs.Causes.{WrotePart, TextCause}
-use Rattle.sqlx_play.specs.StageStands.{IsSetUp, StageStands}
+use Rattle.sqlx_play.specs.stage.StageStands.{IsSetUp, StageStands}
 use Rattle.sqlx_play.specs.ScriptRuns.{runs_of, runs_after}
 
 -- ---- playing one event

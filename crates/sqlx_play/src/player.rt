@@ -4,8 +4,8 @@ ghost use Rattle.std.specs.Io.KnownBytes.{Appends};
 ghost use Rattle.sqlx_script.specs.Texts.{line_of};
 ghost use Rattle.sqlx_script.specs.Built.{has_few_opens};
 ghost use Rattle.sqlx_script.specs.Grammar.{limit};
-ghost use Rattle.sqlx_play.specs.EventFrame.{Frame};
-ghost use Rattle.sqlx_play.specs.StageStands.{IsFresh, last_of, numbers_of};
+ghost use Rattle.sqlx_play.specs.stage.EventFrame.{Frame};
+ghost use Rattle.sqlx_play.specs.stage.StageStands.{IsFresh, last_of, numbers_of};
 ghost use Rattle.sqlx_play.specs.Causes.{TookAll, WrotePart, TextCause, ScriptCause, PlayCause, IsComplete, shown};
 ghost use Rattle.sqlx_play.specs.Plays.{Replies, RepliesInPart, PlaysLines, LinesCause, Plays};
 
@@ -27,7 +27,7 @@ pub struct Played {
 }
 
 // Writes a value's text and a newline, by one call if the sink takes it whole.
-#[tactic(auto, using(crate::proofs::Parts::none_yet))]
+#[tactic(auto, using(crate::proofs::scripts::Parts::none_yet))]
 fn write_line<K: Sink, T: Display>(alloc: Global, sink: &mut K, value: &T) -> Result<(), PlayError>
     ensures ok { OnOk result (IfSome (T.output value.now) (λ text. Appends (K.written sink.old) (K.written sink.new) (line_of text))) }
     ensures rises { K.faults sink.old ≤ K.faults sink.new }
@@ -39,7 +39,7 @@ fn write_line<K: Sink, T: Display>(alloc: Global, sink: &mut K, value: &T) -> Re
 }
 
 // Plays an event and writes its reply.
-#[tactic(auto, using(crate::proofs::Parts::none_yet))]
+#[tactic(auto, using(crate::proofs::scripts::Parts::none_yet))]
 fn play_event<K: Sink>(
     alloc: Global,
     stage: &mut Stage,
@@ -147,7 +147,7 @@ fn play_source<S: Source, K: Sink>(
 }
 
 /// Reads a script to its end, plays it, and writes each reply and the closing report.
-#[tactic(auto, using(crate::proofs::Complete::is_complete))]
+#[tactic(auto, using(crate::proofs::scripts::Complete::is_complete))]
 pub fn play<S: Source, K: Sink>(
     alloc: Global,
     source: &mut S,

@@ -1,6 +1,6 @@
 use Rattle.std.proofs.Common.{refl, sym, ◌∙◌, arith}
-use Rattle.sqlx_play.proofs.Lines.{begun, more, stopped, stops_at_none, stops_early, no_element, finished}
-use Rattle.sqlx_play.proofs.Causes.{cause_of}
+use Rattle.sqlx_play.proofs.scripts.Lines.{begun, more, stopped, stops_at_none, stops_early, no_element, finished}
+use Rattle.sqlx_play.proofs.scripts.Causes.{cause_of}
 use Rattle.sqlx_play.proofs.player.play_lines.Goals as goal
 
 pub loop-rest-init : goal.loop-rest-init

@@ -1,5 +1,5 @@
 use Rattle.std.proofs.Common.{Ok, refl, arith}
-use Rattle.sqlx_play.proofs.Dispatch.{plays-event, frames-event, frames-no_text}
+use Rattle.sqlx_play.proofs.events.Dispatch.{plays-event, frames-event, frames-no_text}
 use Rattle.sqlx_play.proofs.stage.answer.Goals as goal
 
 pub returns-in-Ask-clause-ok : goal.returns-in-Ask-clause-ok

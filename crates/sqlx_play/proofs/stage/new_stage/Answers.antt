@@ -2,11 +2,11 @@ use Rattle.std.proofs.Common.{sym, ap, subst, [], ◌∙◌, arith}
 use Rattle.std.proofs.lemmas.List.Elements.{All-nil, All-same}
 use Rattle.sqlx_pool_core.specs.StandsFor.{StandsFor}
 use Rattle.mem_store.specs.Store.{Store}
-use Rattle.sqlx_play.specs.StageStands.{IsSetUp, IsTried}
-use Rattle.sqlx_play.specs.LinksStand.{LinksStand}
+use Rattle.sqlx_play.specs.stage.StageStands.{IsSetUp, IsTried}
+use Rattle.sqlx_play.specs.stage.LinksStand.{LinksStand}
 use Rattle.sqlx_rules.proofs.Pairs.{marks_of-nil, history_of-nil, tries_of-nil}
-use Rattle.sqlx_play.proofs.Stages.{tickets-nil, held-nil, idle-nil}
-use Rattle.sqlx_play.proofs.LinksSame.{links-none}
+use Rattle.sqlx_play.proofs.events.Stages.{tickets-nil, held-nil, idle-nil}
+use Rattle.sqlx_play.proofs.links.LinksSame.{links-none}
 use Rattle.sqlx_play.proofs.stage.new_stage.Goals as goal
 
 pub returns-in-Ok-clause-fresh : goal.returns-in-Ok-clause-fresh
