@@ -1,5 +1,5 @@
 -- Why a play ends before its end, by what its source and its sink show.
-use Rattle.std.specs.Prelude.{◌≡◌, ℕ, ◌-◌, ◌^◌, ◌<◌, ◌≤◌, ◌⊎◌, ⊤, List, ◌++◌, length, Option, Some}
+use Rattle.std.specs.Prelude.{◌≡◌, ℕ, ◌-◌, ◌^◌, ◌<◌, ◌≤◌, ◌⊎◌, ⊤, List, ◌++◌, length, Option, Some, Result, IsOkUnless}
 use Rattle.std.specs.Io.KnownBytes.{Consumes, IsAtEnd, Appends, Keeps}
 use Rattle.sqlx_script.specs.Grammar.{Script, IsScript, script_of, first_bad, limit}
 use Rattle.sqlx_rules.specs.Output.{replies_due, output_due}
@@ -49,6 +49,10 @@ TextCause Stops Part faults_before faults_now OutOfMemory = Part
 -- The first bad line has number n, and the replies of the lines before it were written.
 abbrev pub StopsText : List ℕ → Option (List ℕ) → Option (List ℕ) → ℕ → Type 0
 StopsText bytes before now n = (first_bad bytes ≡ Some n) × Appends before now (replies_due (script_of bytes))
+
+-- Why a text that was read isn't played to its end: its first bad line, or what was written of its output.
+abbrev pub ScriptCause : List ℕ → Option (List ℕ) → Option (List ℕ) → ℕ → ℕ → PlayError → Type 0
+ScriptCause bytes before now = TextCause (StopsText bytes before now) (WrotePart before now (output_due (script_of bytes)))
 
 -- What source and sink show.
 pub record Shown : Type 0 where
@@ -104,3 +108,7 @@ pub record IsSound (s : Shown) (bytes : List ℕ) (script : Script) : Type 0 whe
   pub reads_counted : s.read_faults_now < 2 ^ 64 - 1
   pub no_write_fault : s.write_faults_now ≡ s.write_faults_before
   pub writes_counted : s.write_faults_now < 2 ^ 64 - 1
+
+-- Where the source has a script and there is no fault, the answer is Ok, or memory ran out.
+abbrev pub IsComplete : {T : Type 0} → Shown → Result T PlayError → Type 0
+IsComplete s result = (bytes : List ℕ) (script : Script) → IsSound s bytes script → IsOkUnless result OutOfMemory

@@ -20,15 +20,17 @@ use Rattle.sqlx_rules.specs.Headline.{HoldsHeadline}
 use Rattle.sqlx_play.specs.declared.error.PlayError.{PlayError}
 use Rattle.sqlx_play.specs.declared.stage.Stage.{Stage}
 use Rattle.sqlx_play.specs.Causes.{WrotePart, TextCause}
-use Rattle.sqlx_play.specs.StageStands.{IsSetUp, StageStands}
-use Rattle.sqlx_play.specs.ScriptRuns.{runs_of}
+use Rattle.sqlx_play.specs.stage.StageStands.{IsSetUp, StageStands}
+use Rattle.sqlx_play.specs.ScriptRuns.{runs_of, runs_after}
 
 -- ---- playing one event
 
--- The reply was written, and the stage stands for the event and its reply too.
+-- The reply was written, the stage stands for the event and its reply too, and its store counted the text that ran for it.
 abbrev pub Replies : Option (List ℕ) → Option (List ℕ) → Stage → Stage → Event → Type 0
 Replies before now old new event = (pairs : Pairs) → StageStands old pairs
-    → Appends before now (line_of (reply_text (answer old.pool pairs event))) × StageStands new (pairs ++ (event, answer old.pool pairs event) ∷ [])
+    → Appends before now (line_of (reply_text (answer old.pool pairs event)))
+    × StageStands new (pairs ++ (event, answer old.pool pairs event) ∷ [])
+    × (new.out.store.runs ≡ runs_after event.step (answer old.pool pairs event) old.out.store.runs)
 
 -- A front of the reply was written.
 abbrev pub RepliesInPart : Option (List ℕ) → Option (List ℕ) → Stage → Event → Type 0

@@ -6,8 +6,8 @@ ghost use Rattle.sqlx_pool_core.specs.Calls.{IsCounted};
 ghost use Rattle.sqlx_pool_core.specs.Outside.{HasRisen, declines, is_transient, says_yes};
 ghost use Rattle.sqlx_script.specs.Built.{accepts, sets_up};
 ghost use Rattle.mem_store.specs.Store.{Link};
-ghost use Rattle.sqlx_play.specs.ScriptCalls.{Does, does-facts};
-ghost use Rattle.sqlx_play.specs.ScriptOutside.{beside, depth_of, give_letters, is_left_open, next_connect, poll_letters, refused_by};
+ghost use Rattle.sqlx_play.specs.outside.ScriptCalls.{Does, does-facts};
+ghost use Rattle.sqlx_play.specs.outside.ScriptOutside.{beside, depth_of, give_letters, is_left_open, next_connect, poll_letters, refused_by};
 
 use mem_store::{MemStore, StoreLink};
 use sqlx_pool_core::{Outside, PoolConnectionMetadata};

@@ -1,17 +1,13 @@
 //! Plays a script.
-ghost use Rattle.std.specs.Prelude.{◌≡◌, true, ◌+◌, ◌*◌, ◌^◌, ◌<◌, ◌≤◌, ℕ, List, [], ◌∷◌, ◌++◌, length, IfOk, IfErr, IfSome, OnOk, IsOkUnless};
+ghost use Rattle.std.specs.Prelude.{◌≡◌, true, ◌^◌, ◌≤◌, ℕ, List, length, IfOk, IfErr, IfSome, OnOk};
 ghost use Rattle.std.specs.Io.KnownBytes.{Appends};
-ghost use Rattle.sqlx_script.specs.declared.step.Event.{Event};
-ghost use Rattle.sqlx_script.specs.Texts.{reply_text, line_of};
+ghost use Rattle.sqlx_script.specs.Texts.{line_of};
 ghost use Rattle.sqlx_script.specs.Built.{has_few_opens};
-ghost use Rattle.sqlx_script.specs.Grammar.{Script, script_of, limit};
-ghost use Rattle.sqlx_rules.specs.Answer.{answer};
-ghost use Rattle.sqlx_play.specs.StageStands.{StageStands, last_of, numbers_of};
-ghost use Rattle.sqlx_play.specs.ScriptRuns.{runs_of, runs_after};
-ghost use Rattle.sqlx_rules.specs.Output.{output_due};
-ghost use Rattle.sqlx_play.specs.Causes.{TookAll, WrotePart, TextCause, StopsText, PlayCause, IsSound, shown};
+ghost use Rattle.sqlx_script.specs.Grammar.{limit};
+ghost use Rattle.sqlx_play.specs.stage.EventFrame.{Frame};
+ghost use Rattle.sqlx_play.specs.stage.StageStands.{IsFresh, last_of, numbers_of};
+ghost use Rattle.sqlx_play.specs.Causes.{TookAll, WrotePart, TextCause, ScriptCause, PlayCause, IsComplete, shown};
 ghost use Rattle.sqlx_play.specs.Plays.{Replies, RepliesInPart, PlaysLines, LinesCause, Plays};
-ghost use Rattle.sqlx_rules.specs.Pairs.{Pairs};
 
 use crate::error::PlayError;
 use crate::io::{Sink, Source};
@@ -31,7 +27,7 @@ pub struct Played {
 }
 
 // Writes a value's text and a newline, by one call if the sink takes it whole.
-#[tactic(auto, using(crate::proofs::Parts::none_yet))]
+#[tactic(auto, using(crate::proofs::scripts::Parts::none_yet))]
 fn write_line<K: Sink, T: Display>(alloc: Global, sink: &mut K, value: &T) -> Result<(), PlayError>
     ensures ok { OnOk result (IfSome (T.output value.now) (λ text. Appends (K.written sink.old) (K.written sink.new) (line_of text))) }
     ensures rises { K.faults sink.old ≤ K.faults sink.new }
@@ -43,7 +39,7 @@ fn write_line<K: Sink, T: Display>(alloc: Global, sink: &mut K, value: &T) -> Re
 }
 
 // Plays an event and writes its reply.
-#[tactic(auto, using(crate::proofs::Parts::none_yet))]
+#[tactic(auto, using(crate::proofs::scripts::Parts::none_yet))]
 fn play_event<K: Sink>(
     alloc: Global,
     stage: &mut Stage,
@@ -54,11 +50,7 @@ fn play_event<K: Sink>(
     requires numbers { numbers_of stage.old ≤ 2 ^ 62 }
     requires in_order { last_of stage.old ≤ event.now.moment.0 }
     ensures ok { OnOk result (Replies (K.written sink.old) (K.written sink.new) stage.old stage.new event.now) }
-    ensures runs { OnOk result ((pairs : Pairs) → StageStands stage.old pairs →
-        stage.new.out.store.runs ≡ runs_after event.now.step (answer stage.old.pool pairs event.now) stage.old.out.store.runs) }
-    ensures pool { stage.new.pool ≡ stage.old.pool }
-    ensures last { last_of stage.new ≤ event.now.moment.0 }
-    ensures used { numbers_of stage.new ≤ numbers_of stage.old + 2 ^ 20 }
+    ensures frame { Frame stage.old stage.new event.now.moment.0 (2 ^ 20) }
     ensures rises { K.faults sink.old ≤ K.faults sink.new }
     ensures cause { IfErr result (TextCause (λ _. ⊥) (RepliesInPart (K.written sink.old) (K.written sink.new) stage.old event.now) (K.faults sink.old) (K.faults sink.new)) }
 {
@@ -73,10 +65,7 @@ fn play_lines<K: Sink>(
     text: &[u8],
     sink: &mut K,
 ) -> Result<(), PlayError>
-    requires stands { StageStands stage.old [] }
-    requires runs { stage.old.out.store.runs ≡ runs_of [] }
-    requires last { last_of stage.old ≡ 0 }
-    requires numbers { numbers_of stage.old ≤ 2 }
+    requires fresh { IsFresh stage.old }
     requires short { length text.now ≤ limit }
     ensures ok { OnOk result (PlaysLines text.now stage.old.pool (K.written sink.old) (K.written sink.new) stage.new) }
     ensures pool { stage.new.pool ≡ stage.old.pool }
@@ -120,8 +109,7 @@ fn play_text<K: Sink>(alloc: Global, text: &[u8], sink: &mut K) -> Result<Played
     requires { length text.now ≤ limit }
     ensures ok { IfOk result (λ played. Plays text.now (K.written sink.old) (K.written sink.new) played.core played.store) }
     ensures rises { K.faults sink.old ≤ K.faults sink.new }
-    ensures cause { IfErr result (TextCause (StopsText text.now (K.written sink.old) (K.written sink.new))
-        (WrotePart (K.written sink.old) (K.written sink.new) (output_due (script_of text.now))) (K.faults sink.old) (K.faults sink.new)) }
+    ensures cause { IfErr result (ScriptCause text.now (K.written sink.old) (K.written sink.new) (K.faults sink.old) (K.faults sink.new)) }
 {
     if text.is_empty() {
         return Err(PlayError::ScriptLine(1));
@@ -159,7 +147,7 @@ fn play_source<S: Source, K: Sink>(
 }
 
 /// Reads a script to its end, plays it, and writes each reply and the closing report.
-#[tactic(auto, using(crate::proofs::Complete::is_complete))]
+#[tactic(auto, using(crate::proofs::scripts::Complete::is_complete))]
 pub fn play<S: Source, K: Sink>(
     alloc: Global,
     source: &mut S,
@@ -171,8 +159,7 @@ pub fn play<S: Source, K: Sink>(
     // Each other answer has its cause.
     ensures cause { IfErr result (PlayCause (shown S.left S.faults source.old source.new K.written K.faults sink.old sink.new)) }
     // A script that is read and written without a fault is played, unless memory runs out.
-    ensures complete { (bytes : List ℕ) (script : Script) → IsSound (shown S.left S.faults source.old source.new K.written K.faults sink.old sink.new) bytes script
-        → IsOkUnless result PlayError.OutOfMemory }
+    ensures complete { IsComplete (shown S.left S.faults source.old source.new K.written K.faults sink.old sink.new) result }
     ensures reads_rise { S.faults source.old ≤ S.faults source.new }
     ensures writes_rise { K.faults sink.old ≤ K.faults sink.new }
 {

@@ -1,9 +1,8 @@
 //! What the program does.
-ghost use Rattle.std.specs.Prelude.{◌≡◌, ◌≢◌, ◌≤◌, ◌↔◌, ℕ, List, map, string_bytes, IfErr, OnOk, IsErrOf, IsOkUnless};
-ghost use Rattle.sqlx_script.specs.Grammar.{Script};
+ghost use Rattle.std.specs.Prelude.{◌≡◌, ◌≢◌, ◌≤◌, ◌↔◌, map, string_bytes, IfErr, OnOk, IsErrOf};
 ghost use Rattle.sqlx_play.specs.declared.command.Command.TheVariants.{Play as play_words, Unknown as unknown_words};
 ghost use Rattle.sqlx_play.specs.Commands.{command_of};
-ghost use Rattle.sqlx_play.specs.Causes.{IsSound, shown};
+ghost use Rattle.sqlx_play.specs.Causes.{IsComplete, shown};
 ghost use Rattle.sqlx_play.specs.Program.{Ran, RunCause};
 
 use crate::command::{Command, command_of};
@@ -30,8 +29,8 @@ pub fn run<S: Source, K: Sink>(
     // Each other answer has its cause.
     ensures cause { IfErr result (RunCause (command_of (map string_bytes words.now)) (shown S.left S.faults source.old source.new K.written K.faults sink.old sink.new)) }
     // Without a word a script that is read and written without a fault is played, unless memory runs out.
-    ensures complete { command_of (map string_bytes words.now) ≡ play_words → (bytes : List ℕ) (script : Script)
-        → IsSound (shown S.left S.faults source.old source.new K.written K.faults sink.old sink.new) bytes script → IsOkUnless result PlayError.OutOfMemory }
+    ensures complete { command_of (map string_bytes words.now) ≡ play_words
+        → IsComplete (shown S.left S.faults source.old source.new K.written K.faults sink.old sink.new) result }
     ensures reads_rise { S.faults source.old ≤ S.faults source.new }
     ensures writes_rise { K.faults sink.old ≤ K.faults sink.new }
 {

@@ -1,29 +1,15 @@
 //! The pool and the database on which a script is played. The events stand in the modules below.
-ghost use Rattle.std.specs.Prelude.{◌≡◌, ◌+◌, ◌^◌, ◌≤◌, true, [], List, IfOk, IfErr};
-ghost use Rattle.sqlx_script.specs.declared.step.Event.{Event};
-ghost use Rattle.sqlx_script.specs.declared.reply.Reply.{Reply};
+ghost use Rattle.std.specs.Prelude.{◌≡◌, ◌^◌, ◌≤◌, true, IfOk, IfErr};
 ghost use Rattle.sqlx_script.specs.Built.{has_few_opens};
 ghost use Rattle.sqlx_rules.specs.Answer.{report_of};
-ghost use Rattle.sqlx_play.specs.PlaysEvent.{PlaysEvent};
-ghost use Rattle.sqlx_play.specs.ScriptRuns.{runs_of, runs_after};
-ghost use Rattle.sqlx_play.specs.StageStands.{IsSetUp, StageStands, last_of, numbers_of};
+ghost use Rattle.sqlx_play.specs.events.PlaysEvent.{PlaysEvent};
+ghost use Rattle.sqlx_play.specs.stage.EventFrame.{EventFrame};
+ghost use Rattle.sqlx_play.specs.stage.StageStands.{IsFresh, IsSetUp, StageStands, last_of, numbers_of};
 ghost use Rattle.sqlx_rules.specs.Pairs.{Pairs};
 
-mod acts;
-mod ask;
-mod cancel;
-mod close;
-mod closed;
-mod fill;
-mod give;
-mod hand_over;
-mod leave;
-mod lent;
-mod min;
-mod poll;
-mod reap;
-mod statements;
-mod try_acquire;
+mod loans;
+mod requests;
+mod upkeep;
 
 use crate::error::PlayError;
 use crate::outside::ScriptOutside;
@@ -64,11 +50,8 @@ fn options_of(pool: &PoolLine) -> PoolOptions
 pub fn new_stage(alloc: Global, pool: PoolLine) -> Result<Stage, PlayError>
     requires some { 1 ≤ pool.max }
     requires tries { (1 ≤ pool.tries) × (pool.tries ≤ 16) }
-    ensures stands { IfOk result (λ stage. StageStands stage []) }
+    ensures fresh { IfOk result IsFresh }
     ensures pool { IfOk result (λ stage. stage.pool ≡ pool) }
-    ensures runs { IfOk result (λ stage. stage.out.store.runs ≡ runs_of []) }
-    ensures last { IfOk result (λ stage. last_of stage ≡ 0) }
-    ensures numbers { IfOk result (λ stage. numbers_of stage ≤ 2) }
     ensures memory { IfErr result (λ e. e ≡ PlayError.OutOfMemory) }
 {
     match PoolCore::new(alloc, options_of(&pool)) {
@@ -88,27 +71,28 @@ pub fn answer(stage: &mut Stage, alloc: Global, event: &Event) -> Result<Reply, 
     requires numbers { numbers_of stage.old ≤ 2 ^ 62 }
     requires in_order { last_of stage.old ≤ event.now.moment.0 }
     ensures ok { IfOk result (PlaysEvent stage.old stage.new event.now) }
-    ensures pool { stage.new.pool ≡ stage.old.pool }
-    ensures runs { IfOk result (λ reply. stage.new.out.store.runs ≡ runs_after event.now.step reply stage.old.out.store.runs) }
-    ensures last { last_of stage.new ≤ event.now.moment.0 }
-    ensures used { numbers_of stage.new ≤ numbers_of stage.old + 2 ^ 20 }
-    ensures memory { IfErr result (λ e. e ≡ PlayError.OutOfMemory) }
+    ensures frame { EventFrame stage.old stage.new event.now result }
 {
     match event.step {
-        Step::Ask { client } => ask::ask(stage, alloc, event.moment, client),
+        Step::Ask { client } => requests::ask::ask(stage, alloc, event.moment, client),
         Step::Poll {
             client,
             ticket,
             answers,
-        } => poll::poll(stage, alloc, event.moment, client, ticket, answers),
-        Step::Cancel { client, ticket } => cancel::cancel(stage, event.moment, client, ticket),
-        Step::Try { client } => try_acquire::try_acquire(stage, event.moment, client),
+        } => requests::poll::poll(stage, alloc, event.moment, client, ticket, answers),
+        Step::Cancel { client, ticket } => requests::cancel::cancel(
+            stage,
+            event.moment,
+            client,
+            ticket,
+        ),
+        Step::Try { client } => requests::try_acquire::try_acquire(stage, event.moment, client),
         Step::Give {
             client,
             connection,
             answers,
             opens,
-        } => give::give(
+        } => loans::give::give(
             stage,
             alloc,
             event.moment,
@@ -121,21 +105,21 @@ pub fn answer(stage: &mut Stage, alloc: Global, event: &Event) -> Result<Reply, 
             client,
             connection,
             opens,
-        } => leave::end(stage, alloc, event.moment, client, connection, opens),
+        } => loans::leave::end(stage, alloc, event.moment, client, connection, opens),
         Step::Detach {
             client,
             connection,
             opens,
-        } => leave::detach(stage, alloc, event.moment, client, connection, opens),
+        } => loans::leave::detach(stage, alloc, event.moment, client, connection, opens),
         Step::Leak {
             client,
             connection,
             opens,
-        } => leave::leak(stage, alloc, event.moment, client, connection, opens),
-        Step::CloseState => Ok(closed::closed(stage, event.moment)),
-        Step::Close => Ok(close::close(stage, event.moment)),
-        Step::Min { opens } => min::min(stage, alloc, event.moment, opens),
-        Step::Reap { opens } => reap::reap(stage, alloc, event.moment, opens),
+        } => loans::leave::leak(stage, alloc, event.moment, client, connection, opens),
+        Step::CloseState => Ok(upkeep::closed::closed(stage, event.moment)),
+        Step::Close => Ok(upkeep::close::close(stage, event.moment)),
+        Step::Min { opens } => upkeep::min::min(stage, alloc, event.moment, opens),
+        Step::Reap { opens } => upkeep::reap::reap(stage, alloc, event.moment, opens),
         Step::Begin { .. }
         | Step::Custom { .. }
         | Step::Put { .. }
@@ -143,7 +127,7 @@ pub fn answer(stage: &mut Stage, alloc: Global, event: &Event) -> Result<Reply, 
         | Step::Get { .. }
         | Step::Commit { .. }
         | Step::Rollback { .. }
-        | Step::GiveUp { .. } => statements::play(stage, alloc, event),
+        | Step::GiveUp { .. } => loans::statements::play(stage, alloc, event),
     }
 }
 

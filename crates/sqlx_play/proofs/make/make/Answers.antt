@@ -6,7 +6,7 @@ use Rattle.std.specs.Io.KnownBytes.{Appends}
 use Rattle.std.proofs.KnownBytes.{Appends-nil}
 use Rattle.sqlx_play.specs.Causes.{TextCause, WrotePart}
 use Rattle.sqlx_play.specs.MadeRuns.{summary_due}
-use Rattle.sqlx_play.proofs.MadeLemmas.{summary-output, summary-due}
+use Rattle.sqlx_play.proofs.scripts.MadeLemmas.{summary-output, summary-due}
 use Rattle.sqlx_play.proofs.make.make.Goals as goal
 
 pub returns-in_err-summary-clause-cause : goal.returns-in_err-summary-clause-cause

@@ -1,11 +1,11 @@
 use Rattle.std.proofs.Common.{refl, sym, ◌∙◌, arith}
-use Rattle.sqlx_play.proofs.Lines.{begun, more, stopped, stops_at_none, stops_early, no_element, finished}
-use Rattle.sqlx_play.proofs.Causes.{cause_of}
+use Rattle.sqlx_play.proofs.scripts.Lines.{begun, more, stopped, stops_at_none, stops_early, no_element, finished}
+use Rattle.sqlx_play.proofs.scripts.Causes.{cause_of}
 use Rattle.sqlx_play.proofs.player.play_lines.Goals as goal
 
 pub loop-rest-init : goal.loop-rest-init
 loop-rest-init g c = record {
-  played = begun _ _ _ _ c.requires.stands c.requires.runs;
+  played = begun _ _ _ _ c.requires.fresh;
   pool = refl;
   in_order = omega arith;
   numbers = omega arith;
@@ -31,9 +31,9 @@ pub loop-rest-preserved : goal.loop-rest-preserved
 loop-rest-preserved g c = record {
   played =
       more _ _ _ c.cut_line.result.1.now _ _ _ _ _ _ _ _ c.in-Some.event c.loop-rest.invariant.played c.cut_line.ensures.line (sym c.read_event.ensures.says ∙ c.in-Some.is) c.if-event-last.true
-      c.loop-rest.invariant.pool c.play_event.ensures.pool c.in_default-play_event.ensures.ok (omega (arith, c.loop-rest.invariant.counted)) c.in_default-play_event.ensures.runs;
-  pool = c.play_event.ensures.pool ∙ c.loop-rest.invariant.pool;
-  in_order = c.play_event.ensures.last;
+      c.loop-rest.invariant.pool c.play_event.ensures.frame.pool c.in_default-play_event.ensures.ok (omega (arith, c.loop-rest.invariant.counted));
+  pool = c.play_event.ensures.frame.pool ∙ c.loop-rest.invariant.pool;
+  in_order = c.play_event.ensures.frame.last;
   numbers = omega arith;
   counted = omega arith;
   rises = omega arith;

@@ -1,7 +1,7 @@
 use Rattle.std.proofs.Common.{◌≡◌, ◌+◌, ◌*◌, ◌≤◌, length}
 use Rattle.sqlx_script.specs.Grammar.{limit}
-use Rattle.sqlx_play.specs.StageStands.{last_of, numbers_of}
-use Rattle.sqlx_play.proofs.Lines.{PlayedSoFar}
+use Rattle.sqlx_play.specs.stage.StageStands.{last_of, numbers_of}
+use Rattle.sqlx_play.proofs.scripts.Lines.{PlayedSoFar}
 use Rattle.sqlx_play.proofs.player.play_lines.Given as goal
 
 -- the lines before the rest were played

@@ -3,9 +3,9 @@ use Rattle.sqlx_script.specs.declared.pool_line.PoolLine.{PoolLine}
 use Rattle.sqlx_pool_core.specs.Core.{Core}
 use Rattle.mem_store.specs.Store.{Store, Link}
 use Rattle.sqlx_play.specs.Plays.{Plays}
-use Rattle.sqlx_play.proofs.Lines.{no_element}
-use Rattle.sqlx_play.proofs.Causes.{cause_of, cause_at_first}
-use Rattle.sqlx_play.proofs.Scripts.{script_is, no_script, empty_script, stops_at_first, stops_later, part_of_replies, part_of_report, plays_text}
+use Rattle.sqlx_play.proofs.scripts.Lines.{no_element}
+use Rattle.sqlx_play.proofs.scripts.Causes.{cause_of, cause_at_first}
+use Rattle.sqlx_play.proofs.scripts.Scripts.{script_is, no_script, empty_script, stops_at_first, stops_later, part_of_replies, part_of_report, plays_text}
 use Rattle.sqlx_play.proofs.player.play_text.Goals as goal
 
 pub returns-then-is_empty-clause-cause : goal.returns-then-is_empty-clause-cause

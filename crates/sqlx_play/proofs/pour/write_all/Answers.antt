@@ -1,6 +1,6 @@
 use Rattle.std.proofs.Common.{arith}
 use Rattle.std.proofs.lemmas.List.{take_rest}
-use Rattle.sqlx_play.proofs.Parts.{more}
+use Rattle.sqlx_play.proofs.scripts.Parts.{more}
 use Rattle.sqlx_play.proofs.pour.write_all.Goals as goal
 
 pub loop-rest-preserved : goal.loop-rest-preserved

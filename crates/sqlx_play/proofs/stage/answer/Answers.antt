@@ -1,6 +1,5 @@
-use Rattle.std.proofs.Common.{refl}
-use Rattle.sqlx_play.proofs.Dispatch.{plays-event}
-use Rattle.sqlx_play.proofs.RunsCounted.{counts-nothing}
+use Rattle.std.proofs.Common.{Ok, refl, arith}
+use Rattle.sqlx_play.proofs.events.Dispatch.{plays-event, frames-event, frames-no_text}
 use Rattle.sqlx_play.proofs.stage.answer.Goals as goal
 
 pub returns-in-Ask-clause-ok : goal.returns-in-Ask-clause-ok
@@ -33,32 +32,42 @@ returns-in-Detach-clause-ok c = plays-event _ _ c.args.event.now _ _ c.in-Detach
 pub returns-in-Leak-clause-ok : goal.returns-in-Leak-clause-ok
 returns-in-Leak-clause-ok c = plays-event _ _ c.args.event.now _ _ c.in-Leak.is c.leak.ensures.ok
 
-pub returns-in-Ask-clause-runs : goal.returns-in-Ask-clause-runs
-returns-in-Ask-clause-runs c = counts-nothing _ _ c.args.event.now.step _ _ c.in-Ask.is (λ reply. refl) c.ask.ensures.runs
+pub returns-in-Ask-clause-frame : goal.returns-in-Ask-clause-frame
+returns-in-Ask-clause-frame c = frames-event _ _ c.args.event.now _ _ c.in-Ask.is c.ask.ensures.frame
 
-pub returns-in-Poll-clause-runs : goal.returns-in-Poll-clause-runs
-returns-in-Poll-clause-runs c = counts-nothing _ _ c.args.event.now.step _ _ c.in-Poll.is (λ reply. refl) c.poll.ensures.runs
+pub returns-in-Poll-clause-frame : goal.returns-in-Poll-clause-frame
+returns-in-Poll-clause-frame c = frames-event _ _ c.args.event.now _ _ c.in-Poll.is c.poll.ensures.frame
 
-pub returns-in-Cancel-clause-runs : goal.returns-in-Cancel-clause-runs
-returns-in-Cancel-clause-runs c = counts-nothing _ _ c.args.event.now.step _ _ c.in-Cancel.is (λ reply. refl) c.cancel.ensures.runs
+pub returns-in-Cancel-clause-frame : goal.returns-in-Cancel-clause-frame
+returns-in-Cancel-clause-frame c = frames-event _ _ c.args.event.now _ _ c.in-Cancel.is c.cancel.ensures.frame
 
-pub returns-in-Try-clause-runs : goal.returns-in-Try-clause-runs
-returns-in-Try-clause-runs c = counts-nothing _ _ c.args.event.now.step _ _ c.in-Try.is (λ reply. refl) c.try_acquire.ensures.runs
+pub returns-in-Try-clause-frame : goal.returns-in-Try-clause-frame
+returns-in-Try-clause-frame c = frames-event _ _ c.args.event.now _ _ c.in-Try.is c.try_acquire.ensures.frame
 
-pub returns-in-Min-clause-runs : goal.returns-in-Min-clause-runs
-returns-in-Min-clause-runs c = counts-nothing _ _ c.args.event.now.step _ _ c.in-Min.is (λ reply. refl) c.min.ensures.runs
+pub returns-in-Min-clause-frame : goal.returns-in-Min-clause-frame
+returns-in-Min-clause-frame c = frames-event _ _ c.args.event.now _ _ c.in-Min.is c.min.ensures.frame
 
-pub returns-in-Reap-clause-runs : goal.returns-in-Reap-clause-runs
-returns-in-Reap-clause-runs c = counts-nothing _ _ c.args.event.now.step _ _ c.in-Reap.is (λ reply. refl) c.reap.ensures.runs
+pub returns-in-Reap-clause-frame : goal.returns-in-Reap-clause-frame
+returns-in-Reap-clause-frame c = frames-event _ _ c.args.event.now _ _ c.in-Reap.is c.reap.ensures.frame
 
-pub returns-in-Give-clause-runs : goal.returns-in-Give-clause-runs
-returns-in-Give-clause-runs c = counts-nothing _ _ c.args.event.now.step _ _ c.in-Give.is (λ reply. refl) c.give.ensures.runs
+pub returns-in-Give-clause-frame : goal.returns-in-Give-clause-frame
+returns-in-Give-clause-frame c = frames-event _ _ c.args.event.now _ _ c.in-Give.is c.give.ensures.frame
 
-pub returns-in-End-clause-runs : goal.returns-in-End-clause-runs
-returns-in-End-clause-runs c = counts-nothing _ _ c.args.event.now.step _ _ c.in-End.is (λ reply. refl) c.end.ensures.runs
+pub returns-in-End-clause-frame : goal.returns-in-End-clause-frame
+returns-in-End-clause-frame c = frames-event _ _ c.args.event.now _ _ c.in-End.is c.end.ensures.frame
 
-pub returns-in-Detach-clause-runs : goal.returns-in-Detach-clause-runs
-returns-in-Detach-clause-runs c = counts-nothing _ _ c.args.event.now.step _ _ c.in-Detach.is (λ reply. refl) c.detach.ensures.runs
+pub returns-in-Detach-clause-frame : goal.returns-in-Detach-clause-frame
+returns-in-Detach-clause-frame c = frames-event _ _ c.args.event.now _ _ c.in-Detach.is c.detach.ensures.frame
 
-pub returns-in-Leak-clause-runs : goal.returns-in-Leak-clause-runs
-returns-in-Leak-clause-runs c = counts-nothing _ _ c.args.event.now.step _ _ c.in-Leak.is (λ reply. refl) c.leak.ensures.runs
+pub returns-in-Leak-clause-frame : goal.returns-in-Leak-clause-frame
+returns-in-Leak-clause-frame c = frames-event _ _ c.args.event.now _ _ c.in-Leak.is c.leak.ensures.frame
+
+pub returns-in-Close-clause-frame : goal.returns-in-Close-clause-frame
+returns-in-Close-clause-frame c =
+    frames-event _ _ c.args.event.now _ _ c.in-Close.is
+    (frames-no_text c.args.stage.now c.close.new.stage c.args.event.now.moment _ (Ok c.close.result) (λ reply. refl) (record { pool = c.close.ensures.frame.pool; last = omega arith; used = omega arith }) c.close.ensures.runs tt)
+
+pub returns-in-CloseState-clause-frame : goal.returns-in-CloseState-clause-frame
+returns-in-CloseState-clause-frame c =
+    frames-event _ _ c.args.event.now _ _ c.in-CloseState.is
+    (frames-no_text c.args.stage.now c.args.stage.now c.args.event.now.moment _ (Ok c.closed.result) (λ reply. refl) (record { pool = refl; last = c.requires.in_order; used = omega arith }) refl tt)

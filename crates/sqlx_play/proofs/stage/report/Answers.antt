@@ -1,7 +1,7 @@
 use Rattle.std.proofs.Common.{◌∙◌}
 use Rattle.sqlx_rules.specs.Answer.{report_of}
 use Rattle.sqlx_rules.specs.ScriptMarks.{marks_of}
-use Rattle.sqlx_play.proofs.Stages.{report-stands}
+use Rattle.sqlx_play.proofs.events.Stages.{report-stands}
 use Rattle.sqlx_play.proofs.stage.report.Goals as goal
 
 pub returns : goal.returns

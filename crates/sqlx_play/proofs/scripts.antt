@@ -1,0 +1,8 @@
+-- A whole script, line by line.
+pub mod Parts
+pub mod RunsAdded
+pub mod Lines
+pub mod Causes
+pub mod Scripts
+pub mod MadeLemmas
+pub mod Complete

@@ -1,0 +1,19 @@
+use Rattle.std.proofs.Common.{w64, Some, refl, ◌∙◌}
+use Rattle.std.proofs.lemmas.Int.{to_z-of_z}
+use Rattle.mem_store.specs.declared.statement.Statement.TheVariants.{Get as TheText}
+use Rattle.mem_store.specs.declared.act.Act.TheVariants.{Get as Doing}
+use Rattle.sqlx_play.specs.declared.stage.loans.acts.Act.TheVariants.{Get}
+use Rattle.sqlx_play.proofs.statements.LinkOutcomes.{met-ran, met-refused}
+use Rattle.sqlx_play.proofs.stage.loans.acts.get.Goals as goal
+
+pub returns-in-Ran-clause-ok : goal.returns-in-Ran-clause-ok
+returns-in-Ran-clause-ok c =
+    let m = met-ran (Get c.args.key) c.args.session.now c.run_text.new.session c.in-Ran.plain
+    (rw c.in-Ran.is at (c.in_ok-plain.ensures.ok (Some TheText) (Doing c.args.key) (tt, refl) (rw (to_z-of_z w64 c.args.key c.ranges.key) refl))) in
+    (c.found_reply.ensures ∙ m.0, m.1)
+
+pub returns-in-Refused-clause-ok : goal.returns-in-Refused-clause-ok
+returns-in-Refused-clause-ok c =
+    let o = rw c.in-Refused.is at (c.in_ok-plain.ensures.ok (Some TheText) (Doing c.args.key) (tt, refl) (rw (to_z-of_z w64 c.args.key c.ranges.key) refl)) in
+    let m = met-refused (Get c.args.key) c.args.session.now c.run_text.new.session c.in-Refused.reply o in
+    (m.0, o.1 ∙ m.1)

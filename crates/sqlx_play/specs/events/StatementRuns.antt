@@ -1,0 +1,76 @@
+-- What a statement of a script does on a stage, by the database's statement.
+use Rattle.std.specs.Prelude.{◌≡◌, ◌⊎◌, Bool, true, false, find, is_some, pos, Option, Some, None, List, ◌∷◌, ◌++◌}
+use Rattle.sqlx_pool_core.specs.declared.steps.Lent.{Lent}
+use Rattle.sqlx_pool_core.specs.Core.{loan_of}
+use Rattle.mem_store.specs.Store.{Store, Link, Session}
+use Rattle.sqlx_script.specs.declared.step.Step.{Step}
+use Rattle.sqlx_script.specs.declared.step.Step.TheVariants.{Begin, Custom, Put, Del, Get, Commit, Rollback, GiveUp}
+use Rattle.sqlx_script.specs.declared.reply.Reply.{Reply}
+use Rattle.sqlx_script.specs.declared.reply.Reply.TheVariants.{NotHeld}
+use Rattle.sqlx_play.specs.declared.stage.Stage.{Stage}
+use Rattle.sqlx_play.specs.declared.stage.loans.acts.Act.{Act}
+use Rattle.sqlx_play.specs.declared.stage.loans.acts.Act.TheVariants as act
+use Rattle.sqlx_play.specs.declared.stage.loans.statements.Statement.{Statement}
+use Rattle.sqlx_rules.specs.ScriptLevels as levels
+use Rattle.sqlx_rules.specs.ScriptLevels.{met_of}
+use Rattle.sqlx_play.specs.stage.LentLinks.{is_lent}
+use Rattle.sqlx_play.specs.events.LinkActs.{act_on, answer_for, reply_on, left_by}
+
+-- the statement as brackets see it
+abbrev pub said : Statement → levels.Statement
+said s = record { client = s.client; conn = s.connection; act = act_on s.connection s.act; met = met_of s.answer }
+
+-- whether the step is a statement
+abbrev pub acts : Step → Bool
+acts (Begin client connection answer) = true
+acts (Custom client connection begins answer) = true
+acts (Put client connection key value answer) = true
+acts (Del client connection key answer) = true
+acts (Get client connection key answer) = true
+acts (Commit client connection answer) = true
+acts (Rollback client connection answer) = true
+acts (GiveUp client connection) = true
+acts other = false
+
+-- what a statement's step does
+abbrev pub done_by : Step → Option Act
+done_by (Begin client connection answer) = Some act.Begin
+done_by (Custom client connection begins answer) = Some (act.Custom begins)
+done_by (Put client connection key value answer) = Some (act.Put (pos key) value)
+done_by (Del client connection key answer) = Some (act.Delete (pos key))
+done_by (Get client connection key answer) = Some (act.Get (pos key))
+done_by (Commit client connection answer) = Some act.Commit
+done_by (Rollback client connection answer) = Some act.Rollback
+done_by (GiveUp client connection) = Some act.GiveUp
+done_by other = None
+
+-- the link at work, and the session that its act leaves
+abbrev pub at_work : Store → Link → Statement → Session
+at_work store link s = record { store = store; link = link; answer = answer_for s.answer }
+
+-- the session that the act leaves
+abbrev pub left_at : Store → Link → Statement → Session
+left_at store link s = left_by s.act (at_work store link s)
+
+-- The client's connection did the act, on its link.
+pub record RunsOnLink (old new : Stage) (s : Statement) (reply : Reply) : Type 0 where
+  pub before : List (Lent Link)
+  pub own : Lent Link
+  pub after : List (Lent Link)
+  pub lent : old.lent.items ≡ before ++ own ∷ after
+  pub is : own.id ≡ s.connection
+  pub owned : is_some (loan_of s.client s.connection old.core.held) ≡ true
+  pub told : reply ≡ reply_on s.act (at_work old.out.store own.raw s)
+  pub store : new.out.store ≡ (left_at old.out.store own.raw s).store
+  pub links : new.lent.items ≡ before ++ record own { raw = (left_at old.out.store own.raw s).link } ∷ after
+
+-- The client has no such connection, and nothing changed.
+pub record RunsNot (old new : Stage) (s : Statement) (reply : Reply) : Type 0 where
+  pub told : reply ≡ NotHeld
+  pub store : new.out.store ≡ old.out.store
+  pub links : new.lent.items ≡ old.lent.items
+  pub cause : (is_some (loan_of s.client s.connection old.core.held) ≡ false) ⊎ (find (is_lent s.connection) old.lent.items ≡ None)
+
+-- The act was done on the client's connection, or the client has no such connection.
+abbrev pub Runs : Stage → Stage → Statement → Reply → Type 0
+Runs old new s reply = RunsOnLink old new s reply ⊎ RunsNot old new s reply
