@@ -3,7 +3,7 @@ ghost use Rattle.std.specs.Prelude.{◌≡◌, IfOk};
 
 use crate::letters::single;
 use crate::{Asked, Toy, ToyQueryResult, ToyRow};
-use sqlx_text::{Depth, Error, SqlStr};
+use sqlx_text::{Depth, Error, OutOfMemory, SqlStr};
 use sqlx_traits::*;
 use std::alloc::Global;
 use std::collections::VecDeque;
@@ -22,46 +22,50 @@ pub struct ToyConnection {
 impl ToyConnection {
     /// A connection by letters: a digit is a result of so many rows, another letter a row of the one value that it is
     /// in [`crate::letters::row_of`], and behind them `!` is an error.
-    pub fn new(alloc: Global, letters: &str) -> Result<ToyConnection, Error>
+    pub fn new(alloc: Global, letters: &str) -> Result<ToyConnection, OutOfMemory>
         ensures { IfOk result (λ conn. conn.depth ≡ 0) }
     {
+        let steps = steps_of(alloc, letters)?;
+        Ok(ToyConnection::of_steps(steps, letters.ends_with('!')))
+    }
+
+    /// A connection that hands out this row.
+    pub fn of_row(alloc: Global, row: ToyRow) -> Result<ToyConnection, OutOfMemory> {
         let mut steps = VecDeque::new(alloc);
-        let mut breaks = false;
-        for letter in letters.chars() {
-            let step = match letter {
-                '!' => {
-                    breaks = true;
-                    continue;
-                }
-                letter => step_of(alloc, letter)?,
-            };
-            if steps.push_back(step).is_err() {
-                return Err(Error::OutOfMemory);
-            }
-        }
-        Ok(ToyConnection {
+        steps.push_back(Either::Right(row))?;
+        Ok(ToyConnection::of_steps(steps, false))
+    }
+
+    // A connection that hands out these steps, and behind them an error where it breaks.
+    fn of_steps(steps: VecDeque<Either<ToyQueryResult, ToyRow>>, breaks: bool) -> ToyConnection
+        ensures { result.depth ≡ 0 }
+    {
+        ToyConnection {
             steps: Some(steps),
             breaks,
             depth: 0,
             faults: 0,
             asked: None,
-        })
-    }
-
-    /// A connection that hands out this row.
-    pub fn of_row(alloc: Global, row: ToyRow) -> Result<ToyConnection, Error> {
-        let mut conn = ToyConnection::new(alloc, "")?;
-        let mut steps = VecDeque::new(alloc);
-        if steps.push_back(Either::Right(row)).is_err() {
-            return Err(Error::OutOfMemory);
         }
-        conn.steps = Some(steps);
-        Ok(conn)
     }
 }
 
+// The steps of letters.
+fn steps_of(
+    alloc: Global,
+    letters: &str,
+) -> Result<VecDeque<Either<ToyQueryResult, ToyRow>>, OutOfMemory> {
+    let mut steps = VecDeque::new(alloc);
+    for letter in letters.chars() {
+        if letter != '!' {
+            steps.push_back(step_of(alloc, letter)?)?;
+        }
+    }
+    Ok(steps)
+}
+
 // The step of a letter.
-fn step_of(alloc: Global, letter: char) -> Result<Either<ToyQueryResult, ToyRow>, Error> {
+fn step_of(alloc: Global, letter: char) -> Result<Either<ToyQueryResult, ToyRow>, OutOfMemory> {
     match letter.to_digit(10) {
         Some(rows) => Ok(Either::Left(ToyQueryResult(u64::from(rows)))),
         None => Ok(Either::Right(single(alloc, letter)?)),

@@ -3,7 +3,7 @@ ghost use Rattle.std.specs.Prelude.{◌≡◌, ◌≤◌, Option, Result};
 ghost use Rattle.sqlx_text.specs.declared.fault.Fault.{Fault};
 ghost use Rattle.sqlx_traits.specs.StepList.{StepCauses};
 
-use crate::{Toy, ToyArguments, ToyConnection, ToyStatement, ToyType};
+use crate::{Toy, ToyArguments, ToyConnection, ToyStatement, ToyType, ToyValue};
 use sqlx_text::{Error, Fault, IoFault, OutOfMemory, SqlStr};
 use sqlx_traits::*;
 use std::alloc::Global;
@@ -21,30 +21,28 @@ pub struct Asked {
 impl Asked {
     /// The text, whether its statement is to be kept, and each argument behind a bar, as `SELECT kept|5|x`.
     pub fn shown(&self, alloc: Global) -> Result<String, OutOfMemory> {
-        let mut line = String::new(alloc);
-        if let Some(sql) = &self.sql {
-            line.push_str(sql.as_str())?;
-        }
-        line.push_str(if self.kept { " kept" } else { "" })?;
-        line.push_str(if self.prepared { " prepared" } else { "" })?;
-        match &self.arguments {
-            Some(arguments) => put_arguments(alloc, arguments, &mut line)?,
-            None => line.push_str(" bare")?,
-        }
-        Ok(line)
+        let sql = match &self.sql {
+            Some(sql) => sql.as_str(),
+            None => "",
+        };
+        let kept = if self.kept { " kept" } else { "" };
+        let prepared = if self.prepared { " prepared" } else { "" };
+        let arguments = match &self.arguments {
+            Some(arguments) => listed(alloc, arguments.list.as_slice())?,
+            None => " bare".to_string(alloc)?,
+        };
+        Ok(format!(in alloc; "{sql}{kept}{prepared}{arguments}")?)
     }
 }
 
-fn put_arguments(
-    alloc: Global,
-    arguments: &ToyArguments,
-    line: &mut String,
-) -> Result<(), OutOfMemory> {
-    for value in arguments.list.as_slice() {
+// Each value behind a bar.
+fn listed(alloc: Global, values: &[ToyValue]) -> Result<String, OutOfMemory> {
+    let mut line = String::new(alloc);
+    for value in values {
         let text = format!(in alloc; "|{value}")?;
         line.push_str(&text)?;
     }
-    Ok(())
+    Ok(line)
 }
 
 impl ToyConnection {

@@ -1,7 +1,8 @@
 //! Columns, rows and types by letters.
 
 use crate::{Bytes, Held, ToyColumn, ToyRow, ToyType, ToyValue};
-use sqlx_text::{AnyTypeInfoKind, Error, OutOfMemory, UStr};
+use sqlx_text::{AnyTypeInfoKind, OutOfMemory, UStr};
+use sqlx_traits::Row;
 use std::alloc::Global;
 
 // What a letter is: a column's name, its kind, and what its value holds.
@@ -37,23 +38,22 @@ fn held_of(alloc: Global, letter: char) -> Result<Held, OutOfMemory> {
     })
 }
 
-// Puts the column and the value of a letter behind those that are there.
-fn put(
-    alloc: Global,
-    columns: &mut Vec<ToyColumn>,
-    values: &mut Vec<ToyValue>,
-    letter: char,
-) -> Result<(), OutOfMemory> {
-    let column = column_of(letter, columns.len());
+// The value of a letter.
+fn value_of(alloc: Global, letter: char, column: &ToyColumn) -> Result<ToyValue, OutOfMemory> {
+    let held = held_of(alloc, letter)?;
     let kind = if letter == 'q' {
         None
     } else {
         column.type_info.kind
     };
-    let held = held_of(alloc, letter)?;
-    values.push(ToyValue { kind, held })?;
-    columns.push(column)?;
-    Ok(())
+    Ok(ToyValue { kind, held })
+}
+
+// A row with the column and the value of a letter behind those that are there.
+fn with(alloc: Global, row: ToyRow, letter: char) -> Result<ToyRow, OutOfMemory> {
+    let column = column_of(letter, row.len());
+    let value = value_of(alloc, letter, &column)?;
+    row.with(column, value)
 }
 
 /// Columns by letters: `b`, `s`, `i`, `l`, `t`, `y` are of the kinds from `Bool` on and are called `flag`, `small`,
@@ -79,19 +79,15 @@ pub fn types_of(alloc: Global, letters: &str) -> Result<Vec<ToyType>, OutOfMemor
 
 /// A row of the same letters: the values are true, 5, 6, 7, the text `x` and the bytes 1 and 2; those of `n` and `z`
 /// are null, each other is the text `x`. The value of `q` is of the type without a kind.
-pub fn row_of(alloc: Global, letters: &str) -> Result<ToyRow, Error> {
-    let mut columns = Vec::new(alloc);
-    let mut values = Vec::new(alloc);
+pub fn row_of(alloc: Global, letters: &str) -> Result<ToyRow, OutOfMemory> {
+    let mut row = ToyRow::new(alloc);
     for letter in letters.chars() {
-        put(alloc, &mut columns, &mut values, letter)?;
+        row = with(alloc, row, letter)?;
     }
-    ToyRow::new(columns, values)
+    Ok(row)
 }
 
 /// A row of one letter.
-pub fn single(alloc: Global, letter: char) -> Result<ToyRow, Error> {
-    let mut columns = Vec::new(alloc);
-    let mut values = Vec::new(alloc);
-    put(alloc, &mut columns, &mut values, letter)?;
-    ToyRow::new(columns, values)
+pub fn single(alloc: Global, letter: char) -> Result<ToyRow, OutOfMemory> {
+    with(alloc, ToyRow::new(alloc), letter)
 }

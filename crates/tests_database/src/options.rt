@@ -65,6 +65,6 @@ impl ConnectOptions for ToyConnectOptions {
 
 impl Connect<Toy> for ToyConnectOptions {
     fn connect(&self, alloc: Global) -> Result<ToyConnection, Error> {
-        ToyConnection::new(alloc, self.url.path())
+        Ok(ToyConnection::new(alloc, self.url.path())?)
     }
 }

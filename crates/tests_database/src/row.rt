@@ -48,14 +48,23 @@ pub struct ToyRow {
 }
 
 impl ToyRow {
-    /// A row of these columns and values; `RowNotFound` where they aren't as many.
-    pub fn new(columns: Vec<ToyColumn>, values: Vec<ToyValue>) -> Result<ToyRow, Error> {
-        if columns.len() == values.len() {
-            return Ok(ToyRow { columns, values });
+    /// A row without columns.
+    pub fn new(alloc: Global) -> ToyRow {
+        ToyRow {
+            columns: Vec::new(alloc),
+            values: Vec::new(alloc),
         }
-        drop(columns);
-        drop(values);
-        Err(Error::RowNotFound)
+    }
+
+    /// The row with a column and its value behind the others.
+    pub fn with(self, column: ToyColumn, value: ToyValue) -> Result<ToyRow, OutOfMemory> {
+        let ToyRow {
+            mut columns,
+            mut values,
+        } = self;
+        columns.push(column)?;
+        values.push(value)?;
+        Ok(ToyRow { columns, values })
     }
 }
 

@@ -1,82 +1,93 @@
 //! Statements that are built piece by piece, with the numbered placeholders of the toy database, and what is asked of them.
-ghost use Rattle.std.specs.Prelude.{◌≡◌, Bool, IfOk, length, take};
-ghost use Rattle.sqlx_query.specs.Builder.{Appends};
-ghost use Rattle.sqlx_query.specs.Tuples.{behind};
+ghost use Rattle.std.specs.Prelude.{◌≡◌, Bool, IfOk};
+ghost use Rattle.tests_queries.specs.Callers.{RowAppends};
 
-use crate::calls::{numbers, ran, ran_read};
+use crate::calls::{Scripted, numbers, ran, ran_read};
 use crate::says::says;
-use sqlx_query::{QueryBuilder, placeholders_are_arguments};
-use sqlx_text::{Error, Fault, OutOfMemory};
+use sqlx_query::{
+    AsRows, AsScalars, FromColumn, FromRow, QueryBuilder, placeholders_are_arguments,
+};
+use sqlx_text::{Fault, OutOfMemory};
+use sqlx_traits::*;
 use std::alloc::Global;
+use std::fmt::Debug;
 use std::test::*;
-use tests_database::Toy;
 use tests_database::answers::taken;
 use tests_database::steps::Call;
-
-type Builder = QueryBuilder<Toy>;
+use tests_database::{Toy, ToyConnection};
 
 // A builder of one argument.
-fn started(alloc: Global, init: &str) -> Result<Builder, Error>
+fn started<'t, DB: Database>(alloc: Global, init: &str) -> Result<QueryBuilder<DB>, Fault>
+where
+    DB::Arguments: IntoArguments<DB>,
+    i64: Encode<'t, DB> + SqlType<DB>,
     ensures { IfOk result (λ builder. builder.built ≡ Bool.false) }
 {
-    let args = numbers(alloc, &[9])?;
-    Ok(QueryBuilder::with_arguments(alloc, init.to_string(alloc)?, args))
+    let init = init.to_string(alloc)?;
+    let args = numbers::<DB>(alloc, &[9])?;
+    Ok(QueryBuilder::with_arguments(alloc, init, args))
 }
 
 // What is asked of the query that is built, and what comes of it.
-fn run(alloc: Global, builder: &mut Builder) -> Result<String, Error> {
+fn run<DB: Database, E: Scripted<DB>>(
+    alloc: Global,
+    builder: &mut QueryBuilder<DB>,
+) -> Result<String, OutOfMemory>
+where
+    DB::Arguments: IntoArguments<DB>,
+    DB::QueryResult: Debug,
+{
     if builder.is_built() {
         return Ok("built".to_string(alloc)?);
     }
     let query = builder.build(alloc)?;
-    ran(alloc, "2", Call::Execute, query)
+    ran::<DB, E>(alloc, "2", Call::Execute, query)
 }
 
-fn pushed(alloc: Global) -> Result<String, Error> {
-    let mut builder = started(alloc, "SELECT $1 ")?;
+// Pieces by calls that chain.
+fn chained<'t, DB: Database>(alloc: Global, builder: &mut QueryBuilder<DB>) -> Result<(), Fault>
+where
+    &'t str: Encode<'t, DB> + SqlType<DB>,
+    requires { builder.old.built ≡ Bool.false }
+{
     builder
-        .push(alloc, "WHERE a = ")?
+        .push(alloc, " WHERE a = ")?
         .push_bind(alloc, "x")?
         .push(alloc, " LIMIT ")?
         .push_display(alloc, &30u8)?;
-    run(alloc, &mut builder)
+    Ok(())
 }
 
-fn tried(alloc: Global) -> Result<String, Error> {
-    let mut builder = started(alloc, "SELECT $1 ")?;
-    builder.try_push(alloc, "WHERE a = ")?;
+// The same pieces by calls that don't.
+fn tried<'t, DB: Database>(alloc: Global, builder: &mut QueryBuilder<DB>) -> Result<(), Fault>
+where
+    &'t str: Encode<'t, DB> + SqlType<DB>,
+    requires { builder.old.built ≡ Bool.false }
+{
+    builder.try_push(alloc, " WHERE a = ")?;
     builder.try_push_bind(alloc, "x")?;
     builder.try_push(alloc, " LIMIT ")?;
     builder.try_push_display(alloc, &30u8)?;
-    run(alloc, &mut builder)
+    Ok(())
 }
 
 // A list of texts and of values; a refused value leaves no separator.
-fn listed(alloc: Global) -> Result<String, Error> {
-    let mut builder = started(alloc, "SELECT $1")?;
+fn listed<'t, DB: Database>(alloc: Global, builder: &mut QueryBuilder<DB>) -> Result<(), Fault>
+where
+    bool: Encode<'t, DB> + SqlType<DB>,
+    i64: Encode<'t, DB> + SqlType<DB>,
+    requires { builder.old.built ≡ Bool.false }
+{
     let mut list = builder.separated(",");
     list.push_unseparated(alloc, " IN (")?;
     list.push(alloc, "a")?;
     list.push_bind(alloc, 5i64)?;
-    drop(taken(alloc, list.push_bind(alloc, true))?);
+    drop(list.push_bind(alloc, true));
     list.push_bind(alloc, 6i64)?;
     list.push_bind_unseparated(alloc, 7i64)?;
     list.push_unseparated(alloc, ")")?;
     drop(list);
-    run(alloc, &mut builder)
-}
-
-#[test]
-fn pushes_pieces(rt: HostRuntime) -> Result<(), Fail> {
-    let alloc = rt.alloc();
-    let want = "SELECT $1 WHERE a = $2 LIMIT 30 kept|9|x: ToyQueryResult(2)";
-    says(&rt, pushed(alloc), want)?;
-    says(&rt, tried(alloc), want)?;
-    says(
-        &rt,
-        listed(alloc),
-        "SELECT $1 IN (a,$2,$3$4) kept|9|5|6|7: ToyQueryResult(2)",
-    )
+    Ok(())
 }
 
 // So many of two pairs.
@@ -87,151 +98,244 @@ fn two_pairs(alloc: Global, count: usize) -> Result<Vec<(i64, i64)>, OutOfMemory
 }
 
 #[tactic(auto, using(sqlx_query::proofs::RowLemmas::appends_then))]
-fn values(alloc: Global, count: usize) -> Result<String, Error> {
-    let pairs = two_pairs(alloc, count)?;
-    let mut builder = started(alloc, "INSERT $1 ")?;
+fn values<'t, DB: Database>(
+    alloc: Global,
+    builder: &mut QueryBuilder<DB>,
+    pairs: Vec<(i64, i64)>,
+) -> Result<(), Fault>
+where
+    i64: Encode<'t, DB> + SqlType<DB>,
+    requires { builder.old.built ≡ Bool.false }
+{
     builder.push_values(
         alloc,
         pairs.into_iter(),
         |row, pair| -> Result<(), Fault>
-            ensures { Appends length take (behind (λ args. args.list) row.old.parts) (behind (λ args. args.list) row.new.parts) }
+            ensures { RowAppends DB.ArgumentBuffer.count DB.ArgumentBuffer.first DB.Arguments.buffered row.old.parts row.new.parts }
         {
             row.push_bind(alloc, pair.0)?;
-            row.push_bind(alloc, pair.1)?;
-            Ok(())
+            row.push_bind(alloc, pair.1)
         },
     )?;
-    run(alloc, &mut builder)
+    Ok(())
 }
 
 #[tactic(auto, using(sqlx_query::proofs::RowLemmas::appends_then))]
-fn tuples(alloc: Global, count: usize) -> Result<String, Error> {
-    let pairs = two_pairs(alloc, count)?;
-    let mut builder = started(alloc, "SELECT $1 IN")?;
+fn tuples<'t, DB: Database>(
+    alloc: Global,
+    builder: &mut QueryBuilder<DB>,
+    pairs: Vec<(i64, i64)>,
+) -> Result<(), Fault>
+where
+    i64: Encode<'t, DB> + SqlType<DB>,
+    requires { builder.old.built ≡ Bool.false }
+{
     builder.push_tuples(
         alloc,
         pairs.into_iter(),
         |row, pair| -> Result<(), Fault>
-            ensures { Appends length take (behind (λ args. args.list) row.old.parts) (behind (λ args. args.list) row.new.parts) }
+            ensures { RowAppends DB.ArgumentBuffer.count DB.ArgumentBuffer.first DB.Arguments.buffered row.old.parts row.new.parts }
         {
             row.push(alloc, "-")?;
             row.push_bind_unseparated(alloc, pair.0)?;
             row.push_unseparated(alloc, "%")?;
-            row.push_bind(alloc, pair.1)?;
-            Ok(())
+            row.push_bind(alloc, pair.1)
         },
     )?;
-    run(alloc, &mut builder)
+    Ok(())
 }
 
-#[test]
-fn pushes_tuples(rt: HostRuntime) -> Result<(), Fail> {
-    let alloc = rt.alloc();
-    says(
-        &rt,
-        values(alloc, 2),
-        "INSERT $1 VALUES ($2, $3), ($4, $5) kept|9|1|2|3|4: ToyQueryResult(2)",
-    )?;
-    says(
-        &rt,
-        values(alloc, 0),
-        "INSERT $1 VALUES  kept|9: ToyQueryResult(2)",
-    )?;
-    says(
-        &rt,
-        tuples(alloc, 2),
-        "SELECT $1 IN ((-$2%, $3), (-$4%, $5))  kept|9|1|2|3|4: ToyQueryResult(2)",
-    )?;
-    says(
-        &rt,
-        tuples(alloc, 0),
-        "SELECT $1 IN ()  kept|9: ToyQueryResult(2)",
+#[tactic(auto, using(sqlx_query::proofs::RowLemmas::appends_then))]
+fn refused_values<'t, DB: Database>(
+    alloc: Global,
+    builder: &mut QueryBuilder<DB>,
+    pairs: Vec<(i64, i64)>,
+) -> Result<(), Fault>
+where
+    bool: Encode<'t, DB> + SqlType<DB>,
+    i64: Encode<'t, DB> + SqlType<DB>,
+    requires { builder.old.built ≡ Bool.false }
+{
+    builder.try_push_values(
+        alloc,
+        pairs.into_iter(),
+        |row, pair| -> Result<(), Fault>
+            ensures { RowAppends DB.ArgumentBuffer.count DB.ArgumentBuffer.first DB.Arguments.buffered row.old.parts row.new.parts }
+        {
+            row.push_bind(alloc, pair.0)?;
+            row.push_bind(alloc, true)
+        },
     )
 }
 
-fn refused_value(alloc: Global) -> Result<String, Error> {
-    let mut builder = started(alloc, "SELECT $1")?;
-    let answer = taken(alloc, builder.try_push_bind(alloc, true))?;
-    let asked = run(alloc, &mut builder)?;
-    Ok(format!(in alloc; "{answer}; {asked}")?)
-}
-
 #[tactic(auto, using(sqlx_query::proofs::RowLemmas::appends_then))]
-fn refused_values(alloc: Global) -> Result<String, Error> {
-    let pairs = two_pairs(alloc, 2)?;
-    let mut builder = started(alloc, "SELECT $1")?;
-    let pushed = builder.try_push_values(
+fn refused_tuples<'t, DB: Database>(
+    alloc: Global,
+    builder: &mut QueryBuilder<DB>,
+    pairs: Vec<(i64, i64)>,
+) -> Result<(), Fault>
+where
+    bool: Encode<'t, DB> + SqlType<DB>,
+    i64: Encode<'t, DB> + SqlType<DB>,
+    requires { builder.old.built ≡ Bool.false }
+{
+    builder.try_push_tuples(
         alloc,
         pairs.into_iter(),
         |row, pair| -> Result<(), Fault>
-            ensures { Appends length take (behind (λ args. args.list) row.old.parts) (behind (λ args. args.list) row.new.parts) }
+            ensures { RowAppends DB.ArgumentBuffer.count DB.ArgumentBuffer.first DB.Arguments.buffered row.old.parts row.new.parts }
         {
             row.push_bind(alloc, pair.0)?;
-            row.push_bind(alloc, true)?;
-            Ok(())
+            row.push_bind(alloc, true)
         },
-    );
-    let answer = taken(alloc, pushed)?;
-    let asked = run(alloc, &mut builder)?;
-    Ok(format!(in alloc; "{answer}; {asked}")?)
+    )
 }
 
-#[tactic(auto, using(sqlx_query::proofs::RowLemmas::appends_then))]
-fn refused_tuples(alloc: Global) -> Result<String, Error> {
-    let pairs = two_pairs(alloc, 2)?;
-    let mut builder = started(alloc, "SELECT $1")?;
-    let pushed = builder.try_push_tuples(
-        alloc,
-        pairs.into_iter(),
-        |row, pair| -> Result<(), Fault>
-            ensures { Appends length take (behind (λ args. args.list) row.old.parts) (behind (λ args. args.list) row.new.parts) }
-        {
-            row.push_bind(alloc, pair.0)?;
-            row.push_bind(alloc, true)?;
-            Ok(())
-        },
-    );
-    let answer = taken(alloc, pushed)?;
-    let asked = run(alloc, &mut builder)?;
+// What is pushed: pieces, lists of so many pairs, and what is refused.
+#[derive(Clone, Copy)]
+enum Push {
+    Chained,
+    Tried,
+    Listed,
+    Values(usize),
+    Tuples(usize),
+    RefusedValue,
+    RefusedValues,
+    RefusedTuples,
+}
+
+fn push<'t, DB: Database>(
+    alloc: Global,
+    builder: &mut QueryBuilder<DB>,
+    push: Push,
+) -> Result<(), Fault>
+where
+    bool: Encode<'t, DB> + SqlType<DB>,
+    i64: Encode<'t, DB> + SqlType<DB>,
+    &'t str: Encode<'t, DB> + SqlType<DB>,
+    requires { builder.old.built ≡ Bool.false }
+{
+    match push {
+        Push::Chained => chained::<DB>(alloc, builder),
+        Push::Tried => tried::<DB>(alloc, builder),
+        Push::Listed => listed::<DB>(alloc, builder),
+        Push::Values(count) => values::<DB>(alloc, builder, two_pairs(alloc, count)?),
+        Push::Tuples(count) => tuples::<DB>(alloc, builder, two_pairs(alloc, count)?),
+        Push::RefusedValue => builder.try_push_bind(alloc, true),
+        Push::RefusedValues => refused_values::<DB>(alloc, builder, two_pairs(alloc, 2)?),
+        Push::RefusedTuples => refused_tuples::<DB>(alloc, builder, two_pairs(alloc, 2)?),
+    }
+}
+
+// What is said of a push, and what is asked of the query that is built then.
+fn pushed<'t, DB: Database, E: Scripted<DB>>(alloc: Global, what: Push) -> Result<String, Fault>
+where
+    DB::Arguments: IntoArguments<DB>,
+    DB::QueryResult: Debug,
+    bool: Encode<'t, DB> + SqlType<DB>,
+    i64: Encode<'t, DB> + SqlType<DB>,
+    &'t str: Encode<'t, DB> + SqlType<DB>,
+{
+    let mut builder = started::<DB>(alloc, "SELECT $1")?;
+    let answer = push::<DB>(alloc, &mut builder, what);
+    let asked = run::<DB, E>(alloc, &mut builder);
+    drop(builder);
+    let (answer, asked) = (taken(alloc, answer)?, asked?);
     Ok(format!(in alloc; "{answer}; {asked}")?)
 }
 
 #[test]
-fn a_refusal_leaves_the_builder(rt: HostRuntime) -> Result<(), Fail> {
-    let alloc = rt.alloc();
-    let want =
+fn pushes_pieces(rt: HostRuntime) -> Result<(), Fail> {
+    let pieces = "taken; SELECT $1 WHERE a = $2 LIMIT 30 kept|9|x: ToyQueryResult(2)";
+    let refused =
         "out of range integral type conversion attempted; SELECT $1 kept|9: ToyQueryResult(2)";
-    says(&rt, refused_value(alloc), want)?;
-    says(&rt, refused_values(alloc), want)?;
-    says(&rt, refused_tuples(alloc), want)
+    for (push, want) in [
+        (Push::Chained, pieces),
+        (Push::Tried, pieces),
+        (
+            Push::Listed,
+            "taken; SELECT $1 IN (a,$2,$3$4) kept|9|5|6|7: ToyQueryResult(2)",
+        ),
+        (
+            Push::Values(2),
+            "taken; SELECT $1VALUES ($2, $3), ($4, $5) kept|9|1|2|3|4: ToyQueryResult(2)",
+        ),
+        (
+            Push::Values(0),
+            "taken; SELECT $1VALUES  kept|9: ToyQueryResult(2)",
+        ),
+        (
+            Push::Tuples(2),
+            "taken; SELECT $1 ((-$2%, $3), (-$4%, $5))  kept|9|1|2|3|4: ToyQueryResult(2)",
+        ),
+        (
+            Push::Tuples(0),
+            "taken; SELECT $1 ()  kept|9: ToyQueryResult(2)",
+        ),
+        (Push::RefusedValue, refused),
+        (Push::RefusedValues, refused),
+        (Push::RefusedTuples, refused),
+    ] {
+        let told = pushed::<Toy, ToyConnection>(rt.alloc(), push);
+        says(&rt, told, want)?;
+    }
+    Ok(())
 }
 
-fn built_as(alloc: Global) -> Result<String, Error> {
-    let mut builder = started(alloc, "SELECT $1")?;
-    let query = builder.build_query_as::<(i64,)>(alloc)?;
-    ran_read(alloc, "l", Call::FetchOne, query)
+fn built_as<'t, DB: Database, E: Scripted<DB>, O: FromRow<DB> + Debug + Drop>(
+    alloc: Global,
+) -> Result<String, Fault>
+where
+    DB::Arguments: IntoArguments<DB>,
+    DB::QueryResult: Debug,
+    i64: Encode<'t, DB> + SqlType<DB>,
+{
+    let mut builder = started::<DB>(alloc, "SELECT $1")?;
+    let query = builder.build_query_as::<O>(alloc);
+    drop(builder);
+    Ok(ran_read::<DB, AsRows<O>, E>(alloc, "l", Call::FetchOne, query?)?)
 }
 
-fn built_scalar(alloc: Global) -> Result<String, Error> {
-    let mut builder = started(alloc, "SELECT $1")?;
-    let query = builder.build_query_scalar::<i64>(alloc)?;
-    ran_read(alloc, "l", Call::FetchOne, query)
+fn built_scalar<'t, DB: Database, E: Scripted<DB>, O: FromColumn<DB> + Debug>(
+    alloc: Global,
+) -> Result<String, Fault>
+where
+    DB::Arguments: IntoArguments<DB>,
+    DB::QueryResult: Debug,
+    i64: Encode<'t, DB> + SqlType<DB>,
+{
+    let mut builder = started::<DB>(alloc, "SELECT $1")?;
+    let query = builder.build_query_scalar::<O>(alloc);
+    drop(builder);
+    Ok(ran_read::<DB, AsScalars<O>, E>(alloc, "l", Call::FetchOne, query?)?)
 }
 
-fn built_anew(alloc: Global) -> Result<String, Error> {
-    let mut builder: Builder = QueryBuilder::new(alloc, "SELECT".to_string(alloc)?);
-    builder.push_bind(alloc, 1i64)?;
-    drop(run(alloc, &mut builder)?);
+// A builder without arguments, that is built twice.
+fn built_anew<'t, DB: Database, E: Scripted<DB>>(alloc: Global) -> Result<String, Fault>
+where
+    DB::Arguments: IntoArguments<DB>,
+    DB::QueryResult: Debug,
+    i64: Encode<'t, DB> + SqlType<DB>,
+{
+    let mut builder = QueryBuilder::<DB>::new(alloc, "SELECT".to_string(alloc)?);
+    let bound = builder.try_push_bind(alloc, 1i64);
+    let first = run::<DB, E>(alloc, &mut builder);
     let built = builder.is_built();
-    let again = run(alloc, builder.reset(alloc))?;
+    let again = run::<DB, E>(alloc, builder.reset(alloc));
     let text = builder.into_string();
-    Ok(format!(in alloc; "{built} {again} {text}")?)
+    let (bound, first, again) = (taken(alloc, bound)?, first?, again?);
+    Ok(format!(in alloc; "{bound}; {first}; {built}; {again}; {text}")?)
 }
 
-fn texts(alloc: Global) -> Result<String, Error> {
-    let builder = started(alloc, "SELECT $1")?;
-    let sql = builder.sql(alloc)?;
+fn texts<'t, DB: Database>(alloc: Global) -> Result<String, Fault>
+where
+    DB::Arguments: IntoArguments<DB>,
+    i64: Encode<'t, DB> + SqlType<DB>,
+{
+    let builder = started::<DB>(alloc, "SELECT $1")?;
+    let sql = builder.sql(alloc);
     let same = builder.into_sql();
+    let sql = sql?;
     Ok(format!(in alloc; "{sql:?} {same:?}")?)
 }
 
@@ -239,16 +343,18 @@ fn texts(alloc: Global) -> Result<String, Error> {
 fn builds_queries(rt: HostRuntime) -> Result<(), Fail> {
     let alloc = rt.alloc();
     placeholders_are_arguments::<Toy>();
-    says(&rt, built_as(alloc), "SELECT $1 kept|9: (7,)")?;
-    says(&rt, built_scalar(alloc), "SELECT $1 kept|9: 7")?;
+    let told = built_as::<Toy, ToyConnection, (i64,)>(alloc);
+    says(&rt, told, "SELECT $1 kept|9: (7,)")?;
+    let told = built_scalar::<Toy, ToyConnection, i64>(alloc);
+    says(&rt, told, "SELECT $1 kept|9: 7")?;
     says(
         &rt,
-        built_anew(alloc),
-        "true SELECT kept: ToyQueryResult(2) SELECT",
+        built_anew::<Toy, ToyConnection>(alloc),
+        "taken; SELECT$1 kept|1: ToyQueryResult(2); true; SELECT kept: ToyQueryResult(2); SELECT",
     )?;
     says(
         &rt,
-        texts(alloc),
+        texts::<Toy>(alloc),
         "SqlStr { text: \"SELECT $1\" } SqlStr { text: \"SELECT $1\" }",
     )
 }

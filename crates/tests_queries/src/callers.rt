@@ -1,12 +1,9 @@
 //! Callers as a user writes them, with their contracts; each is called once.
-ghost use Rattle.std.specs.Prelude.{◌≡◌, ◌⊎◌, Bool, IfErr, OnOk, codes, false};
-ghost use Rattle.sqlx_query.specs.Builder.{Appends};
-ghost use Rattle.sqlx_query.specs.Query.{Asked, handed_over};
-ghost use Rattle.sqlx_query.specs.Tuples.{behind};
+ghost use Rattle.std.specs.Prelude.{◌≡◌, ◌⊎◌, Bool, IfErr, OnOk, codes};
 ghost use Rattle.sqlx_text.specs.declared.error.Error.{Error};
-ghost use Rattle.sqlx_traits.specs.StepList.{Ran, first_of, one_or, rows_of};
+ghost use Rattle.tests_queries.specs.Callers.{FirstOfUnkept, RowAppends};
 
-use crate::calls::asked;
+use crate::calls::{Scripted, asked};
 use crate::says::says;
 use sqlx_query::{QueryBuilder, query};
 use sqlx_text::{Error, Fault, OutOfMemory};
@@ -15,7 +12,8 @@ use sqlx_traits::{
 };
 use std::alloc::Global;
 use std::test::*;
-use tests_database::steps::one_row;
+use tests_database::answers::told;
+use tests_database::steps::Named;
 use tests_database::{Toy, ToyConnection};
 
 /// The first article of an author, by a statement that isn't kept.
@@ -25,10 +23,8 @@ where
     E: Executor<DB>,
     T: Encode<'t, DB> + SqlType<DB> + Drop,
     DB::Arguments: IntoArguments<DB>,
-    ensures { IfErr result (λ e. e ≡ Error.OutOfMemory) ⊎ ((asked : Asked DB.Statement DB.Arguments)
-        × (asked.text ≡ codes "SELECT title FROM articles WHERE author = ?") × (asked.kept ≡ false)
-        × Ran E.runs conn.old (handed_over ⟦<DB::Arguments as IntoArguments<DB>>⟧.becomes asked) conn.new
-        (λ list. result ≡ one_or Error.RowNotFound (first_of (rows_of list)))) }
+    ensures { IfErr result (λ e. e ≡ Error.OutOfMemory) ⊎ FirstOfUnkept _ _ _ _ _ _ ⟦<DB::Arguments as IntoArguments<DB>>⟧.becomes E.runs
+        (codes "SELECT title FROM articles WHERE author = ?") conn.old conn.new result }
 {
     query::<DB, _>(alloc, "SELECT title FROM articles WHERE author = ?")?
         .bind(alloc, author)
@@ -71,8 +67,7 @@ where
         alloc,
         notes.into_iter(),
         |row, note| -> Result<(), Fault>
-            ensures { Appends DB.ArgumentBuffer.count DB.ArgumentBuffer.first
-                (behind DB.Arguments.buffered row.old.parts) (behind DB.Arguments.buffered row.new.parts) }
+            ensures { RowAppends DB.ArgumentBuffer.count DB.ArgumentBuffer.first DB.Arguments.buffered row.old.parts row.new.parts }
         {
             row.push_bind(alloc, note.0)?;
             row.push_bind(alloc, note.1)
@@ -81,16 +76,25 @@ where
     Ok(())
 }
 
-fn article(alloc: Global) -> Result<String, Error> {
-    let mut conn = ToyConnection::new(alloc, "t")?;
-    let row = first_article::<Toy, ToyConnection, &str>(alloc, &mut conn, "x");
-    let given = one_row::<Toy>(alloc, row);
-    asked(alloc, conn, given)
+fn article<'t, DB: Database + HasStatementCache, E: Scripted<DB>>(
+    alloc: Global,
+) -> Result<String, OutOfMemory>
+where
+    DB::Arguments: IntoArguments<DB>,
+    &'t str: Encode<'t, DB> + SqlType<DB>,
+{
+    let mut conn = E::by_letters(alloc, "t")?;
+    let row = first_article::<DB, E, &'t str>(alloc, &mut conn, "x");
+    let given = told::<_, Named<DB>>(alloc, row);
+    asked::<DB, E>(alloc, conn, given)
 }
 
-fn notes(alloc: Global) -> Result<String, Error> {
-    let mut notes: QueryBuilder<Toy> = QueryBuilder::new(alloc, "SELECT".to_string(alloc)?);
-    of_day::<Toy, i64>(alloc, &mut notes, 3)?;
+fn notes<'t, DB: Database>(alloc: Global) -> Result<String, Fault>
+where
+    i64: Encode<'t, DB> + SqlType<DB>,
+{
+    let mut notes = QueryBuilder::<DB>::new(alloc, "SELECT".to_string(alloc)?);
+    of_day::<DB, i64>(alloc, &mut notes, 3)?;
     Ok(notes.into_string())
 }
 
@@ -98,10 +102,13 @@ fn two_notes(alloc: Global) -> Result<Vec<(i64, &'static str)>, OutOfMemory> {
     Ok(vec![in alloc; (1, "x"), (2, "y")]?)
 }
 
-fn inserted(alloc: Global) -> Result<String, Error> {
-    let mut insert: QueryBuilder<Toy> = QueryBuilder::new(alloc, "INSERT ".to_string(alloc)?);
-    let notes = two_notes(alloc)?;
-    with_notes::<Toy, i64>(alloc, &mut insert, notes)?;
+fn inserted<DB: Database>(alloc: Global) -> Result<String, Fault>
+where
+    i64: Encode<'static, DB> + SqlType<DB>,
+    &'static str: Encode<'static, DB> + SqlType<DB>,
+{
+    let mut insert = QueryBuilder::<DB>::new(alloc, "INSERT ".to_string(alloc)?);
+    with_notes::<DB, i64>(alloc, &mut insert, two_notes(alloc)?)?;
     Ok(insert.into_string())
 }
 
@@ -110,9 +117,13 @@ fn callers_run(rt: HostRuntime) -> Result<(), Fail> {
     let alloc = rt.alloc();
     says(
         &rt,
-        article(alloc),
+        article::<Toy, ToyConnection>(alloc),
         "SELECT title FROM articles WHERE author = ?|x: text",
     )?;
-    says(&rt, notes(alloc), "SELECT WHERE day = $1 LIMIT 1")?;
-    says(&rt, inserted(alloc), "INSERT VALUES ($1, $2), ($3, $4)")
+    says(&rt, notes::<Toy>(alloc), "SELECT WHERE day = $1 LIMIT 1")?;
+    says(
+        &rt,
+        inserted::<Toy>(alloc),
+        "INSERT VALUES ($1, $2), ($3, $4)",
+    )
 }

@@ -1,71 +1,118 @@
 //! Arguments that can't be encoded: what a query says of them, and that nothing is run. The toy database refuses truth values.
 
-use crate::calls::{ran, ran_read};
+use crate::calls::{Scripted, ran, ran_read};
 use crate::says::says;
 use sqlx_query::*;
-use sqlx_text::{Error, Fault};
+use sqlx_text::{Fault, OutOfMemory};
+use sqlx_traits::*;
 use std::alloc::Global;
+use std::fmt::Debug;
 use std::test::*;
 use tests_database::answers::taken;
 use tests_database::steps::Call;
-use tests_database::{Toy, ToyArguments};
+use tests_database::{Toy, ToyConnection};
 
 const FIRST_REFUSED: &str =
     "nothing: error occurred while encoding a value: Encoding argument $1 failed: out of range integral type conversion attempted";
 
-const OUT_OF_RANGE: &str =
-    "nothing: error occurred while encoding a value: out of range integral type conversion attempted";
-
-fn first(alloc: Global, call: Call) -> Result<String, Error> {
-    let query = query::<Toy, _>(alloc, "SELECT")?
-        .bind(alloc, true)
-        .bind(alloc, 7i64)
-        .bind(alloc, false);
-    ran(alloc, "t2", call, query)
+// Which arguments a query has; truth values are refused.
+#[derive(Clone, Copy)]
+enum Bound {
+    FlagNumberFlag,
+    NumberFlag,
 }
 
-fn second(alloc: Global) -> Result<String, Error> {
-    let query = query::<Toy, _>(alloc, "SELECT")?
-        .bind(alloc, 7i64)
-        .bind(alloc, true);
-    ran(alloc, "t2", Call::Execute, query)
+fn select<'t, DB: Database + 't>(
+    alloc: Global,
+    bound: Bound,
+) -> Result<Query<'t, DB, DB::Arguments>, OutOfMemory>
+where
+    bool: Encode<'t, DB> + SqlType<DB>,
+    i64: Encode<'t, DB> + SqlType<DB>,
+{
+    let query = query::<DB, _>(alloc, "SELECT")?;
+    Ok(match bound {
+        Bound::FlagNumberFlag => query.bind(alloc, true).bind(alloc, 7i64).bind(alloc, false),
+        Bound::NumberFlag => query.bind(alloc, 7i64).bind(alloc, true),
+    })
+}
+
+fn bound<'t, DB: Database + 't, E: Scripted<DB>>(
+    alloc: Global,
+    call: Call,
+    bound: Bound,
+) -> Result<String, OutOfMemory>
+where
+    DB::Arguments: IntoArguments<DB>,
+    DB::QueryResult: Debug,
+    bool: Encode<'t, DB> + SqlType<DB>,
+    i64: Encode<'t, DB> + SqlType<DB>,
+{
+    ran::<DB, E>(alloc, "t2", call, select::<DB>(alloc, bound)?)
 }
 
 #[test]
 fn tells_the_first_fault(rt: HostRuntime) -> Result<(), Fail> {
     let alloc = rt.alloc();
-    for call in [Call::Execute, Call::FetchAll, Call::FetchOptional] {
-        says(&rt, first(alloc, call), FIRST_REFUSED)?;
-    }
     let alone = format!(in alloc; "{FIRST_REFUSED}|")?;
-    for call in [Call::Fetch, Call::FetchMany, Call::ExecuteMany] {
-        says(&rt, first(alloc, call), alone.as_str())?;
+    let alone = alone.as_str();
+    let first = Bound::FlagNumberFlag;
+    for (call, refused, want) in [
+        (Call::Execute, first, FIRST_REFUSED),
+        (Call::FetchAll, first, FIRST_REFUSED),
+        (Call::FetchOptional, first, FIRST_REFUSED),
+        (Call::Fetch, first, alone),
+        (Call::FetchMany, first, alone),
+        (Call::ExecuteMany, first, alone),
+        (
+            Call::Execute,
+            Bound::NumberFlag,
+            "nothing: error occurred while encoding a value: Encoding argument $2 failed: out of range integral type conversion attempted",
+        ),
+    ] {
+        let told = bound::<Toy, ToyConnection>(alloc, call, refused);
+        says(&rt, told, want)?;
     }
-    says(
-        &rt,
-        second(alloc),
-        "nothing: error occurred while encoding a value: Encoding argument $2 failed: out of range integral type conversion attempted",
-    )?;
     Ok(())
 }
 
-fn tried(alloc: Global) -> Result<String, Error> {
-    let mut query = query::<Toy, _>(alloc, "SELECT")?.bind(alloc, 9i64);
-    let answer = taken(alloc, query.try_bind(alloc, true))?;
-    let asked = ran(alloc, "t2", Call::Execute, query)?;
+// A query of an argument to which another is tried.
+fn tried<'t, DB: Database + 't, E: Scripted<DB>>(alloc: Global) -> Result<String, OutOfMemory>
+where
+    DB::Arguments: IntoArguments<DB>,
+    DB::QueryResult: Debug,
+    bool: Encode<'t, DB> + SqlType<DB>,
+    i64: Encode<'t, DB> + SqlType<DB>,
+{
+    let mut query = query::<DB, _>(alloc, "SELECT")?.bind(alloc, 9i64);
+    let answer = query.try_bind(alloc, true);
+    let asked = ran::<DB, E>(alloc, "t2", Call::Execute, query);
+    let (answer, asked) = (taken(alloc, answer)?, asked?);
     Ok(format!(in alloc; "{answer}, {asked}")?)
 }
 
-fn tried_behind_a_fault(alloc: Global) -> Result<String, Error> {
-    let mut query = query::<Toy, _>(alloc, "SELECT")?.bind(alloc, true);
+// An argument that is tried behind a refused one.
+fn tried_behind_a_fault<'t, DB: Database + 't>(alloc: Global) -> Result<String, OutOfMemory>
+where
+    bool: Encode<'t, DB> + SqlType<DB>,
+    i64: Encode<'t, DB> + SqlType<DB>,
+{
+    let mut query = query::<DB, _>(alloc, "SELECT")?.bind(alloc, true);
     let answer = query.try_bind(alloc, 8i64);
     drop(query);
-    Ok(taken(alloc, answer)?)
+    taken(alloc, answer)
 }
 
-fn of_scalar(alloc: Global) -> Result<String, Error> {
-    let query = query_scalar::<Toy, i64, _>(alloc, "SELECT")?.bind(alloc, true);
-    ran_read(alloc, "l", Call::FetchOne, query)
+fn of_scalar<'t, DB: Database + 't, E: Scripted<DB>, O: FromColumn<DB> + Debug>(
+    alloc: Global,
+) -> Result<String, OutOfMemory>
+where
+    DB::Arguments: IntoArguments<DB>,
+    DB::QueryResult: Debug,
+    bool: Encode<'t, DB> + SqlType<DB>,
+{
+    let query = query_scalar::<DB, O, _>(alloc, "SELECT")?.bind(alloc, true);
+    ran_read::<DB, AsScalars<O>, E>(alloc, "l", Call::FetchOne, query)
 }
 
 #[test]
@@ -73,40 +120,33 @@ fn a_refused_try_is_forgotten(rt: HostRuntime) -> Result<(), Fail> {
     let alloc = rt.alloc();
     says(
         &rt,
-        tried(alloc),
+        tried::<Toy, ToyConnection>(alloc),
         "out of range integral type conversion attempted, SELECT kept|9: ToyQueryResult(2)",
     )?;
     says(
         &rt,
-        tried_behind_a_fault(alloc),
+        tried_behind_a_fault::<Toy>(alloc),
         "A previous call to Query::bind produced an error",
     )?;
-    says(&rt, of_scalar(alloc), FIRST_REFUSED)
+    let told = of_scalar::<Toy, ToyConnection, i64>(alloc);
+    says(&rt, told, FIRST_REFUSED)
 }
 
-fn given() -> Result<ToyArguments, Fault> {
-    Err(Fault::OutOfRange)
-}
-
-fn with(alloc: Global) -> Result<String, Error> {
-    let query = query_with_result::<Toy, _, _>(alloc, "INSERT", given())?;
-    ran(alloc, "t2", Call::Execute, query)
-}
-
-fn as_with(alloc: Global) -> Result<String, Error> {
-    let query = query_as_with_result::<Toy, (i64,), _, _>(alloc, "SELECT", given())?;
-    ran_read(alloc, "l", Call::FetchOne, query)
-}
-
-fn scalar_with(alloc: Global) -> Result<String, Error> {
-    let query = query_scalar_with_result::<Toy, i64, _, _>(alloc, "SELECT", given())?;
-    ran_read(alloc, "l", Call::FetchOne, query)
+fn with<DB: Database, E: Scripted<DB>>(alloc: Global) -> Result<String, OutOfMemory>
+where
+    DB::Arguments: IntoArguments<DB>,
+    DB::QueryResult: Debug,
+{
+    let given: Result<DB::Arguments, Fault> = Err(Fault::OutOfRange);
+    let query = query_with_result::<DB, _, _>(alloc, "INSERT", given)?;
+    ran::<DB, E>(alloc, "t2", Call::Execute, query)
 }
 
 #[test]
 fn tells_a_given_fault(rt: HostRuntime) -> Result<(), Fail> {
-    let alloc = rt.alloc();
-    says(&rt, with(alloc), OUT_OF_RANGE)?;
-    says(&rt, as_with(alloc), OUT_OF_RANGE)?;
-    says(&rt, scalar_with(alloc), OUT_OF_RANGE)
+    says(
+        &rt,
+        with::<Toy, ToyConnection>(rt.alloc()),
+        "nothing: error occurred while encoding a value: out of range integral type conversion attempted",
+    )
 }

@@ -1,25 +1,34 @@
 //! Queries whose rows are mapped.
 
-use crate::calls::ran_map;
+use crate::calls::{Scripted, ran_map};
 use crate::says::says;
 use sqlx_query::{Query, query};
 use sqlx_text::{Error, Fault, OutOfMemory};
 use sqlx_traits::*;
 use std::alloc::Global;
+use std::fmt::Debug;
 use std::test::*;
 use tests_database::steps::Call;
-use tests_database::{Toy, ToyArguments, ToyRow};
+use tests_database::{Toy, ToyConnection};
 
 // The number in a row's first column.
-fn number(alloc: Global, row: ToyRow) -> Result<i64, Error> {
+fn number<DB: Database>(alloc: Global, row: DB::Row) -> Result<i64, Error>
+where
+    i64: DecodeOwned<DB> + SqlType<DB>,
+    usize: ColumnIndex<DB::Row>,
+{
     let read = row.try_get::<i64, usize>(alloc, 0);
     drop(row);
     read
 }
 
 // The number in a row, and -1 where it has none.
-fn shown(alloc: Global, row: ToyRow) -> i64 {
-    match number(alloc, row) {
+fn shown<DB: Database>(alloc: Global, row: DB::Row) -> i64
+where
+    i64: DecodeOwned<DB> + SqlType<DB>,
+    usize: ColumnIndex<DB::Row>,
+{
+    match number::<DB>(alloc, row) {
         Ok(number) => number,
         Err(error) => {
             drop(error);
@@ -37,25 +46,47 @@ fn whole(number: i64) -> Result<i64, Error> {
     }
 }
 
-fn select(alloc: Global) -> Result<Query<'static, Toy, ToyArguments>, OutOfMemory> {
-    Ok(query::<Toy, _>(alloc, "SELECT")?.bind(alloc, 1i64))
+fn select<'t, DB: Database + 't>(alloc: Global) -> Result<Query<'t, DB, DB::Arguments>, OutOfMemory>
+where
+    i64: Encode<'t, DB> + SqlType<DB>,
+{
+    Ok(query::<DB, _>(alloc, "SELECT")?.bind(alloc, 1i64))
 }
 
-fn mapped(alloc: Global, call: Call, letters: &str) -> Result<String, Error> {
-    let map = select(alloc)?
+fn mapped<'t, DB: Database + HasStatementCache + 't, E: Scripted<DB>>(
+    alloc: Global,
+    call: Call,
+    letters: &str,
+) -> Result<String, OutOfMemory>
+where
+    DB::Arguments: IntoArguments<DB>,
+    DB::QueryResult: Debug,
+    i64: Encode<'t, DB> + SqlType<DB> + DecodeOwned<DB>,
+    usize: ColumnIndex<DB::Row>,
+{
+    let map = select::<DB>(alloc)?
         .persistent(false)
-        .map(move |row: ToyRow| shown(alloc, row));
-    ran_map(alloc, letters, call, map)
+        .map(move |row: DB::Row| shown::<DB>(alloc, row));
+    ran_map::<DB, _, E>(alloc, letters, call, map)
 }
 
-fn tried(alloc: Global, call: Call, letters: &str) -> Result<String, Error> {
-    let map = select(alloc)?.try_map(move |row: ToyRow| number(alloc, row));
-    ran_map(alloc, letters, call, map)
+fn tried<'t, DB: Database + 't, E: Scripted<DB>>(
+    alloc: Global,
+    call: Call,
+    letters: &str,
+) -> Result<String, OutOfMemory>
+where
+    DB::Arguments: IntoArguments<DB>,
+    DB::QueryResult: Debug,
+    i64: Encode<'t, DB> + SqlType<DB> + DecodeOwned<DB>,
+    usize: ColumnIndex<DB::Row>,
+{
+    let map = select::<DB>(alloc)?.try_map(move |row: DB::Row| number::<DB>(alloc, row));
+    ran_map::<DB, _, E>(alloc, letters, call, map)
 }
 
 #[test]
 fn maps_rows(rt: HostRuntime) -> Result<(), Fail> {
-    let alloc = rt.alloc();
     for (call, letters, want) in [
         (Call::Execute, "lt2", "SELECT|1: ToyQueryResult(2)"),
         (Call::Fetch, "lt2", "SELECT|1: 7|-1|"),
@@ -64,7 +95,8 @@ fn maps_rows(rt: HostRuntime) -> Result<(), Fail> {
         (Call::FetchOptional, "2", "SELECT|1: None"),
         (Call::FetchOne, "tl", "SELECT|1: -1"),
     ] {
-        says(&rt, mapped(alloc, call, letters), want)?;
+        let told = mapped::<Toy, ToyConnection>(rt.alloc(), call, letters);
+        says(&rt, told, want)?;
     }
     Ok(())
 }
@@ -74,42 +106,60 @@ fn a_refused_row_is_the_last(rt: HostRuntime) -> Result<(), Fail> {
     let alloc = rt.alloc();
     let mismatch =
         "error occurred while decoding column 0: mismatched types; Rust type `i64` (as SQL type `BIGINT`) is not compatible with SQL type `TEXT`";
+    let behind = format!(in alloc; "7|{mismatch}|")?;
     for (call, letters, given) in [
         (Call::FetchOne, "lt", "7"),
         (Call::FetchOptional, "lt", "Some(7)"),
         (Call::FetchAll, "ltl", mismatch),
         (Call::FetchOne, "t", mismatch),
+        (Call::Fetch, "ltl", behind.as_str()),
     ] {
         let want = format!(in alloc; "SELECT kept|1: {given}")?;
-        says(&rt, tried(alloc, call, letters), want.as_str())?;
+        let told = tried::<Toy, ToyConnection>(alloc, call, letters);
+        says(&rt, told, want.as_str())?;
     }
-    let want = format!(in alloc; "SELECT kept|1: 7|{mismatch}|")?;
-    says(&rt, tried(alloc, Call::Fetch, "ltl"), want.as_str())?;
     Ok(())
 }
 
-fn mapped_twice(alloc: Global) -> Result<String, Error> {
-    let map = select(alloc)?
+fn mapped_twice<'t, DB: Database + HasStatementCache + 't, E: Scripted<DB>>(
+    alloc: Global,
+) -> Result<String, OutOfMemory>
+where
+    DB::Arguments: IntoArguments<DB>,
+    DB::QueryResult: Debug,
+    i64: Encode<'t, DB> + SqlType<DB> + DecodeOwned<DB>,
+    usize: ColumnIndex<DB::Row>,
+{
+    let map = select::<DB>(alloc)?
         .persistent(false)
-        .map(move |row: ToyRow| shown(alloc, row))
+        .map(move |row: DB::Row| shown::<DB>(alloc, row))
         .map(|number: i64| number > 0);
-    ran_map(alloc, "lt", Call::FetchAll, map)
+    ran_map::<DB, _, E>(alloc, "lt", Call::FetchAll, map)
 }
 
-fn tried_behind(alloc: Global) -> Result<String, Error> {
-    let map = select(alloc)?
-        .map(move |row: ToyRow| shown(alloc, row))
+fn tried_behind<'t, DB: Database + 't, E: Scripted<DB>>(
+    alloc: Global,
+) -> Result<String, OutOfMemory>
+where
+    DB::Arguments: IntoArguments<DB>,
+    DB::QueryResult: Debug,
+    i64: Encode<'t, DB> + SqlType<DB> + DecodeOwned<DB>,
+    usize: ColumnIndex<DB::Row>,
+{
+    let map = select::<DB>(alloc)?
+        .map(move |row: DB::Row| shown::<DB>(alloc, row))
         .try_map(|number: i64| whole(number));
-    ran_map(alloc, "lt", Call::Fetch, map)
+    ran_map::<DB, _, E>(alloc, "lt", Call::Fetch, map)
 }
 
 #[test]
 fn maps_what_was_mapped(rt: HostRuntime) -> Result<(), Fail> {
     let alloc = rt.alloc();
-    says(&rt, mapped_twice(alloc), "SELECT|1: [true, false]")?;
+    let told = mapped_twice::<Toy, ToyConnection>(alloc);
+    says(&rt, told, "SELECT|1: [true, false]")?;
     says(
         &rt,
-        tried_behind(alloc),
+        tried_behind::<Toy, ToyConnection>(alloc),
         "SELECT kept|1: 7|error occurred while decoding: out of range integral type conversion attempted|",
     )
 }

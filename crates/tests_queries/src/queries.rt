@@ -1,27 +1,43 @@
 //! The seven running calls of a query and of a raw text, and what a query takes its arguments from.
 
-use crate::calls::{asked, numbers, of_raw, ran};
+use crate::calls::{Scripted, numbers, ran, ran_raw};
 use crate::says::says;
-use sqlx_query::{query, query_with, query_with_result, raw_sql};
-use sqlx_text::Error;
+use sqlx_query::{Query, query, query_with, query_with_result, raw_sql};
+use sqlx_text::{Fault, OutOfMemory};
+use sqlx_traits::*;
 use std::alloc::Global;
+use std::fmt::Debug;
 use std::test::*;
 use tests_database::steps::Call;
 use tests_database::{Toy, ToyConnection};
 
-// A query of two arguments.
-fn bound(alloc: Global, call: Call, letters: &str) -> Result<String, Error> {
-    let query = query::<Toy, _>(alloc, "SELECT")?
-        .bind(alloc, 1i64)
-        .bind(alloc, "x");
-    ran(alloc, letters, call, query)
+/// A query of two arguments that is run.
+pub fn bound<'t, DB: Database + HasStatementCache + 't, E: Scripted<DB>>(
+    alloc: Global,
+    call: Call,
+    letters: &str,
+) -> Result<String, OutOfMemory>
+where
+    DB::Arguments: IntoArguments<DB>,
+    DB::QueryResult: Debug,
+    i64: Encode<'t, DB> + SqlType<DB>,
+    &'t str: Encode<'t, DB> + SqlType<DB>,
+{
+    let query = query::<DB, _>(alloc, "SELECT")?;
+    let query = query.bind(alloc, 1i64).bind(alloc, "x");
+    ran::<DB, E>(alloc, letters, call, query)
 }
 
-fn raw(alloc: Global, call: Call, letters: &str) -> Result<String, Error> {
-    let raw = raw_sql(alloc, "DELETE; SELECT")?;
-    let mut conn = ToyConnection::new(alloc, letters)?;
-    let given = of_raw::<Toy, ToyConnection>(alloc, call, raw, &mut conn);
-    asked(alloc, conn, given)
+// Statements that are run as they stand.
+fn raw<DB: Database, E: Scripted<DB>>(
+    alloc: Global,
+    call: Call,
+    letters: &str,
+) -> Result<String, OutOfMemory>
+where
+    DB::QueryResult: Debug,
+{
+    ran_raw::<DB, E>(alloc, letters, call, raw_sql(alloc, "DELETE; SELECT")?)
 }
 
 #[test]
@@ -47,33 +63,83 @@ fn runs_queries_and_raw_texts(rt: HostRuntime) -> Result<(), Fail> {
         ),
     ] {
         let want = format!(in alloc; "SELECT kept|1|x: {given}")?;
-        says(&rt, bound(alloc, call, letters), want.as_str())?;
+        let told = bound::<Toy, ToyConnection>(alloc, call, letters);
+        says(&rt, told, want.as_str())?;
         let want = format!(in alloc; "DELETE; SELECT bare: {given}")?;
-        says(&rt, raw(alloc, call, letters), want.as_str())?;
+        let told = raw::<Toy, ToyConnection>(alloc, call, letters);
+        says(&rt, told, want.as_str())?;
     }
     Ok(())
 }
 
-fn with(alloc: Global) -> Result<String, Error> {
-    let query = query_with::<Toy, _, _>(alloc, "UPDATE", numbers(alloc, &[6, 7])?)?;
-    ran(alloc, "1", Call::Execute, query)
+// What a query takes its arguments from.
+#[derive(Clone, Copy)]
+enum From {
+    Arguments,
+    Answer,
+    Tried,
 }
 
-fn with_result(alloc: Global) -> Result<String, Error> {
-    let query = query_with_result::<Toy, _, _>(alloc, "UPDATE", numbers(alloc, &[8]))?;
-    ran(alloc, "1", Call::Execute, query)
+// A query that isn't kept, with an argument that is tried.
+fn unkept<'t, DB: Database + HasStatementCache + 't>(
+    alloc: Global,
+) -> Result<Query<'t, DB, DB::Arguments>, Fault>
+where
+    DB::Arguments: IntoArguments<DB>,
+    i64: Encode<'t, DB> + SqlType<DB>,
+{
+    let mut query = query::<DB, _>(alloc, "UPDATE")?.persistent(false);
+    match query.try_bind(alloc, 9i64) {
+        Ok(()) => Ok(query),
+        Err(fault) => {
+            drop(query);
+            Err(fault)
+        }
+    }
 }
 
-fn unkept(alloc: Global) -> Result<String, Error> {
-    let mut query = query::<Toy, _>(alloc, "UPDATE")?.persistent(false);
-    query.try_bind(alloc, 9i64)?;
-    ran(alloc, "1", Call::Execute, query)
+fn update<'t, DB: Database + HasStatementCache + 't>(
+    alloc: Global,
+    from: From,
+) -> Result<Query<'t, DB, DB::Arguments>, Fault>
+where
+    DB::Arguments: IntoArguments<DB>,
+    i64: Encode<'t, DB> + SqlType<DB>,
+{
+    match from {
+        From::Arguments => {
+            let arguments = numbers::<DB>(alloc, &[6, 7])?;
+            Ok(query_with::<DB, _, _>(alloc, "UPDATE", arguments)?)
+        }
+        From::Answer => {
+            let answer = numbers::<DB>(alloc, &[8]);
+            Ok(query_with_result::<DB, _, _>(alloc, "UPDATE", answer)?)
+        }
+        From::Tried => unkept::<DB>(alloc),
+    }
+}
+
+fn updated<'t, DB: Database + HasStatementCache + 't, E: Scripted<DB>>(
+    alloc: Global,
+    from: From,
+) -> Result<String, Fault>
+where
+    DB::Arguments: IntoArguments<DB>,
+    DB::QueryResult: Debug,
+    i64: Encode<'t, DB> + SqlType<DB>,
+{
+    let query = update::<DB>(alloc, from)?;
+    Ok(ran::<DB, E>(alloc, "1", Call::Execute, query)?)
 }
 
 #[test]
 fn queries_have_their_arguments(rt: HostRuntime) -> Result<(), Fail> {
-    let alloc = rt.alloc();
-    says(&rt, with(alloc), "UPDATE kept|6|7: ToyQueryResult(1)")?;
-    says(&rt, with_result(alloc), "UPDATE kept|8: ToyQueryResult(1)")?;
-    says(&rt, unkept(alloc), "UPDATE|9: ToyQueryResult(1)")
+    for (from, want) in [
+        (From::Arguments, "UPDATE kept|6|7: ToyQueryResult(1)"),
+        (From::Answer, "UPDATE kept|8: ToyQueryResult(1)"),
+        (From::Tried, "UPDATE|9: ToyQueryResult(1)"),
+    ] {
+        says(&rt, updated::<Toy, ToyConnection>(rt.alloc(), from), want)?;
+    }
+    Ok(())
 }

@@ -1,41 +1,60 @@
 //! Queries whose rows become values, and queries of the first column.
 
-use crate::calls::{asked, numbers, of_read, ran_read};
+use crate::calls::{Scripted, numbers, ran_read};
 use crate::rows::Note;
 use crate::says::says;
 use sqlx_query::*;
-use sqlx_text::Error;
+use sqlx_text::{Fault, OutOfMemory};
+use sqlx_traits::*;
 use std::alloc::Global;
+use std::fmt::Debug;
 use std::test::*;
-use tests_database::letters::row_of;
 use tests_database::steps::Call;
 use tests_database::{Toy, ToyConnection};
 
-fn tuples(alloc: Global, call: Call, letters: &str) -> Result<String, Error> {
-    let query = query_as::<Toy, (i64,), _>(alloc, "SELECT")?
-        .bind(alloc, 1i64)
-        .persistent(false);
-    ran_read(alloc, letters, call, query)
+/// A query of one argument, that isn't kept and whose rows become values.
+pub fn rows_as<
+    't,
+    DB: Database + HasStatementCache,
+    E: Scripted<DB>,
+    O: FromRow<DB> + Debug + Drop,
+>(alloc: Global, call: Call, letters: &str) -> Result<String, OutOfMemory>
+where
+    DB::Arguments: IntoArguments<DB>,
+    DB::QueryResult: Debug,
+    i64: Encode<'t, DB> + SqlType<DB>,
+{
+    let query = query_as::<DB, O, _>(alloc, "SELECT")?;
+    let query = query.bind(alloc, 1i64).persistent(false);
+    ran_read::<DB, AsRows<O>, E>(alloc, letters, call, query)
 }
 
-fn scalars(alloc: Global, call: Call, letters: &str) -> Result<String, Error> {
-    let query = query_scalar::<Toy, i64, _>(alloc, "SELECT")?
-        .bind(alloc, 1i64)
-        .persistent(false);
-    ran_read(alloc, letters, call, query)
+// The same of the first column.
+fn scalars<'t, DB: Database + HasStatementCache, E: Scripted<DB>, O: FromColumn<DB> + Debug>(
+    alloc: Global,
+    call: Call,
+    letters: &str,
+) -> Result<String, OutOfMemory>
+where
+    DB::Arguments: IntoArguments<DB>,
+    DB::QueryResult: Debug,
+    i64: Encode<'t, DB> + SqlType<DB>,
+{
+    let query = query_scalar::<DB, O, _>(alloc, "SELECT")?;
+    let query = query.bind(alloc, 1i64).persistent(false);
+    ran_read::<DB, AsScalars<O>, E>(alloc, letters, call, query)
 }
 
 const MISMATCH: &str =
     "error occurred while decoding column 0: mismatched types; Rust type `i64` (as SQL type `BIGINT`) is not compatible with SQL type `TEXT`";
 
 #[test]
-fn reads_rows_and_columns(rt: HostRuntime) -> Result<(), Fail> {
+fn reads_columns(rt: HostRuntime) -> Result<(), Fail> {
     let alloc = rt.alloc();
     let refused = format!(in alloc; "7|{MISMATCH}|7|")?;
-    let refused = refused.as_str();
     for (call, letters, given) in [
         (Call::Execute, "lt2", "ToyQueryResult(2)"),
-        (Call::Fetch, "ltl2", refused),
+        (Call::Fetch, "ltl2", refused.as_str()),
         (Call::FetchMany, "l2", "7|ToyQueryResult(2)|"),
         (Call::FetchAll, "ll", "[7, 7]"),
         (Call::FetchAll, "lt2", MISMATCH),
@@ -45,8 +64,15 @@ fn reads_rows_and_columns(rt: HostRuntime) -> Result<(), Fail> {
         (Call::FetchOne, "tl", MISMATCH),
     ] {
         let want = format!(in alloc; "SELECT|1: {given}")?;
-        says(&rt, scalars(alloc, call, letters), want.as_str())?;
+        let told = scalars::<Toy, ToyConnection, i64>(alloc, call, letters);
+        says(&rt, told, want.as_str())?;
     }
+    Ok(())
+}
+
+#[test]
+fn reads_rows(rt: HostRuntime) -> Result<(), Fail> {
+    let alloc = rt.alloc();
     for (call, letters, given) in [
         (Call::Fetch, "ll2", "(7,)|(7,)|"),
         (Call::FetchMany, "l2", "(7,)|ToyQueryResult(2)|"),
@@ -54,62 +80,97 @@ fn reads_rows_and_columns(rt: HostRuntime) -> Result<(), Fail> {
         (Call::FetchOne, "lt2", "(7,)"),
     ] {
         let want = format!(in alloc; "SELECT|1: {given}")?;
-        says(&rt, tuples(alloc, call, letters), want.as_str())?;
+        let told = rows_as::<Toy, ToyConnection, (i64,)>(alloc, call, letters);
+        says(&rt, told, want.as_str())?;
     }
     Ok(())
 }
 
-fn as_with(alloc: Global) -> Result<String, Error> {
-    let arguments = numbers(alloc, &[6])?;
-    let query = query_as_with::<Toy, (i64,), _, _>(alloc, "SELECT", arguments)?;
-    ran_read(alloc, "l", Call::FetchOne, query)
+#[test]
+fn reads_a_struct(rt: HostRuntime) -> Result<(), Fail> {
+    for (letters, want) in [
+        (" lt", "SELECT|1: Note { number: 7, title: \"x\" }"),
+        (
+            " l",
+            "SELECT|1: column index out of bounds: the len is 1, but the index is 1",
+        ),
+    ] {
+        let told = rows_as::<Toy, ToyConnection, Note>(rt.alloc(), Call::FetchOne, letters);
+        says(&rt, told, want)?;
+    }
+    Ok(())
 }
 
-fn as_with_result(alloc: Global) -> Result<String, Error> {
-    let arguments = numbers(alloc, &[7]);
-    let query = query_as_with_result::<Toy, (i64,), _, _>(alloc, "SELECT", arguments)?;
-    ran_read(alloc, "l", Call::FetchOne, query)
+/// What a query takes its arguments from: an argument list, an answer with one, or an answer with a fault.
+#[derive(Clone, Copy)]
+pub enum Source {
+    Arguments,
+    Answer,
+    Fault,
 }
 
-fn scalar_with(alloc: Global) -> Result<String, Error> {
-    let arguments = numbers(alloc, &[8])?;
-    let query = query_scalar_with::<Toy, i64, _, _>(alloc, "SELECT", arguments)?;
-    ran_read(alloc, "l", Call::FetchOne, query)
+// Such an answer.
+fn answer<'t, DB: Database>(alloc: Global, source: Source) -> Result<DB::Arguments, Fault>
+where
+    i64: Encode<'t, DB> + SqlType<DB>,
+{
+    match source {
+        Source::Arguments => numbers::<DB>(alloc, &[6]),
+        Source::Answer => numbers::<DB>(alloc, &[7]),
+        Source::Fault => Err(Fault::OutOfRange),
+    }
 }
 
-fn scalar_with_result(alloc: Global) -> Result<String, Error> {
-    let arguments = numbers(alloc, &[9]);
-    let query = query_scalar_with_result::<Toy, i64, _, _>(alloc, "SELECT", arguments)?;
-    ran_read(alloc, "l", Call::FetchOne, query)
+/// A row that becomes a value, by a query with such arguments.
+pub fn row_with<'t, DB: Database, E: Scripted<DB>, O: FromRow<DB> + Debug + Drop>(
+    alloc: Global,
+    source: Source,
+) -> Result<String, Fault>
+where
+    DB::Arguments: IntoArguments<DB>,
+    DB::QueryResult: Debug,
+    i64: Encode<'t, DB> + SqlType<DB>,
+{
+    let answer = answer::<DB>(alloc, source);
+    let query = match source {
+        Source::Arguments => query_as_with::<DB, O, _, _>(alloc, "SELECT", answer?)?,
+        _ => query_as_with_result::<DB, O, _, _>(alloc, "SELECT", answer)?,
+    };
+    Ok(ran_read::<DB, AsRows<O>, E>(alloc, "l", Call::FetchOne, query)?)
+}
+
+/// The first column of a row, by a query with such arguments.
+pub fn scalar_with<'t, DB: Database, E: Scripted<DB>, O: FromColumn<DB> + Debug>(
+    alloc: Global,
+    source: Source,
+) -> Result<String, Fault>
+where
+    DB::Arguments: IntoArguments<DB>,
+    DB::QueryResult: Debug,
+    i64: Encode<'t, DB> + SqlType<DB>,
+{
+    let answer = answer::<DB>(alloc, source);
+    let query = match source {
+        Source::Arguments => query_scalar_with::<DB, O, _, _>(alloc, "SELECT", answer?)?,
+        _ => query_scalar_with_result::<DB, O, _, _>(alloc, "SELECT", answer)?,
+    };
+    Ok(ran_read::<DB, AsScalars<O>, E>(alloc, "l", Call::FetchOne, query)?)
 }
 
 #[test]
 fn reads_with_arguments(rt: HostRuntime) -> Result<(), Fail> {
     let alloc = rt.alloc();
-    says(&rt, as_with(alloc), "SELECT kept|6: (7,)")?;
-    says(&rt, as_with_result(alloc), "SELECT kept|7: (7,)")?;
-    says(&rt, scalar_with(alloc), "SELECT kept|8: 7")?;
-    says(&rt, scalar_with_result(alloc), "SELECT kept|9: 7")
-}
-
-fn read_struct(alloc: Global, letters: &str) -> Result<String, Error> {
-    let query = query_as::<Toy, Note, _>(alloc, "SELECT")?;
-    let mut conn = ToyConnection::of_row(alloc, row_of(alloc, letters)?)?;
-    let given = of_read(alloc, Call::FetchOne, query, &mut conn);
-    asked(alloc, conn, given)
-}
-
-#[test]
-fn reads_a_struct(rt: HostRuntime) -> Result<(), Fail> {
-    let alloc = rt.alloc();
-    says(
-        &rt,
-        read_struct(alloc, "lt"),
-        "SELECT kept: Note { number: 7, title: \"x\" }",
-    )?;
-    says(
-        &rt,
-        read_struct(alloc, "l"),
-        "SELECT kept: column index out of bounds: the len is 1, but the index is 1",
-    )
+    let refused =
+        "nothing: error occurred while encoding a value: out of range integral type conversion attempted";
+    for (source, row, column) in [
+        (Source::Arguments, "SELECT kept|6: (7,)", "SELECT kept|6: 7"),
+        (Source::Answer, "SELECT kept|7: (7,)", "SELECT kept|7: 7"),
+        (Source::Fault, refused, refused),
+    ] {
+        let told = row_with::<Toy, ToyConnection, (i64,)>(alloc, source);
+        says(&rt, told, row)?;
+        let told = scalar_with::<Toy, ToyConnection, i64>(alloc, source);
+        says(&rt, told, column)?;
+    }
+    Ok(())
 }

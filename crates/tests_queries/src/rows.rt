@@ -1,9 +1,11 @@
 //! What a row becomes: a struct of a user's own, and tuples.
 
+use crate::says::says;
 use sqlx_query::{FromColumn, FromRow};
 use sqlx_text::{AnyTypeInfoKind, Error, OutOfMemory, UStr};
 use sqlx_traits::*;
 use std::alloc::Global;
+use std::fmt::Debug;
 use std::test::*;
 use tests_database::answers::shown;
 use tests_database::letters::row_of;
@@ -35,8 +37,11 @@ where
 }
 
 // What a row becomes.
-fn made<DB: Database, T: FromRow<DB>>(alloc: Global, row: &DB::Row) -> Result<T, Error> {
-    T::from_row(alloc, row)
+fn made<DB: Database, T: FromRow<DB> + Debug + Drop>(
+    alloc: Global,
+    row: &DB::Row,
+) -> Result<String, OutOfMemory> {
+    shown(alloc, T::from_row(alloc, row))
 }
 
 #[test]
@@ -54,43 +59,35 @@ fn makes_a_struct(rt: HostRuntime) -> Result<(), Fail> {
         ),
     ] {
         let row = row_of(alloc, letters)?;
-        let note = made::<Toy, Note>(alloc, &row);
-        assert_eq!(rt; shown(alloc, note)?.as_str(), want);
+        says(&rt, made::<Toy, Note>(alloc, &row), want)?;
     }
     Ok(())
 }
 
-// Puts the column and the value of a position: the number 101 at the first one, and so on; a text at one of them.
-fn put(
-    columns: &mut Vec<ToyColumn>,
-    values: &mut Vec<ToyValue>,
-    ordinal: u8,
-    text_at: u8,
-) -> Result<(), OutOfMemory> {
-    let (kind, held) = if ordinal == text_at {
+// A row with one column more, and its value: the number 101 at the first position, and so on, or a text.
+fn with(row: ToyRow, ordinal: u8, is_text: bool) -> Result<ToyRow, OutOfMemory> {
+    let (kind, held) = if is_text {
         (AnyTypeInfoKind::Text, Held::Text(UStr::from_static("x")))
     } else {
         let number = 101 + i64::from(ordinal);
         (AnyTypeInfoKind::BigInt, Held::Whole(number))
     };
-    columns.push(ToyColumn {
+    let column = ToyColumn {
         ordinal: usize::from(ordinal),
         name: UStr::from_static(""),
         type_info: ToyType::of(kind),
-    })?;
+    };
     let kind = Some(kind);
-    values.push(ToyValue { kind, held })?;
-    Ok(())
+    row.with(column, ToyValue { kind, held })
 }
 
-// A row of so many columns.
-fn numbers(alloc: Global, count: u8, text_at: u8) -> Result<ToyRow, Error> {
-    let mut columns = Vec::new(alloc);
-    let mut values = Vec::new(alloc);
+// A row of so many columns, with a text at one of them.
+fn numbers(alloc: Global, count: u8, text_at: u8) -> Result<ToyRow, OutOfMemory> {
+    let mut row = ToyRow::new(alloc);
     for ordinal in 0..count {
-        put(&mut columns, &mut values, ordinal, text_at)?;
+        row = with(row, ordinal, ordinal == text_at)?;
     }
-    ToyRow::new(columns, values)
+    Ok(row)
 }
 
 type EightNumbers = (i64, i64, i64, i64, i64, i64, i64, i64);
@@ -115,61 +112,74 @@ type SixteenNumbers = (
 );
 
 // Sixteen numbers, each from the column at its position.
-fn sixteen(alloc: Global, row: &ToyRow) -> Result<[i64; 16], Error> {
-    let all = made::<Toy, SixteenNumbers>(alloc, row)?;
+fn sixteen<DB: Database>(alloc: Global, row: &DB::Row) -> Result<[i64; 16], Error>
+where
+    i64: FromColumn<DB>,
+{
+    let all = <SixteenNumbers as FromRow<DB>>::from_row(alloc, row)?;
     Ok([
         all.0, all.1, all.2, all.3, all.4, all.5, all.6, all.7, all.8, all.9, all.10, all.11,
         all.12, all.13, all.14, all.15,
     ])
 }
 
-fn eight(alloc: Global, row: &ToyRow) -> Result<[i64; 8], Error> {
-    let all = made::<Toy, EightNumbers>(alloc, row)?;
+fn eight<DB: Database>(alloc: Global, row: &DB::Row) -> Result<[i64; 8], Error>
+where
+    i64: FromColumn<DB>,
+{
+    let all = <EightNumbers as FromRow<DB>>::from_row(alloc, row)?;
     Ok([all.0, all.1, all.2, all.3, all.4, all.5, all.6, all.7])
+}
+
+// What a row becomes as a tuple of so many numbers, of one where they are neither sixteen, eight nor none.
+fn numbers_of<DB: Database>(alloc: Global, row: &DB::Row, count: u8) -> Result<String, OutOfMemory>
+where
+    i64: FromColumn<DB>,
+{
+    match count {
+        16 => shown(alloc, sixteen::<DB>(alloc, row)),
+        8 => shown(alloc, eight::<DB>(alloc, row)),
+        0 => made::<DB, ()>(alloc, row),
+        _ => made::<DB, (i64,)>(alloc, row),
+    }
 }
 
 #[test]
 fn tuples_read_each_column_in_turn(rt: HostRuntime) -> Result<(), Fail> {
     let alloc = rt.alloc();
-    let row = numbers(alloc, 16, 16)?;
-    assert_eq!(rt;
-        shown(alloc, sixteen(alloc, &row))?.as_str(),
-        "[101, 102, 103, 104, 105, 106, 107, 108, 109, 110, 111, 112, 113, 114, 115, 116]"
-    );
-    assert_eq!(rt;
-        shown(alloc, eight(alloc, &row))?.as_str(),
-        "[101, 102, 103, 104, 105, 106, 107, 108]"
-    );
-    assert_eq!(rt;
-        shown(alloc, made::<Toy, (i64,)>(alloc, &row))?.as_str(),
-        "(101,)"
-    );
-    assert_eq!(rt; shown(alloc, made::<Toy, ()>(alloc, &row))?.as_str(), "()");
-    Ok(())
-}
-
-#[test]
-fn tuples_tell_the_first_refused_column(rt: HostRuntime) -> Result<(), Fail> {
-    let alloc = rt.alloc();
-    for (count, text_at, want) in [
+    for (columns, text_at, count, want) in [
+        (
+            16,
+            16,
+            16,
+            "[101, 102, 103, 104, 105, 106, 107, 108, 109, 110, 111, 112, 113, 114, 115, 116]",
+        ),
+        (16, 16, 8, "[101, 102, 103, 104, 105, 106, 107, 108]"),
+        (16, 16, 1, "(101,)"),
+        (16, 16, 0, "()"),
         (
             16,
             1,
+            16,
             "error occurred while decoding column 1: mismatched types; Rust type `i64` (as SQL type `BIGINT`) is not compatible with SQL type `TEXT`",
         ),
         (
             9,
             8,
+            16,
             "error occurred while decoding column 8: mismatched types; Rust type `i64` (as SQL type `BIGINT`) is not compatible with SQL type `TEXT`",
         ),
         (
             15,
             16,
+            16,
             "column index out of bounds: the len is 15, but the index is 15",
         ),
     ] {
-        let row = numbers(alloc, count, text_at)?;
-        assert_eq!(rt; shown(alloc, sixteen(alloc, &row))?.as_str(), want);
+        let row = numbers(alloc, columns, text_at)?;
+        let told = numbers_of::<Toy>(alloc, &row, count);
+        drop(row);
+        says(&rt, told, want)?;
     }
     Ok(())
 }

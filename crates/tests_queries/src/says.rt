@@ -1,17 +1,15 @@
 //! What stops a test.
 
-use sqlx_text::Error;
-use std::alloc::Global;
+use std::fmt::Debug;
 use std::process::Abort;
 use std::test::*;
-use tests_database::answers::told;
 
-/// Stops the test where another text was told, or is the error's.
-pub fn says<R: Alloc<A = Global> + Abort>(
+/// Stops the test where another text was told, or none could be.
+pub fn says<R: Abort, F: Debug + Drop>(
     rt: &R,
-    answer: Result<String, Error>,
+    told: Result<String, F>,
     want: &str,
 ) -> Result<(), Fail> {
-    assert_eq!(rt; told(rt.alloc(), answer)?.as_str(), want);
+    assert_eq!(rt; told?.as_str(), want);
     Ok(())
 }
