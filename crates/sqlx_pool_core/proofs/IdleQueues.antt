@@ -1,5 +1,5 @@
 -- Idle connections in turn, and bounds of their moments.
-use Rattle.std.proofs.Common.{◌≡◌, ℕ, suc, ◌+◌, ◌-◌, ◌<◌, ◌≤◌, List, [], ◌∷◌, ◌++◌, length, map, refl, ap, sym, ◌∙◌, arith, find, get_or, Bool, true, false, not, cond, ltb, Option, Some, None, ◌||◌, ◌&&◌, min}
+use Rattle.std.proofs.Common.{◌≡◌, ℕ, suc, ◌-◌, ◌≤◌, List, [], ◌∷◌, ◌++◌, length, map, refl, ap, ◌∙◌, arith, find, get_or, Bool, true, false, cond, Option, Some, None, ◌||◌, min}
 use Rattle.std.specs.Prelude.{option_to_list}
 use Rattle.std.specs.List.{AllByRecursion}
 use Rattle.sqlx_log.specs.EventTable.{is_beyond}

@@ -23,6 +23,7 @@ pub mod AskSoundness
 pub mod GiveCode
 pub mod AskCode
 mod IdleQueues
+mod HeldLists
 pub mod MaintenanceCode
 pub mod BalanceLemmas
 pub mod Drawn

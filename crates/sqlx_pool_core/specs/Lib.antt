@@ -14,6 +14,7 @@ pub mod Outside
 pub mod Edits
 pub mod Tickets
 pub mod IdleList
+pub mod HeldList
 pub mod Place
 pub mod PollSteps
 pub mod ReturnSteps

@@ -5,9 +5,9 @@
 //! by a list of [`Mark`]s, and every rule of the pool is a definition over such a list (`specs/`).
 #![tactic(auto)]
 
+mod held_list;
 pub mod idle_check;
 mod idle_list;
-mod lists;
 pub mod member;
 mod options;
 mod outside;

@@ -18,11 +18,11 @@ mod maintenance;
 mod poll;
 pub mod shared;
 
+use crate::held_list::HeldList;
 use crate::idle_list::IdleList;
-use crate::lists;
 use crate::options::PoolOptions;
 use crate::steps::{CloseState, Numbers};
-use crate::ticket::{OwnedConn, Phase, Ticket};
+use crate::ticket::{Phase, Ticket};
 use crate::tickets::Tickets;
 use sqlx_text::{Moment, OutOfMemory};
 use std::alloc::Global;
@@ -36,7 +36,7 @@ const NUMBERS: u64 = 1 << 63;
 pub struct Member<C> {
     options: PoolOptions,
     tickets: Tickets,
-    held: Vec<OwnedConn>,
+    held: HeldList,
     idle: IdleList<C>,
     leaked: u32,
     // A close came to this pool.
@@ -51,7 +51,7 @@ pub struct Member<C> {
 }
 
 impl<C> Model for Member<C> {
-    ghost use Rattle.std.specs.Prelude.{◌≤◌, vec_capacity};
+    ghost use Rattle.std.specs.Prelude.{◌≤◌};
     ghost use Rattle.sqlx_pool_core.specs.Core.{Core, core_of};
     ghost use Rattle.sqlx_pool_core.specs.Sound.{IsSound, HasRoom};
 
@@ -60,7 +60,7 @@ impl<C> Model for Member<C> {
     ghost view = { λ s. core_of s.options s.tickets s.held.items s.idle.items s.leaked s.shut s.closed s.places s.permits s.next_ticket s.next_conn s.last.0 };
 
     ghost invariant = { λ s. IsSound (core_of s.options s.tickets s.held.items s.idle.items s.leaked s.shut s.closed s.places s.permits s.next_ticket s.next_conn s.last.0)
-        × HasRoom s.options.max_connections s.shut (vec_capacity s.held) s.idle.room };
+        × HasRoom s.options.max_connections s.shut s.held.room s.idle.room };
 }
 
 impl<C> Member<C> {
@@ -81,11 +81,9 @@ impl<C> Member<C> {
         ensures last { IfOk result (λ core. core.last ≡ 0) }
         ensures gone { IfOk result (λ core. gone core.tickets ≡ 0) }
     {
-        let max = options.get_max_connections() as usize;
-        let Ok(held) = Vec::with_capacity(alloc, max) else {
-            return Err(OutOfMemory);
-        };
-        let idle = IdleList::with_capacity(alloc, max)?;
+        let max = options.get_max_connections();
+        let held = HeldList::with_capacity(alloc, max)?;
+        let idle = IdleList::with_capacity(alloc, max as usize)?;
         Ok(Member {
             options,
             tickets: Tickets::new(alloc),
@@ -168,7 +166,7 @@ impl<C> Member<C> {
     pub fn owns(&self, client: u32, id: u64) -> bool
         ensures { result ≡ is_some (loan_of client id self.now.held) }
     {
-        lists::loan_for(&self.held, client, id).is_some()
+        self.held.loan_for(client, id).is_some()
     }
 
     /// How many connections have an owner.

@@ -16,7 +16,6 @@ ghost use Rattle.sqlx_pool_core.specs.Edits.{at_moment, core_without_loan, kept}
 
 use super::Member;
 use crate::idle_list::beyond;
-use crate::lists;
 use crate::steps::{Given, Lent};
 use crate::ticket::OwnedConn;
 use sqlx_text::Moment;
@@ -44,7 +43,7 @@ impl<C> Member<C> {
         ensures conn { IfSome result (λ h. h.conn ≡ conn) }
         ensures sound { IsSound self.now }
     {
-        lists::loan_for(&self.held, client, conn)
+        self.held.loan_for(client, conn)
     }
 
     // Puts an owned connection last among the idle.
@@ -58,7 +57,7 @@ impl<C> Member<C> {
             created: loan.created,
             raw,
         };
-        lists::end_loan(&mut self.held, loan.conn);
+        self.held.end_loan(loan.conn);
         self.idle.push(lent, moment);
         self.last = moment;
     }
@@ -67,14 +66,14 @@ impl<C> Member<C> {
     fn unlend(&mut self, conn: u64)
         ensures { self.new ≡ core_without_loan conn self.old }
     {
-        lists::end_loan(&mut self.held, conn);
+        self.held.end_loan(conn);
     }
 
     // Ends a loan at a moment.
     fn unlend_at(&mut self, conn: u64, moment: Moment)
         ensures { self.new ≡ at_moment moment.0 (core_without_loan conn self.old) }
     {
-        lists::end_loan(&mut self.held, conn);
+        self.held.end_loan(conn);
         self.last = moment;
     }
 
@@ -150,7 +149,7 @@ impl<C> Member<C> {
         requires { is_some (loan_of client conn self.old.held) ≡ true }
         ensures { self.new ≡ leaked conn true self.old }
     {
-        lists::end_loan(&mut self.held, conn);
+        self.held.end_loan(conn);
         self.leaked += 1;
     }
 

@@ -1,5 +1,4 @@
-use Rattle.std.proofs.Common.{rules, ◌∙◌, sym, ap, ◌||◌, true, false}
-use Rattle.sqlx_log.specs.EventTable.{is_beyond}
+use Rattle.std.proofs.Common.{rules}
 use Rattle.sqlx_pool_core.proofs.IdleQueues.{none-beyond}
 use Rattle.sqlx_pool_core.proofs.idle_list.IdleList.may_be_reaped.Goals as goal
 

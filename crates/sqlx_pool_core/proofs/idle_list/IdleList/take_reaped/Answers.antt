@@ -1,7 +1,7 @@
-use Rattle.std.proofs.Common.{rules, tests, ◌∙◌, sym, ap, arith}
+use Rattle.std.proofs.Common.{rules, tests, ◌∙◌, sym, arith}
 use Rattle.std.proofs.lemmas.Iterator.Consumers.{YieldsList-from_deque}
 use Rattle.std.proofs.lemmas.Iterator.Search.{position_from_yields_List}
-use Rattle.sqlx_pool_core.specs.MaintenanceSteps.{is_reaped_at, without_first}
+use Rattle.sqlx_pool_core.specs.MaintenanceSteps.{is_reaped_at}
 use Rattle.sqlx_pool_core.proofs.IdleQueues.{all-left, bounded-without}
 use Rattle.sqlx_pool_core.proofs.MaintenanceCode.{none-taken, first-taken}
 use Rattle.sqlx_pool_core.proofs.idle_list.IdleList.take_reaped.Goals as goal
