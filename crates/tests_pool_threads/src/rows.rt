@@ -35,8 +35,8 @@ fn line(alloc: Global, mark: &Mark) -> Result<String, AllocError> {
     }
 }
 
-// The log, a line for each mark.
-fn lines<C: Depth + Drop, O: Drop, H: Ledger, L: Loans, R: Wait>(
+/// The log, a line for each mark.
+pub fn lines<C: Depth + Drop, O: Drop, H: Ledger, L: Loans, R: Wait>(
     rt: &R,
     alloc: Global,
     pool: &PoolOf<C, O, H, L>,
