@@ -40,9 +40,10 @@ impl<R: Wait> Faults for SharedMemConnection<R> {
 }
 
 impl<R: Wait + Drop> AnyConnectionBackend for SharedMemConnection<R> {
-    ghost use Rattle.std.specs.Prelude.{⊤, true, codes, length};
+    ghost use Rattle.std.specs.Prelude.{true, codes, length};
     ghost use Rattle.mem_driver.specs.Prepared.{Prepares};
     ghost use Rattle.mem_driver.specs.Session.{depth};
+    ghost use Rattle.shared_mem_driver.specs.Shared.{Does, Runs};
 
     ghost called = { λ _. codes "SharedMem" };
 
@@ -52,7 +53,9 @@ impl<R: Wait + Drop> AnyConnectionBackend for SharedMemConnection<R> {
 
     ghost cached = { λ conn. length conn.session.cache.entries };
 
-    ghost runs = { λ _ _ _ _ _ _. ⊤ };
+    ghost runs = { λ conn text kept arguments list after. Runs conn.session text kept arguments list after.session };
+
+    ghost does = { λ call conn outcome after. Does call conn.session outcome after.session };
 
     ghost prepares = { λ conn sql types result after. Prepares conn.session sql types result after.session };
 

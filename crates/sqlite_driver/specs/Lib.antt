@@ -1,1 +1,4 @@
+pub mod Refusals
 pub mod Opened
+pub mod Ran
+pub mod Does

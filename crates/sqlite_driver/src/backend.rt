@@ -1,5 +1,5 @@
 //! A connection as a backend of `Any`.
-ghost use Rattle.std.specs.Prelude.{◌≡◌, ℕ, Ok, Option};
+ghost use Rattle.std.specs.Prelude.{◌≡◌, ℕ, None, Ok, Option};
 ghost use Rattle.sqlx_traits.specs.StepList.{StepCauses};
 ghost use Rattle.sqlx_any.specs.declared.arguments.AnyArguments.{AnyArguments as Given};
 
@@ -27,7 +27,8 @@ impl Faults for SqliteConnection {
 }
 
 impl AnyConnectionBackend for SqliteConnection {
-    ghost use Rattle.std.specs.Prelude.{⊤, false, codes};
+    ghost use Rattle.std.specs.Prelude.{⊤, [], false, codes};
+    ghost use Rattle.sqlite_driver.specs.Does.{Closes, Does};
 
     ghost called = { λ _. codes "SQLite" };
 
@@ -37,7 +38,11 @@ impl AnyConnectionBackend for SqliteConnection {
 
     ghost runs = { λ _ _ _ _ _ _. ⊤ };
 
-    ghost prepares = { λ _ _ _ _ _. ⊤ };
+    ghost does = { Does };
+
+    ghost ends = { Closes };
+
+    ghost prepares = { λ conn sql _ result after. (result ≡ Ok (record { sql = sql; parameters = None; names = []; columns = [] })) × (after ≡ conn) };
 
     fn name(&self) -> &str {
         "SQLite"

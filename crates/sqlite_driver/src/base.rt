@@ -1,4 +1,6 @@
 //! The database under a connection, in memory or in a file.
+ghost use Rattle.std.specs.Prelude.{◌≡◌, OnOk, not};
+ghost use Rattle.sqlite_driver.specs.Ran.{RanOn, RolledBackTo, in_transaction};
 
 use crate::refusal::{Refusal, refused};
 use crate::statements::{self, Items};
@@ -28,7 +30,9 @@ impl Base {
     }
 
     /// Runs a text of a level.
-    pub(crate) fn perform(&mut self, alloc: Global, text: &str) -> Result<(), Refusal> {
+    pub(crate) fn perform(&mut self, alloc: Global, text: &str) -> Result<(), Refusal>
+        ensures { OnOk result (RanOn text.now self.old self.new) }
+    {
         match self {
             Base::Memory(conn) => statements::perform(conn, alloc, text),
             Base::File(conn) => statements::perform(conn, alloc, text),
@@ -36,7 +40,9 @@ impl Base {
     }
 
     /// Rolls back to this depth.
-    pub(crate) fn roll_back_to(&mut self, alloc: Global, depth: usize) -> Result<(), Refusal> {
+    pub(crate) fn roll_back_to(&mut self, alloc: Global, depth: usize) -> Result<(), Refusal>
+        ensures { OnOk result (RolledBackTo depth self.old self.new) }
+    {
         match self {
             Base::Memory(conn) => statements::roll_back_to(conn, alloc, depth),
             Base::File(conn) => statements::roll_back_to(conn, alloc, depth),
@@ -44,7 +50,9 @@ impl Base {
     }
 
     /// Whether no transaction is open.
-    pub(crate) fn is_autocommit(&self) -> bool {
+    pub(crate) fn is_autocommit(&self) -> bool
+        ensures { result ≡ not (in_transaction self.now) }
+    {
         match self {
             Base::Memory(conn) => conn.is_autocommit(),
             Base::File(conn) => conn.is_autocommit(),

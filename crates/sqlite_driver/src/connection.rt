@@ -1,7 +1,10 @@
 //! A connection to a database, and its levels.
-ghost use Rattle.std.specs.Prelude.{◌≡◌, ◌≢◌, ◌≤◌, ◌<◌, ◌+◌, ◌-◌, Err, IfErr, OnErr, OnOk};
+ghost use Rattle.std.specs.Prelude.{◌≡◌, ◌≢◌, ◌≤◌, ◌<◌, ◌+◌, ◌-◌, ℕ, Bool, Err, IfErr, IfOk, IsOkAnd, List, OnErr, OnOk};
 ghost use Rattle.sqlx_text.specs.declared.error.Error.{Error};
 ghost use Rattle.sqlx_traits.specs.Faults.{BeginCause, FaultCause, HasRisen};
+ghost use Rattle.sqlite_driver.specs.Refusals.{IsRefusal};
+ghost use Rattle.sqlite_driver.specs.Ran.{RanOn, in_transaction};
+ghost use Rattle.sqlite_driver.specs.Does.{Begins, BeginsBy, Ends, IsNoted, Pings, RunsText, given_up};
 
 use crate::base::Base;
 use crate::refusal::Refusal;
@@ -38,8 +41,9 @@ impl SqliteConnection {
 
     /// Counts a refusal, and tells it.
     pub(crate) fn refuse(&mut self, refusal: Refusal) -> Error
-        ensures depth { self.new.depth ≡ self.old.depth }
+        ensures rest { self.new ≡ record self.old { faults = self.new.faults } }
         ensures rises { self.old.faults ≤ self.new.faults }
+        ensures told { IsRefusal result }
         ensures cause { FaultCause self.old.faults self.new.faults result }
         ensures inside { result ≢ Error.InvalidSavePointStatement }
         ensures failed { result ≢ Error.BeginFailed }
@@ -49,7 +53,7 @@ impl SqliteConnection {
     }
 
     fn count_fault(&mut self)
-        ensures depth { self.new.depth ≡ self.old.depth }
+        ensures rest { self.new ≡ record self.old { faults = self.new.faults } }
         ensures risen { HasRisen self.old.faults self.new.faults }
         ensures rises { self.old.faults ≤ self.new.faults }
     {
@@ -59,6 +63,7 @@ impl SqliteConnection {
     /// Rolls back the levels that ended without a text.
     pub(crate) fn settle(&mut self) -> Result<(), Error>
         ensures depth { self.new.depth ≡ self.old.depth }
+        ensures pings { Pings self.old result self.new }
         ensures rises { self.old.faults ≤ self.new.faults }
         ensures cause { IfErr result (FaultCause self.old.faults self.new.faults) }
         ensures inside { result ≢ Err Error.InvalidSavePointStatement }
@@ -84,6 +89,7 @@ impl SqliteConnection {
         arguments: &Option<AnyArguments>,
     ) -> Result<Items, Error>
         ensures depth { self.new.depth ≡ self.old.depth }
+        ensures told { IfErr result IsRefusal }
         ensures rises { self.old.faults ≤ self.new.faults }
         ensures cause { IfErr result (FaultCause self.old.faults self.new.faults) }
     {
@@ -98,7 +104,9 @@ impl SqliteConnection {
 
     /// Runs a text of a level, likewise.
     fn perform(&mut self, text: Result<SqlStr, OutOfMemory>) -> Result<(), Error>
+        ensures ran { OnOk result (IsOkAnd text (λ text. RunsText text self.old self.new)) }
         ensures depth { self.new.depth ≡ self.old.depth }
+        ensures told { IfErr result IsRefusal }
         ensures rises { self.old.faults ≤ self.new.faults }
         ensures cause { IfErr result (FaultCause self.old.faults self.new.faults) }
         ensures inside { result ≢ Err Error.InvalidSavePointStatement }
@@ -114,7 +122,10 @@ impl SqliteConnection {
     }
 
     fn hand_on(&mut self, text: SqlStr) -> Result<(), Error>
+        ensures ran { OnOk result (RanOn text self.old.base self.new.base) }
+        ensures noted { self.new.goes_back_to ≡ self.old.goes_back_to }
         ensures depth { self.new.depth ≡ self.old.depth }
+        ensures told { IfErr result IsRefusal }
         ensures rises { self.old.faults ≤ self.new.faults }
         ensures cause { IfErr result (FaultCause self.old.faults self.new.faults) }
         ensures inside { result ≢ Err Error.InvalidSavePointStatement }
@@ -130,6 +141,7 @@ impl SqliteConnection {
 
     /// Begins a level by its text.
     pub(crate) fn begin_level(&mut self, text: Result<SqlStr, OutOfMemory>) -> Result<(), Error>
+        ensures begins { (due : List ℕ) → IfOk text (λ text. text ≡ due) → Begins due self.old result self.new }
         ensures ok { OnOk result (self.new.depth ≡ self.old.depth + 1) }
         ensures err { OnErr result (self.new.depth ≡ self.old.depth) }
         ensures rises { self.old.faults ≤ self.new.faults }
@@ -152,6 +164,7 @@ impl SqliteConnection {
     /// Begins a level by a text of the caller's own, outside of any.
     pub(crate) fn begin_by(&mut self, text: SqlStr) -> Result<(), Error>
         requires { self.old.depth ≡ 0 }
+        ensures begins { BeginsBy text self.old result self.new }
         ensures ok { OnOk result (self.new.depth ≡ 1) }
         ensures err { OnErr result (self.new.depth ≡ 0) }
         ensures rises { self.old.faults ≤ self.new.faults }
@@ -167,6 +180,9 @@ impl SqliteConnection {
     /// Whether what ran has begun a transaction.
     fn begun(&mut self) -> Result<(), Error>
         requires { self.old.depth ≡ 0 }
+        ensures begun { OnOk result (in_transaction self.new.base ≡ Bool.true) }
+        ensures told { IfErr result (λ e. e ≡ Error.BeginFailed) }
+        ensures rest { (self.new.base ≡ self.old.base) × (self.new.goes_back_to ≡ self.old.goes_back_to) }
         ensures ok { OnOk result (self.new.depth ≡ 1) }
         ensures err { OnErr result (self.new.depth ≡ 0) }
         ensures rises { self.old.faults ≤ self.new.faults }
@@ -185,6 +201,7 @@ impl SqliteConnection {
     /// Ends the innermost level by its text, and without one where that is refused.
     pub(crate) fn end_level(&mut self, text: Result<SqlStr, OutOfMemory>) -> Result<(), Error>
         requires { 0 < self.old.depth }
+        ensures ends { (due : List ℕ) → IfOk text (λ text. text ≡ due) → Ends due self.old result self.new }
         ensures levels { self.new.depth ≡ self.old.depth - 1 }
         ensures rises { self.old.faults ≤ self.new.faults }
         ensures cause { IfErr result (FaultCause self.old.faults self.new.faults) }
@@ -204,6 +221,8 @@ impl SqliteConnection {
     /// Ends the innermost level, which is rolled back before the next statement or ping.
     pub(crate) fn give_up(&mut self)
         requires { 0 < self.old.depth }
+        ensures new { self.new ≡ given_up self.old }
+        ensures noted { IsNoted self.new.depth self.new.goes_back_to }
         ensures levels { self.new.depth ≡ self.old.depth - 1 }
         ensures faults { self.new.faults ≡ self.old.faults }
     {
@@ -216,7 +235,9 @@ impl SqliteConnection {
     }
 
     /// Closes the database. What isn't committed is rolled back.
-    pub(crate) fn end(self) -> Result<(), Error> {
+    pub(crate) fn end(self) -> Result<(), Error>
+        ensures { IfErr result IsRefusal }
+    {
         let SqliteConnection { base, alloc, .. } = self;
         match base.close(alloc) {
             Ok(()) => Ok(()),

@@ -1,5 +1,7 @@
 //! Files that are opened by a URL.
-ghost use Rattle.std.specs.Prelude.{◌≡◌, IfOk};
+ghost use Rattle.std.specs.Prelude.{◌≡◌, ◌≤◌, IfErr, IfOk};
+ghost use Rattle.sqlx_traits.specs.Faults.{ConnectCause};
+ghost use Rattle.sqlite_driver.specs.Opened.{OpensFile};
 
 use crate::Sqlite;
 use crate::base::Base;
@@ -38,7 +40,12 @@ impl Connector<Sqlite> for SqliteFiles {
         &mut self,
         alloc: Global,
         options: &AnyConnectOptions,
-    ) -> Result<AnyConnection<SqliteConnection>, Error> {
+    ) -> Result<AnyConnection<SqliteConnection>, Error>
+        ensures depth { IfOk result (λ conn. conn.backend.depth ≡ 0) }
+        ensures rises { self.old.faults ≤ self.new.faults }
+        ensures cause { IfErr result (ConnectCause self.old.faults self.new.faults) }
+        ensures opened { OpensFile options.now result }
+    {
         match opened(alloc, &self.rt, options) {
             Ok(conn) => Ok(AnyConnection::new(conn)),
             Err(error) => {
@@ -54,7 +61,8 @@ fn opened(
     rt: &HostRuntime,
     options: &AnyConnectOptions,
 ) -> Result<SqliteConnection, Error>
-    ensures { IfOk result (λ conn. conn.depth ≡ 0) }
+    ensures depth { IfOk result (λ conn. conn.depth ≡ 0) }
+    ensures opened { OpensFile options.now result }
 {
     expect_scheme(alloc, &options.database_url, "sqlite")?;
     let path = options.database_url.path();

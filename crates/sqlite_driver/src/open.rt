@@ -1,5 +1,6 @@
 //! A database in memory, opened by a URL.
-ghost use Rattle.std.specs.Prelude.{◌≡◌, IfOk};
+ghost use Rattle.std.specs.Prelude.{◌≡◌, IfErr, IfOk};
+ghost use Rattle.sqlite_driver.specs.Refusals.{IsRefusal};
 
 use crate::base::Base;
 use crate::connection::SqliteConnection;
@@ -26,7 +27,8 @@ impl AnyOpen for SqliteConnection {
 }
 
 pub(crate) fn in_memory(alloc: Global) -> Result<SqliteConnection, Error>
-    ensures { IfOk result (λ conn. conn.depth ≡ 0) }
+    ensures depth { IfOk result (λ conn. conn.depth ≡ 0) }
+    ensures told { IfErr result IsRefusal }
 {
     match Connection::open_in_memory(alloc) {
         Ok(conn) => with_table(alloc, Base::Memory(conn)),
@@ -35,7 +37,8 @@ pub(crate) fn in_memory(alloc: Global) -> Result<SqliteConnection, Error>
 }
 
 fn with_table(alloc: Global, base: Base) -> Result<SqliteConnection, Error>
-    ensures { IfOk result (λ conn. conn.depth ≡ 0) }
+    ensures depth { IfOk result (λ conn. conn.depth ≡ 0) }
+    ensures told { IfErr result IsRefusal }
 {
     let mut base = base;
     match base.perform(

@@ -1,6 +1,7 @@
 //! Why a statement is refused, and the error by which that is told.
 ghost use Rattle.std.specs.Prelude.{◌≢◌, ℕ};
 ghost use Rattle.sqlx_traits.specs.Faults.{FaultCause, HasRisen};
+ghost use Rattle.sqlite_driver.specs.Refusals.{IsRefusal};
 
 use sqlite::{Constraint, ErrorCode};
 use sqlx_text::{DatabaseFault, Error, ErrorKind, Fault, OutOfMemory, UStr};
@@ -19,6 +20,7 @@ pub(crate) enum Refusal {
 impl Refusal {
     /// The error by which it is told.
     pub(crate) fn error(self) -> Error
+        ensures told { IsRefusal result }
         ensures cause { (before now : ℕ) → HasRisen before now → FaultCause before now result }
         ensures inside { result ≢ Error.InvalidSavePointStatement }
         ensures failed { result ≢ Error.BeginFailed }

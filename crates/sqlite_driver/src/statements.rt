@@ -1,4 +1,10 @@
 //! Statements on the database's own connection.
+ghost use Rattle.std.specs.Prelude.{◌≡◌, ◌⊎◌, ◌+◌, Bool, IfOk, Ok, OnOk};
+ghost use Rattle.sqlite.specs.State.{Executes, HasCleanDisk};
+ghost use Rattle.sqlite.specs.Held.{state};
+ghost use Rattle.sqlite.specs.Values.{bound};
+ghost use Rattle.sqlx_savepoints.specs.Texts.{rollback_at, text_of};
+ghost use Rattle.sqlite_driver.specs.Ran.{Ran};
 
 use crate::refusal::{Refusal, refused};
 use crate::values::{lent_all, row};
@@ -18,7 +24,9 @@ fn changed<S: Alter>(
     alloc: Global,
     text: &str,
     values: &[ValueRef<'_>],
-) -> Result<u64, Refusal> {
+) -> Result<u64, Refusal>
+    ensures { IfOk result (λ rows. HasCleanDisk (state S.Store conn.new) → Executes text.now (bound values.now) (state S.Store conn.old) (state S.Store conn.new) (Ok rows)) }
+{
     match conn.execute(text, values) {
         Ok(rows) => Ok(rows as u64),
         Err(error) => Err(refused(alloc, error)),
@@ -95,7 +103,9 @@ pub(crate) fn perform<S: Alter>(
     conn: &mut Connection<S>,
     alloc: Global,
     text: &str,
-) -> Result<(), Refusal> {
+) -> Result<(), Refusal>
+    ensures { OnOk result (Ran text.now (state S.Store conn.old) (state S.Store conn.new)) }
+{
     match changed(conn, alloc, text, &[]) {
         Ok(_) => Ok(()),
         Err(refusal) => Err(refusal),
@@ -107,11 +117,16 @@ pub(crate) fn roll_back_to<S: Alter>(
     conn: &mut Connection<S>,
     alloc: Global,
     depth: usize,
-) -> Result<(), Refusal> {
+) -> Result<(), Refusal>
+    ensures { OnOk result (((conn.old.in_transaction ≡ Bool.false) × (conn.new ≡ conn.old)) ⊎ Ran (text_of (rollback_at (depth + 1))) (state S.Store conn.old) (state S.Store conn.new)) }
+{
     if conn.is_autocommit() {
         return Ok(());
     }
-    match rollback_ansi_transaction_sql(alloc, depth.saturating_add(1)) {
+    let Some(level) = depth.checked_add(1) else {
+        return Err(Refusal::OutOfMemory);
+    };
+    match rollback_ansi_transaction_sql(alloc, level) {
         Ok(text) => perform(conn, alloc, text.as_str()),
         Err(OutOfMemory) => Err(Refusal::OutOfMemory),
     }

@@ -1,0 +1,30 @@
+-- Texts of levels that ran.
+use Rattle.std.proofs.Common.{◌≡◌, ℕ, true, List, Result, Ok, Err, IfOk, IfErr, IsOkAnd, OnOk, inl, inr, sym, subst, ◌∙◌}
+use Rattle.sqlx_text.specs.declared.error.Error.TheVariants as error
+use Rattle.sqlx_traits.specs.Calls.{Outcome}
+use Rattle.sqlite_driver.specs.Ran.{RanOn, in_transaction}
+use Rattle.sqlite_driver.specs.Does.{BeginsBy, Pings, RunsText}
+use Rattle.sqlite_driver.specs.declared.connection.SqliteConnection.{SqliteConnection}
+
+-- a text that is this one where it is there, and that ran, is this one
+pub ran_as : {E : Type 0} (r : Outcome) (due : List ℕ) (text : Result (List ℕ) E) (before after : SqliteConnection)
+    → IfOk text (λ t. t ≡ due) → OnOk r (IsOkAnd text (λ t. RunsText t before after)) → OnOk r (RunsText due before after)
+ran_as (Ok done) due (Ok text) before after is ran = subst (λ t. RunsText t before after) is ran
+ran_as (Ok done) due (Err e) before after is ran = absurd ran
+ran_as (Err e) due text before after is ran = tt
+
+-- what was noted is rolled back, and then the text runs, if it does
+pub ran_settled : (r : Outcome) (text : List ℕ) (before settled after : SqliteConnection)
+    → Pings before (Ok tt) settled → OnOk r (RanOn text settled.base after.base) → after.goes_back_to ≡ settled.goes_back_to
+    → OnOk r (RunsText text before after)
+ran_settled (Ok done) text before settled after is ran same = (settled.base, is.0, ran, same ∙ is.1)
+ran_settled (Err e) text before settled after is ran same = tt
+
+-- a text that ran has begun a transaction, or the begin has failed
+pub begun_by : (first r : Outcome) (text : List ℕ) (before ran after : SqliteConnection)
+    → OnOk first (RunsText text before ran) → (after.base ≡ ran.base) × (after.goes_back_to ≡ ran.goes_back_to)
+    → OnOk r (in_transaction after.base ≡ true) → IfErr r (λ e. e ≡ error.BeginFailed) → OnOk first (BeginsBy text before r after)
+begun_by (Ok done) (Ok also) text before ran after (settled, is, runs, none) same stands failed =
+    ((settled, is, subst (λ b. RanOn text settled b) (sym same.0) runs, same.1 ∙ none), stands)
+begun_by (Ok done) (Err e) text before ran after runs same stands failed = inr (inl failed)
+begun_by (Err e) r text before ran after runs same stands failed = tt

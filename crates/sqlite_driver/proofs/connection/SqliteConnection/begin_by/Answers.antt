@@ -1,0 +1,8 @@
+use Rattle.std.proofs.Common.{rules}
+use Rattle.sqlite_driver.proofs.TextLemmas.{begun_by}
+use Rattle.sqlite_driver.proofs.connection.SqliteConnection.begin_by.Goals as goal
+
+pub returns-in-Ok-clause-begins : goal.returns-in-Ok-clause-begins
+returns-in-Ok-clause-begins c =
+    let begins : _ = begun_by c.perform.result c.begun.result c.args.text c.args.self.now c.perform.new.self c.begun.new.self c.perform.ensures.ran c.begun.ensures.rest c.begun.ensures.begun c.begun.ensures.told in
+    search rules

@@ -1,0 +1,8 @@
+use Rattle.std.proofs.Common.{rules}
+use Rattle.sqlite_driver.proofs.TextLemmas.{ran_as}
+use Rattle.sqlite_driver.proofs.connection.SqliteConnection.begin_level.Goals as goal
+
+pub returns-in-Ok-clause-begins : goal.returns-in-Ok-clause-begins
+returns-in-Ok-clause-begins c = λ due is.
+    let ran : _ = ran_as c.perform.result due c.args.text c.args.self.now c.perform.new.self is c.perform.ensures.ran in
+    search rules

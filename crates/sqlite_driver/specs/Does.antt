@@ -1,0 +1,62 @@
+-- What the calls of a connection besides queries make of it, where they are done, and what a refused one leaves.
+use Rattle.std.specs.Prelude.{◌≡◌, ◌⊎◌, ◌≤◌, ◌-◌, ℕ, true, nat_lt, if◌then◌else◌, IfErr, List, Option, Some, None, Ok, Err}
+use Rattle.sqlx_text.specs.declared.error.Error.TheVariants as error
+use Rattle.sqlx_traits.specs.Calls.{Call, Outcome, begin, commit, rollback, start_rollback, ping, Closing, told, at_once}
+use Rattle.sqlx_savepoints.specs.Texts.{begin_at, commit_at, rollback_at, text_of}
+use Rattle.sqlite_driver.specs.Refusals.{IsRefusal}
+use Rattle.sqlite_driver.specs.Ran.{RanOn, Settled, in_transaction}
+use Rattle.sqlite_driver.specs.declared.base.Base.{Base}
+use Rattle.sqlite_driver.specs.declared.connection.SqliteConnection.{SqliteConnection}
+
+-- what was noted is rolled back, and then the text ran
+abbrev pub RunsText : List ℕ → SqliteConnection → SqliteConnection → Type 0
+RunsText text before after = (settled : Base) × Settled before.goes_back_to before.base settled × RanOn text settled after.base × (after.goes_back_to ≡ None)
+
+-- the lower of what was noted and this depth
+abbrev pub lower : Option ℕ → ℕ → ℕ
+lower None depth = depth
+lower (Some noted) depth = if nat_lt noted depth then noted else depth
+
+-- the innermost level ended, and it is noted that it is to be rolled back
+abbrev pub given_up : SqliteConnection → SqliteConnection
+given_up conn = record conn { depth = conn.depth - 1; goes_back_to = Some (lower conn.goes_back_to (conn.depth - 1)) }
+
+-- a level that ended is to be rolled back: to this depth, or below it
+abbrev pub IsNoted : ℕ → Option ℕ → Type 0
+IsNoted depth None = ⊥
+IsNoted depth (Some noted) = noted ≤ depth
+
+-- a level text that begins a level: it ran, or is refused
+abbrev pub Begins : List ℕ → SqliteConnection → Outcome → SqliteConnection → Type 0
+Begins text before (Ok done) after = RunsText text before after
+Begins text before (Err e) after = IsRefusal e
+
+-- a begin by a text of the caller's own: it ran, and a transaction is open; or it is refused, or ran and began none, or stands in a level
+abbrev pub BeginsBy : List ℕ → SqliteConnection → Outcome → SqliteConnection → Type 0
+BeginsBy text before (Ok done) after = RunsText text before after × (in_transaction after.base ≡ true)
+BeginsBy text before (Err e) after = IsRefusal e ⊎ ((e ≡ error.BeginFailed) ⊎ (e ≡ error.InvalidSavePointStatement))
+
+-- a level text that ends a level: it ran, or is refused, and the level is to be rolled back
+abbrev pub Ends : List ℕ → SqliteConnection → Outcome → SqliteConnection → Type 0
+Ends text before (Ok done) after = RunsText text before after
+Ends text before (Err e) after = IsRefusal e × IsNoted after.depth after.goes_back_to
+
+-- a ping rolls back what was noted, or is refused
+abbrev pub Pings : SqliteConnection → Outcome → SqliteConnection → Type 0
+Pings before (Ok done) after = Settled before.goes_back_to before.base after.base × (after.goes_back_to ≡ None)
+Pings before (Err e) after = IsRefusal e
+
+-- what a call besides queries answers, and the connection after it; the last three do nothing
+abbrev pub Does : Call → SqliteConnection → Outcome → SqliteConnection → Type 0
+Does ping before outcome after = Pings before outcome after
+Does (begin None) before outcome after = Begins (text_of (begin_at before.depth)) before outcome after
+Does (begin (Some text)) before outcome after = BeginsBy text before outcome after
+Does commit before outcome after = Ends (text_of (commit_at before.depth)) before outcome after
+Does rollback before outcome after = Ends (text_of (rollback_at before.depth)) before outcome after
+Does start_rollback before outcome after = after ≡ given_up before
+Does _ before outcome after = (outcome ≡ Ok tt) × (after ≡ before)
+
+-- closing may be refused as a statement is, and closing at once can't be
+abbrev pub Closes : Closing → SqliteConnection → Outcome → Type 0
+Closes told before outcome = IfErr outcome IsRefusal
+Closes at_once before outcome = outcome ≡ Ok tt

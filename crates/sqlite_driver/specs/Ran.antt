@@ -1,0 +1,34 @@
+-- What a text that ran made of a database, in the words of the crate `sqlite`.
+use Rattle.std.specs.Prelude.{◌≡◌, ◌⊎◌, ◌+◌, ℕ, Bool, false, [], List, Option, Some, None, Ok}
+use Rattle.sqlite.specs.Files.{file_state}
+use Rattle.sqlite.specs.Held.{state}
+use Rattle.sqlite.specs.State.{Executes, HasCleanDisk, State}
+use Rattle.sqlite.specs.Steps.{over_memory}
+use Rattle.sqlx_savepoints.specs.Texts.{rollback_at, text_of}
+use Rattle.sqlite_driver.specs.declared.base.Base.{Base}
+use Rattle.sqlite_driver.specs.declared.base.Base.TheVariants.{Memory, File}
+
+-- a text without arguments was executed, where the disk has returned what was written
+pub record Ran (text : List ℕ) (before after : State) : Type 0 where
+  pub rows : ℕ
+  pub executes : HasCleanDisk after → Executes text [] before after (Ok rows)
+
+-- the same of a database in memory or in a file
+abbrev pub RanOn : List ℕ → Base → Base → Type 0
+RanOn text (Memory before) (Memory after) = Ran text (state over_memory before) (state over_memory after)
+RanOn text (File before) (File after) = Ran text (file_state before) (file_state after)
+RanOn text _ _ = ⊥
+
+-- whether a transaction is open
+abbrev pub in_transaction : Base → Bool
+in_transaction (Memory conn) = conn.in_transaction
+in_transaction (File conn) = conn.in_transaction
+
+-- rolled back to this depth by its text, or untouched where no transaction is open
+abbrev pub RolledBackTo : ℕ → Base → Base → Type 0
+RolledBackTo depth before after = ((in_transaction before ≡ false) × (after ≡ before)) ⊎ RanOn (text_of (rollback_at (depth + 1))) before after
+
+-- what was noted to be rolled back is
+abbrev pub Settled : Option ℕ → Base → Base → Type 0
+Settled None before after = after ≡ before
+Settled (Some depth) before after = RolledBackTo depth before after
