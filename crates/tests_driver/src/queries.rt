@@ -1,248 +1,144 @@
 //! Queries with bound values and a transaction of texts, on a connection over a session.
-use mem_driver::{Answer, GET, Mem, MemLink, MemSession, MemStore, PUT, SELECT_ALL};
-use sqlx_any::{
-    Any, AnyConnectOptions, AnyConnection, AnyConnectionBackend, AnyRow, AnyTransactionManager,
-    Connect, ConnectOptions, Connection, Executor, Row, Statement, TransactionManager,
-};
-use sqlx_query::{query, query_scalar, raw_sql};
-use sqlx_text::{Error, SqlStr};
+use mem_driver::{Answer, GET, MemLink, MemSession, MemStore, PUT, SELECT_ALL};
+use sqlx_any::AnyConnection;
+use sqlx_text::Error;
 use std::alloc::Global;
-use std::test::Fail;
+use std::process::Abort;
+use std::test::*;
+use tests_kv::Act;
+use tests_kv::opened::{answers_at, answers_of};
+use tests_kv::shown::told;
 
-type Conn = AnyConnection<MemSession>;
-
-fn opened(alloc: Global, answer: Answer) -> Result<Conn, Error> {
+// A session of a new database, whose first statement meets the answer.
+fn session(alloc: Global, answer: Answer) -> Result<MemSession, Error> {
     let mut store = MemStore::new(alloc);
     let link = MemLink::connect(alloc, &mut store)?;
-    Ok(AnyConnection::new(MemSession::new(store, link, answer)))
+    Ok(MemSession::new(store, link, answer))
 }
 
-// Runs a text without arguments, and gives how many rows it wrote.
-pub fn runs<B: AnyConnectionBackend>(
-    alloc: Global,
-    conn: &mut AnyConnection<B>,
-    text: &'static str,
-) -> Result<u64, Error> {
-    let raw = raw_sql::<&str>(alloc, text)?;
-    let result = raw.execute::<Any<B>, AnyConnection<B>>(alloc, conn)?;
-    Ok(result.rows_affected)
+// What a connection over such a session answers.
+fn answers(alloc: Global, answer: Answer, acts: &[Act]) -> Result<String, Error> {
+    let conn = AnyConnection::new(session(alloc, answer)?);
+    answers_of(alloc, conn, acts)
 }
 
-// Writes a key by a query with bound values.
-pub fn puts<B: AnyConnectionBackend>(
-    alloc: Global,
-    conn: &mut AnyConnection<B>,
-    key: i64,
-    value: i64,
-) -> Result<u64, Error> {
-    let query = query::<Any<B>, &'static str>(alloc, PUT)?;
-    let bound = query.bind(alloc, key).bind(alloc, value);
-    let result = bound.execute(alloc, conn)?;
-    Ok(result.rows_affected)
+// Stops the test where another line is answered.
+fn says<R: Alloc<A = Global> + Abort>(
+    rt: &R,
+    answer: Answer,
+    acts: &[Act],
+    want: &str,
+) -> Result<(), Fail> {
+    let line = told(rt.alloc(), answers(rt.alloc(), answer, acts))?;
+    assert_eq!(rt; line.as_str(), want);
+    Ok(())
 }
 
-// Reads a key by a query with a bound value.
-pub fn gets<B: AnyConnectionBackend>(
-    alloc: Global,
-    conn: &mut AnyConnection<B>,
-    key: i64,
-) -> Result<Option<i64>, Error> {
-    let query = query_scalar::<Any<B>, i64, &'static str>(alloc, GET)?;
-    query.bind(alloc, key).fetch_optional(alloc, conn)
-}
-
-// Whether the database refused it with this message.
-pub fn is_refused_with<T: Drop>(answer: Result<T, Error>, message: &str) -> bool {
-    let refused = match &answer {
-        Err(Error::Database(fault)) => fault.message.as_str() == message,
-        _ => false,
-    };
-    drop(answer);
-    refused
-}
-
-// The whole numbers of a column, row by row.
-fn numbers<B: AnyConnectionBackend>(
-    alloc: Global,
-    conn: &mut AnyConnection<B>,
-    text: &'static str,
-    at: usize,
-) -> Result<Vec<i64>, Error> {
-    let rows = conn.fetch_all(alloc, text)?;
-    let mut numbers = Vec::new(alloc);
-    for row in rows.iter() {
-        let number = Row::<Any<B>>::try_get::<i64, usize>(row, alloc, at)?;
-        if numbers.push(number).is_err() {
-            return Err(Error::OutOfMemory);
-        }
-    }
-    Ok(numbers)
-}
-
-// Begins a level by a text of one's own.
-fn begins_by<B: AnyConnectionBackend>(
-    alloc: Global,
-    conn: &mut AnyConnection<B>,
-    text: &'static str,
-) -> Result<(), Error> {
-    AnyTransactionManager::<B>::begin(alloc, conn, Some(SqlStr::from_static(text)))
-}
-
-// What came of a begin, in a word.
-fn begun(answer: Result<(), Error>) -> &'static str {
-    let told = match &answer {
-        Ok(()) => "begun",
-        Err(Error::BeginFailed) => "failed",
-        Err(Error::InvalidSavePointStatement) => "inside",
-        Err(_) => "refused",
-    };
-    drop(answer);
-    told
-}
-
-// How many columns the rows of a text have.
-fn columns<B: AnyConnectionBackend>(
-    alloc: Global,
-    conn: &mut AnyConnection<B>,
-    text: &'static str,
-) -> Result<usize, Error> {
-    let statement = conn.prepare(alloc, SqlStr::from_static(text))?;
-    let columns = Statement::<Any<B>>::columns(&statement).len();
-    Ok(columns)
-}
+const TO_A_SAVEPOINT: &[Act] = &[
+    Act::Run("BEGIN"),
+    Act::Put(1, 5),
+    Act::Run("SAVEPOINT _sqlx_savepoint_1"),
+    Act::Put(1, 6),
+    Act::Run("ROLLBACK TO SAVEPOINT _sqlx_savepoint_1"),
+    Act::Run("COMMIT"),
+    Act::Get(1),
+    Act::Get(2),
+];
 
 #[test]
 fn a_rollback_to_a_savepoint(rt: HostRuntime) -> Result<(), Fail> {
-    let mut conn = opened(rt.alloc(), Answer::Accept)?;
-    for (text, value) in [("BEGIN", 5), ("SAVEPOINT _sqlx_savepoint_1", 6)] {
-        assert_eq!(rt; runs(rt.alloc(), &mut conn, text)?, 0);
-        assert_eq!(rt; puts(rt.alloc(), &mut conn, 1, value)?, 1);
-    }
-    for text in ["ROLLBACK TO SAVEPOINT _sqlx_savepoint_1", "COMMIT"] {
-        assert_eq!(rt; runs(rt.alloc(), &mut conn, text)?, 0);
-    }
-    assert_eq!(rt; gets(rt.alloc(), &mut conn, 1)?, Some(5));
-    assert_eq!(rt; gets(rt.alloc(), &mut conn, 2)?, None);
-    Ok(())
+    let want = "0|1|0|1|0|0|Some(5)|None|";
+    says(&rt, Answer::Accept, TO_A_SAVEPOINT, want)
 }
+
+const THREE_KEYS: &[Act] = &[
+    Act::Put(3, 30),
+    Act::Put(-1, -10),
+    Act::Put(2, 20),
+    Act::Numbers(SELECT_ALL, 0),
+    Act::Numbers(SELECT_ALL, 1),
+];
 
 #[test]
 fn all_rows_in_the_order_of_the_keys(rt: HostRuntime) -> Result<(), Fail> {
-    let mut conn = opened(rt.alloc(), Answer::Accept)?;
-    for key in [3, -1, 2] {
-        assert_eq!(rt; puts(rt.alloc(), &mut conn, key, key * 10)?, 1);
-    }
-    let keys = numbers(rt.alloc(), &mut conn, SELECT_ALL, 0)?;
-    assert_eq!(rt; keys.as_slice(), [-1, 2, 3].as_slice());
-    let values = numbers(rt.alloc(), &mut conn, SELECT_ALL, 1)?;
-    assert_eq!(rt; values.as_slice(), [-10, 20, 30].as_slice());
-    Ok(())
+    let want = "1|1|1|[-1, 2, 3]|[-10, 20, 30]|";
+    says(&rt, Answer::Accept, THREE_KEYS, want)
 }
 
-// The first column of the first row.
-fn first<B: AnyConnectionBackend>(
-    alloc: Global,
-    conn: &mut AnyConnection<B>,
-    text: &'static str,
-) -> Result<Option<i64>, Error> {
-    match conn.fetch_optional(alloc, text)? {
-        Some(row) => {
-            let number = Row::<Any<B>>::try_get::<i64, usize>(&row, alloc, 0)?;
-            Ok(Some(number))
-        }
-        None => Ok(None),
-    }
-}
-
-// Opens a database by its URL.
-fn opened_by(alloc: Global, url: &str) -> Result<Conn, Error> {
-    let options = AnyConnectOptions::parse(alloc, url)?;
-    Connect::<Mem>::connect(&options, alloc)
-}
-
-// What one row's worth of an answer is, in a word.
-fn one_row<T: Drop>(answer: Result<T, Error>) -> &'static str {
-    let told = match &answer {
-        Ok(_) => "a row",
-        Err(Error::RowNotFound) => "no row",
-        Err(Error::Configuration(_)) => "another scheme",
-        Err(_) => "refused",
-    };
-    drop(answer);
-    told
-}
-
-#[test]
-fn a_database_is_opened_by_its_url(rt: HostRuntime) -> Result<(), Fail> {
-    let mut conn = opened_by(rt.alloc(), "mem:")?;
-    for key in [1, 2] {
-        assert_eq!(rt; puts(rt.alloc(), &mut conn, key, 5)?, 1);
-    }
-    assert_eq!(rt; conn.fetch_all(rt.alloc(), SELECT_ALL)?.len(), 2);
-    assert_eq!(rt; first(rt.alloc(), &mut conn, SELECT_ALL)?, Some(1));
-    assert_eq!(rt; one_row(opened_by(rt.alloc(), "pg:x")), "another scheme");
-    Ok(())
-}
-
-// Reads a key that has to be there.
-fn reads<B: AnyConnectionBackend>(
-    alloc: Global,
-    conn: &mut AnyConnection<B>,
-    key: i64,
-) -> Result<AnyRow, Error> {
-    let query = query::<Any<B>, &'static str>(alloc, GET)?;
-    query.bind(alloc, key).fetch_one(alloc, conn)
-}
+const ONE_KEY: &[Act] = &[Act::Put(1, 5), Act::GetOne(1), Act::GetOne(2), Act::Cached];
 
 #[test]
 fn a_row_that_is_missing(rt: HostRuntime) -> Result<(), Fail> {
-    let mut conn = opened(rt.alloc(), Answer::Accept)?;
-    assert_eq!(rt; puts(rt.alloc(), &mut conn, 1, 5)?, 1);
-    assert_eq!(rt; one_row(reads(rt.alloc(), &mut conn, 1)), "a row");
-    assert_eq!(rt; one_row(reads(rt.alloc(), &mut conn, 2)), "no row");
-    assert_eq!(rt; conn.cached_statements_size(), 2);
-    Ok(())
+    let want = "1|1|no rows returned by a query that expected to return at least one row|2|";
+    says(&rt, Answer::Accept, ONE_KEY, want)
 }
+
+const TEXTS: &[Act] = &[
+    Act::Run("BEGIN"),
+    Act::Run("COMMIT"),
+    Act::Run("SELECT 2"),
+    Act::Run(PUT),
+];
 
 #[test]
 fn what_is_refused(rt: HostRuntime) -> Result<(), Fail> {
-    let mut conn = opened(rt.alloc(), Answer::Refuse)?;
-    for (text, message) in [
-        ("BEGIN", "refused"),
-        ("COMMIT", "unread"),
-        ("SELECT 2", "unread"),
-        (PUT, "unread"),
-    ] {
-        let answer = runs(rt.alloc(), &mut conn, text);
-        assert!(rt; is_refused_with(answer, message), "{text}");
-    }
-    Ok(())
+    let said = "error returned from database";
+    let want = format!(in rt.alloc();
+        "{said}: refused|{said}: unread|{said}: unread|{said}: unread|"
+    )?;
+    says(&rt, Answer::Refuse, TEXTS, &want)
 }
+
+const BEGINS: &[Act] = &[
+    Act::BeginWith("SELECT 1"),
+    Act::BeginWith("BEGIN IMMEDIATE"),
+    Act::BeginWith("BEGIN IMMEDIATE"),
+];
 
 #[test]
 fn a_begin_by_a_text(rt: HostRuntime) -> Result<(), Fail> {
-    let mut conn = opened(rt.alloc(), Answer::Accept)?;
-    for (text, told) in [
-        ("SELECT 1", "failed"),
-        ("BEGIN IMMEDIATE", "begun"),
-        ("BEGIN IMMEDIATE", "inside"),
-    ] {
-        let answer = begins_by(rt.alloc(), &mut conn, text);
-        assert_eq!(rt; begun(answer), told, "{text}");
-    }
-    Ok(())
+    let failed = "got unexpected connection status after attempting to begin transaction";
+    let inside = "attempted to call begin_with at non-zero transaction depth";
+    let want = format!(in rt.alloc(); "{failed}|()|{inside}|")?;
+    says(&rt, Answer::Accept, BEGINS, &want)
 }
+
+const STATEMENTS: &[Act] = &[
+    Act::Run("SELECT 1"),
+    Act::Cached,
+    Act::Put(1, 5),
+    Act::Get(1),
+    Act::Cached,
+    Act::Prepare(PUT),
+    Act::Prepare(GET),
+    Act::Prepare(SELECT_ALL),
+];
 
 #[test]
 fn statements_are_cached_and_prepared(rt: HostRuntime) -> Result<(), Fail> {
-    let mut conn = opened(rt.alloc(), Answer::Accept)?;
-    assert_eq!(rt; runs(rt.alloc(), &mut conn, "SELECT 1")?, 0);
-    assert_eq!(rt; conn.cached_statements_size(), 0);
-    assert_eq!(rt; puts(rt.alloc(), &mut conn, 1, 5)?, 1);
-    assert_eq!(rt; gets(rt.alloc(), &mut conn, 1)?, Some(5));
-    assert_eq!(rt; conn.cached_statements_size(), 2);
-    for (text, count) in [(PUT, 0), (GET, 1), (SELECT_ALL, 2)] {
-        assert_eq!(rt; columns(rt.alloc(), &mut conn, text)?, count);
+    let want = "0|0|1|Some(5)|2|0|1|2|";
+    says(&rt, Answer::Accept, STATEMENTS, want)
+}
+
+const TWO_KEYS: &[Act] = &[
+    Act::Put(1, 5),
+    Act::Put(2, 5),
+    Act::Numbers(SELECT_ALL, 0),
+    Act::First(SELECT_ALL),
+];
+
+#[test]
+fn a_database_is_opened_by_its_url(rt: HostRuntime) -> Result<(), Fail> {
+    for (url, want) in [
+        ("mem:", "1|1|[1, 2]|Some(1)|"),
+        (
+            "pg:x",
+            "error with configuration: no driver found for URL scheme \"pg\"",
+        ),
+    ] {
+        let answered = answers_at::<MemSession>(rt.alloc(), url, TWO_KEYS);
+        let line = told(rt.alloc(), answered)?;
+        assert_eq!(rt; line.as_str(), want);
     }
     Ok(())
 }

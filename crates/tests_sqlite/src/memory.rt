@@ -1,87 +1,80 @@
 //! A database in memory.
-use crate::calls::{gets, puts, runs};
-use sqlite_driver::{Sqlite, SqliteConnection};
-use sqlx_any::{
-    AnyConnectOptions, AnyConnection, AnyTransactionManager, Connect, ConnectOptions, Connection,
-    TransactionManager,
-};
-use sqlx_text::Error;
+use sqlite_driver::SqliteConnection;
+use sqlx_text::OutOfMemory;
 use std::alloc::Global;
-use std::test::Fail;
+use std::process::Abort;
+use std::test::*;
+use tests_kv::Act;
+use tests_kv::opened::answers_at;
+use tests_kv::shown::told;
 
-type Backend = SqliteConnection;
-
-fn opened(alloc: Global, url: &str) -> Result<AnyConnection<Backend>, Error> {
-    let options = AnyConnectOptions::parse(alloc, url)?;
-    Connect::<Sqlite>::connect(&options, alloc)
+// What a new database answers that the URL opens.
+fn answers(alloc: Global, url: &str, acts: &[Act]) -> Result<String, OutOfMemory> {
+    told(alloc, answers_at::<SqliteConnection>(alloc, url, acts))
 }
 
-// The number of the error, 0 for none.
-fn refused<T: Drop>(answer: Result<T, Error>) -> u8 {
-    let number = match &answer {
-        Ok(_) => 0,
-        Err(error) => error.number(),
-    };
-    drop(answer);
-    number
+// Stops the test where a new database answers another line.
+fn says<R: Alloc<A = Global> + Abort>(rt: &R, acts: &[Act], want: &str) -> Result<(), Fail> {
+    let line = answers(rt.alloc(), "sqlite::memory:", acts)?;
+    assert_eq!(rt; line.as_str(), want);
+    Ok(())
+}
+
+// Stops the test where the answers begin otherwise.
+fn begins<R: Alloc<A = Global> + Abort>(
+    rt: &R,
+    url: &str,
+    acts: &[Act],
+    want: &str,
+) -> Result<(), Fail> {
+    let line = answers(rt.alloc(), url, acts)?;
+    assert!(rt; line.as_str().starts_with(want), "{line}");
+    Ok(())
 }
 
 #[test]
 fn a_row_is_put_and_got(rt: HostRuntime) -> Result<(), Fail> {
-    let mut conn = opened(rt.alloc(), "sqlite::memory:")?;
-    assert_eq!(rt; puts(rt.alloc(), &mut conn, 1, 5)?, 1);
-    assert_eq!(rt; gets(rt.alloc(), &mut conn, 1)?, Some(5));
-    assert_eq!(rt; gets(rt.alloc(), &mut conn, 2)?, None);
-    Ok(())
+    let acts = &[Act::Put(1, 5), Act::Get(1), Act::Get(2)];
+    says(&rt, acts, "1|Some(5)|None|")
 }
 
 #[test]
 fn urls_that_are_refused(rt: HostRuntime) -> Result<(), Fail> {
     for url in ["mem:", "sqlite:notes.db", "no url"] {
-        assert_eq!(rt; refused(opened(rt.alloc(), url)), 1, "{url}");
+        begins(&rt, url, &[], "error with configuration: ")?;
     }
     Ok(())
 }
 
-// Begins a level, and a level in it that is left open.
-fn begin_twice(alloc: Global, conn: &mut AnyConnection<Backend>) -> Result<(), Error> {
-    AnyTransactionManager::<Backend>::begin(alloc, conn, None)?;
-    puts(alloc, conn, 1, 5)?;
-    AnyTransactionManager::<Backend>::begin(alloc, conn, None)?;
-    puts(alloc, conn, 1, 6)?;
-    if AnyTransactionManager::<Backend>::get_transaction_depth(conn) == 0 {
-        return Err(Error::BeginFailed);
-    }
-    AnyTransactionManager::<Backend>::start_rollback(conn);
-    Ok(())
-}
+// A level, and a level in it that is left open and given up.
+const GIVEN_UP: &[Act] = &[
+    Act::Begin,
+    Act::Put(1, 5),
+    Act::Begin,
+    Act::Put(1, 6),
+    Act::StartRollback,
+    Act::Ping,
+    Act::Get(1),
+    Act::Depth,
+    Act::Rollback,
+    Act::Get(1),
+];
 
 #[test]
 fn a_level_that_is_given_up(rt: HostRuntime) -> Result<(), Fail> {
-    let mut conn = opened(rt.alloc(), "sqlite::memory:")?;
-    begin_twice(rt.alloc(), &mut conn)?;
-    conn.ping()?;
-    assert_eq!(rt; gets(rt.alloc(), &mut conn, 1)?, Some(5));
-    assert_eq!(rt;
-        AnyTransactionManager::<Backend>::get_transaction_depth(&conn),
-        1
-    );
-    AnyTransactionManager::<Backend>::rollback(rt.alloc(), &mut conn)?;
-    assert_eq!(rt; gets(rt.alloc(), &mut conn, 1)?, None);
-    Ok(())
+    let want = "()|1|()|1|()|()|Some(5)|1|()|None|";
+    says(&rt, GIVEN_UP, want)
 }
 
 #[test]
 fn texts_that_are_refused(rt: HostRuntime) -> Result<(), Fail> {
-    let mut conn = opened(rt.alloc(), "sqlite::memory:")?;
-    for (text, number) in [
-        ("COMMIT", 3),
-        ("SELECT nothing", 3),
-        ("SELECT 1.5", 13),
-        ("SELECT 1", 0),
+    for (text, want) in [
+        ("COMMIT", "error returned from database: "),
+        ("SELECT nothing", "error returned from database: "),
+        ("SELECT 1.5", "error in Any driver mapping: "),
+        ("SELECT 1", "0|"),
     ] {
-        let answer = runs(rt.alloc(), &mut conn, text);
-        assert_eq!(rt; refused(answer), number, "{text}");
+        begins(&rt, "sqlite::memory:", &[Act::Run(text)], want)?;
     }
     Ok(())
 }

@@ -2,11 +2,17 @@
 //! `CALLING.md` of `sqlx_tx` names them.
 #![tactic(auto)]
 
-pub mod callers;
-pub mod levels;
+#[cfg(test)]
+mod acts;
+#[cfg(test)]
+mod callers;
+#[cfg(test)]
+mod levels;
 #[cfg(test)]
 mod tests;
 #[cfg(test)]
 mod texts;
-pub mod within;
-pub mod writes;
+#[cfg(test)]
+mod within;
+#[cfg(test)]
+mod writes;

@@ -1,77 +1,82 @@
-//! What levels leave in the database in memory: the value at key 1, and how many texts began and ended levels.
-ghost use Rattle.std.specs.Prelude.{◌≡◌, IfOk};
-
-use crate::callers::{Level, begins, commits, pings_within, tries, writes};
-use crate::levels::{End, Ends, nests};
-use crate::within::{Answers, outer};
-use crate::writes::{KeyOne, Writes};
-use mem_driver::{Answer, Mem, MemLink, MemSession, MemStore};
+//! What levels leave in the database in memory.
+use crate::acts::{Act, perform};
+use crate::levels::{End, Ends};
+use crate::within::Answers;
+use crate::writes::KeyOne;
+use mem_driver::{Answer, MemLink, MemSession, MemStore};
 use sqlx_any::AnyConnection;
-use sqlx_text::{Depth, Error, SqlStr};
-use sqlx_tx::{Borrowed, calls};
+use sqlx_text::{Depth, Error};
 use std::alloc::Global;
-use std::test::Fail;
+use std::process::Abort;
+use std::test::*;
 
 type Conn = AnyConnection<MemSession>;
 
-/// What is told, and what is left: the depth, the value at key 1, and the texts that began and ended levels.
-#[derive(Clone, Copy, Debug, PartialEq)]
-struct Left {
-    told: &'static str,
-    depth: usize,
-    value: Option<i64>,
-    begun: u64,
-    ended: u64,
-}
-
-fn left_of(conn: Conn, told: &'static str) -> Left {
-    let depth = conn.depth();
-    let (store, _link) = conn.into_backend().into_parts();
-    let runs = store.runs();
-    Left {
-        told,
-        depth,
-        value: store.get(1),
-        begun: runs.begun,
-        ended: runs.ended,
-    }
-}
-
 // A connection to a database without rows.
-fn opened(alloc: Global) -> Result<Conn, Error>
-    ensures { IfOk result (λ conn. conn.backend.work.link.depth ≡ 0) }
-{
+fn opened(alloc: Global) -> Result<Conn, Error> {
     let mut store = MemStore::new(alloc);
     let link = MemLink::connect(alloc, &mut store)?;
     Ok(AnyConnection::new(MemSession::new(store, link, Answer::Accept)))
 }
 
 // The same connection, whose next statement meets the answer.
-fn meeting(conn: Conn, answer: Answer) -> Conn
-    ensures { result.backend.work.link.depth ≡ conn.backend.work.link.depth }
-{
+fn meeting(conn: Conn, answer: Answer) -> Conn {
     let (store, link) = conn.into_backend().into_parts();
     AnyConnection::new(MemSession::new(store, link, answer))
 }
 
-// An answer in a word.
-fn word(answer: Result<(), Error>) -> &'static str {
-    let told = match &answer {
-        Ok(()) => "done",
-        Err(Error::Database(_)) => "refused",
-        Err(Error::BeginFailed) => "failed",
-        Err(Error::InvalidSavePointStatement) => "inside",
-        Err(Error::RowNotFound) => "not found",
-        Err(_) => "another error",
-    };
-    drop(answer);
-    told
+// What is left: the value at key 1, the depth, and how many texts began and ended levels.
+fn left(alloc: Global, conn: Conn, line: &str) -> Result<String, Error> {
+    let depth = conn.depth();
+    let (store, _link) = conn.into_backend().into_parts();
+    let (value, runs) = (store.get(1), store.runs());
+    let (begun, ended) = (runs.begun, runs.ended);
+    Ok(format!(in alloc; "{line} {value:?}, depth {depth}, {begun} begun, {ended} ended")?)
 }
 
-fn nested(alloc: Global, ends: Ends) -> Result<Left, Error> {
-    let mut conn = opened(alloc)?;
-    let told = word(nests::<Mem, KeyOne>(alloc, &mut conn, ends));
-    Ok(left_of(conn, told))
+// The connection after the acts, each of which is told behind the line.
+fn after(alloc: Global, conn: Conn, acts: &[Act], line: &mut String) -> Result<Conn, Error> {
+    let mut conn = conn;
+    let done = perform::<MemSession, KeyOne>(alloc, &mut conn, acts, line);
+    match done {
+        Ok(()) => Ok(conn),
+        Err(error) => {
+            drop(conn);
+            Err(Error::from(error))
+        }
+    }
+}
+
+// What is told of the acts, those behind `before` by statements of which the first meets the answer, and what is left.
+fn played(alloc: Global, before: &[Act], met: Answer, acts: &[Act]) -> Result<String, Error> {
+    let mut line = String::new(alloc);
+    let conn = after(alloc, opened(alloc)?, before, &mut line)?;
+    let conn = after(alloc, meeting(conn, met), acts, &mut line)?;
+    left(alloc, conn, &line)
+}
+
+// Stops the test where another line is told.
+fn says<R: Alloc<A = Global> + Abort>(
+    rt: &R,
+    before: &[Act],
+    met: Answer,
+    acts: &[Act],
+    want: &str,
+) -> Result<(), Fail> {
+    let line = played(rt.alloc(), before, met, acts)?;
+    assert_eq!(rt; line.as_str(), want);
+    Ok(())
+}
+
+// Stops the test where an act on a new database is told by another word, or leaves another value or an open level.
+fn leaves<R: Alloc<A = Global> + Abort>(
+    rt: &R,
+    act: Act,
+    told: &str,
+    value: Option<i64>,
+) -> Result<(), Fail> {
+    let want = format!(in rt.alloc(); "{told}| {value:?}, depth 0, 3 begun, 3 ended")?;
+    says(rt, &[], Answer::Accept, &[act], &want)
 }
 
 #[test]
@@ -90,176 +95,90 @@ fn three_levels(rt: HostRuntime) -> Result<(), Fail> {
             second,
             third,
         };
-        let want = Left {
-            told: "done",
-            depth: 0,
-            value,
-            begun: 3,
-            ended: 3,
-        };
-        assert_eq!(rt; nested(rt.alloc(), ends)?, want);
+        leaves(&rt, Act::Nest(ends), "done", value)?;
     }
     Ok(())
-}
-
-fn called(alloc: Global, answers: [Answers; 3]) -> Result<Left, Error> {
-    let mut conn = opened(alloc)?;
-    let told = word(outer::<Mem, KeyOne>(alloc, &mut conn, answers));
-    Ok(left_of(conn, told))
 }
 
 #[test]
 fn three_calls(rt: HostRuntime) -> Result<(), Fail> {
-    for (answers, told, value) in [
+    for (first, second, third, told, value) in [
+        (Answers::Good, Answers::Good, Answers::Good, "done", Some(3)),
+        (Answers::Good, Answers::Good, Answers::Bad, "done", Some(2)),
+        (Answers::Good, Answers::Bad, Answers::Good, "done", Some(1)),
         (
-            [Answers::Good, Answers::Good, Answers::Good],
-            "done",
-            Some(3),
-        ),
-        (
-            [Answers::Good, Answers::Good, Answers::Bad],
-            "done",
-            Some(2),
-        ),
-        (
-            [Answers::Good, Answers::Bad, Answers::Good],
-            "done",
-            Some(1),
-        ),
-        (
-            [Answers::Bad, Answers::Good, Answers::Good],
+            Answers::Bad,
+            Answers::Good,
+            Answers::Good,
             "not found",
             None,
         ),
     ] {
-        let want = Left {
-            told,
-            depth: 0,
-            value,
-            begun: 3,
-            ended: 3,
-        };
-        assert_eq!(rt; called(rt.alloc(), answers)?, want);
+        leaves(&rt, Act::Call([first, second, third]), told, value)?;
     }
     Ok(())
 }
 
-// Writes in a level that stays open, and commits it where that meets the answer.
-fn kept_open(alloc: Global, answer: Answer) -> Result<Left, Error> {
-    let mut conn = opened(alloc)?;
-    begins::<Mem>(alloc, &mut conn)?;
-    KeyOne::write(alloc, &mut conn, 5)?;
-    let mut conn = meeting(conn, answer);
-    let told = word(commits::<Mem>(alloc, &mut conn));
-    Ok(left_of(conn, told))
-}
+const BEGUN: &[Act] = &[Act::Begin, Act::Write(5)];
 
 #[test]
 fn a_commit_of_a_level_that_was_kept_open(rt: HostRuntime) -> Result<(), Fail> {
-    for (answer, told, value) in [
-        (Answer::Accept, "done", Some(5)),
-        (Answer::Refuse, "refused", None),
+    for (met, want) in [
+        (
+            Answer::Accept,
+            "done|done|done| Some(5), depth 0, 1 begun, 1 ended",
+        ),
+        (
+            Answer::Refuse,
+            "done|done|refused| None, depth 0, 1 begun, 1 ended",
+        ),
     ] {
-        let want = Left {
-            told,
-            depth: 0,
-            value,
-            begun: 1,
-            ended: 1,
-        };
-        assert_eq!(rt; kept_open(rt.alloc(), answer)?, want);
+        says(&rt, BEGUN, met, &[Act::Commit], want)?;
     }
     Ok(())
-}
-
-// Opens a level within one where that meets the answer, and commits the outer one.
-fn tried(alloc: Global, answer: Answer) -> Result<Left, Error> {
-    let mut conn = opened(alloc)?;
-    begins::<Mem>(alloc, &mut conn)?;
-    KeyOne::write(alloc, &mut conn, 5)?;
-    let mut conn = meeting(conn, answer);
-    let told = word(tries::<Mem>(alloc, &mut conn));
-    commits::<Mem>(alloc, &mut conn)?;
-    Ok(left_of(conn, told))
 }
 
 #[test]
 fn a_refused_begin_leaves_the_level_around_it(rt: HostRuntime) -> Result<(), Fail> {
-    for (answer, told, levels) in [(Answer::Accept, "done", 2), (Answer::Refuse, "refused", 1)] {
-        let want = Left {
-            told,
-            depth: 0,
-            value: Some(5),
-            begun: levels,
-            ended: levels,
-        };
-        assert_eq!(rt; tried(rt.alloc(), answer)?, want);
+    for (met, want) in [
+        (
+            Answer::Accept,
+            "done|done|done|done| Some(5), depth 0, 2 begun, 2 ended",
+        ),
+        (
+            Answer::Refuse,
+            "done|done|refused|done| Some(5), depth 0, 1 begun, 1 ended",
+        ),
+    ] {
+        says(&rt, BEGUN, met, &[Act::Try, Act::Commit], want)?;
     }
     Ok(())
 }
 
-// Opens a level by a text, over what borrows the connection, and gives it up.
-fn begins_by(alloc: Global, conn: &mut Conn, text: &'static str) -> Result<(), Error> {
-    match Level::<'_, Mem>::begin(alloc, Borrowed(conn), Some(SqlStr::from_static(text))) {
-        Ok(level) => {
-            let Borrowed(_conn) = level.give_up();
-            Ok(())
-        }
-        Err(refused) => {
-            let (error, holder) = refused;
-            let Borrowed(_conn) = holder;
-            Err(error)
-        }
-    }
-}
-
-// The same by a call, and the level stays open.
-fn begins_with(alloc: Global, conn: &mut Conn, text: &'static str) -> Result<(), Error> {
-    let level = calls::begin_with::<Mem>(alloc, conn, SqlStr::from_static(text))?;
-    let Borrowed(_conn) = level.keep_open();
-    Ok(())
-}
+const BEGINS: &[Act] = &[
+    Act::BeginBy("SELECT 1"),
+    Act::BeginBy("BEGIN IMMEDIATE"),
+    Act::BeginWith("SELECT 1"),
+    Act::BeginWith("BEGIN IMMEDIATE"),
+    Act::BeginWith("BEGIN IMMEDIATE"),
+    Act::BeginBy("BEGIN IMMEDIATE"),
+];
 
 #[test]
 fn a_begin_by_a_text(rt: HostRuntime) -> Result<(), Fail> {
-    let mut conn = opened(rt.alloc())?;
-    for (text, told) in [("SELECT 1", "failed"), ("BEGIN IMMEDIATE", "done")] {
-        let answer = begins_by(rt.alloc(), &mut conn, text);
-        assert_eq!(rt; word(answer), told, "{text}");
-    }
-    for (text, told) in [
-        ("SELECT 1", "failed"),
-        ("BEGIN IMMEDIATE", "done"),
-        ("BEGIN IMMEDIATE", "inside"),
-    ] {
-        let answer = begins_with(rt.alloc(), &mut conn, text);
-        assert_eq!(rt; word(answer), told, "{text}");
-    }
-    let answer = begins_by(rt.alloc(), &mut conn, "BEGIN IMMEDIATE");
-    assert_eq!(rt; word(answer), "inside");
-    Ok(())
+    let want = "failed|done|failed|done|inside|inside| None, depth 1, 2 begun, 1 ended";
+    says(&rt, &[], Answer::Accept, BEGINS, want)
 }
+
+const TEXTS: &[Act] = &[
+    Act::Run("SELECT 1"),
+    Act::Run("DROP TABLE kv"),
+    Act::Run("COMMIT"),
+    Act::Ping,
+];
 
 #[test]
 fn a_text_in_a_level_of_its_own(rt: HostRuntime) -> Result<(), Fail> {
-    let mut conn = opened(rt.alloc())?;
-    for (text, told) in [
-        ("SELECT 1", "done"),
-        ("DROP TABLE kv", "refused"),
-        ("COMMIT", "failed"),
-    ] {
-        let answer = writes(rt.alloc(), &mut conn, text);
-        assert_eq!(rt; word(answer), told, "{text}");
-    }
-    let answer = pings_within::<Mem>(rt.alloc(), &mut conn);
-    assert_eq!(rt; word(answer), "done");
-    let want = Left {
-        told: "",
-        depth: 0,
-        value: None,
-        begun: 4,
-        ended: 4,
-    };
-    assert_eq!(rt; left_of(conn, ""), want);
-    Ok(())
+    let want = "done|refused|failed|done| None, depth 0, 4 begun, 4 ended";
+    says(&rt, &[], Answer::Accept, TEXTS, want)
 }
