@@ -3,7 +3,6 @@ pub mod RunsAdded
 pub mod Lines
 pub mod Causes
 pub mod Scripts
-pub mod MadeLemmas
 pub mod Complete
 pub mod Stages
 pub mod SetUpLimits

@@ -21,6 +21,3 @@ pub mod StatementRuns
 pub mod ScriptRuns
 pub mod Causes
 pub mod Plays
-pub mod Commands
-pub mod MadeRuns
-pub mod Program
