@@ -1,10 +1,7 @@
 //! The crowd: workers in threads of their own over one pool, and what they leave.
 
-ghost use Rattle.std.specs.Prelude.{◌≡◌, ◌⊎◌, ℕ, ◌+◌, ◌*◌, ◌^◌, ◌<◌, ◌≤◌, IfErr, IfOk, None, Err, false, string_bytes, vec_len};
-ghost use Rattle.sqlx_text.specs.declared.error.Error.{Error};
-ghost use Rattle.sqlx_traits.specs.Options.{ReadsText};
+ghost use Rattle.std.specs.Prelude.{◌≡◌, ℕ, ◌+◌, ◌*◌, ◌^◌, ◌<◌, ◌≤◌, IfOk, false, string_bytes, vec_len};
 ghost use Rattle.sqlx_crowd.specs.Crowd.{LeavesLog};
-ghost use Rattle.url.specs.Parser.{parse_url};
 
 use crate::text::crowd_text;
 use crate::workers::worker;
@@ -205,6 +202,16 @@ fn crowd_on<
     Ok(Crowd { text, tally: all })
 }
 
+// The options of the crowd's URL, which is one: only memory may be wanting.
+#[tactic(auto, using(crate::proofs::CrowdUrl::reads_crowd))]
+fn crowd_options(alloc: Global) -> Result<AnyConnectOptions, OutOfMemory> {
+    match AnyConnectOptions::parse(alloc, "mem:crowd") {
+        Ok(options) => Ok(options),
+        Err(Error::OutOfMemory) => Err(OutOfMemory),
+        Err(_) => unreachable!(),
+    }
+}
+
 /// A crowd on a new pool of connections to one store in memory, one worker for each outside, the first one client 1.
 pub fn crowd_with<
     H: Ledger + Send + Sync + 'static,
@@ -219,7 +226,7 @@ pub fn crowd_with<
     outs: Vec<X>,
     held: Blank,
     made: Blank,
-) -> Result<Crowd<L>, Error>
+) -> Result<Crowd<L>, OutOfMemory>
     requires workers { (1 ≤ vec_len outs) × (vec_len outs ≤ 16) }
     requires loans { (1 ≤ loans) × (loans ≤ 1000) }
     requires maximum { (1 ≤ maximum) × (maximum ≤ 16) }
@@ -230,7 +237,7 @@ pub fn crowd_with<
     ensures text { IfOk result (λ crowd. LeavesLog maximum (vec_len outs * loans) (string_bytes crowd.text)) }
     ensures tally { IfOk result (λ crowd. crowd.tally ≡ record { parts = 2 ^ 32; loans = vec_len outs * loans }) }
 {
-    let connect = AnyConnectOptions::parse(alloc, "mem:crowd")?;
+    let connect = crowd_options(alloc)?;
     let options = PoolOptions::new().max_connections(maximum);
     let (pool, tally) = options.connect_lazy_with::<
         AnyConnection<SharedMemConnection<R>>,
@@ -238,5 +245,5 @@ pub fn crowd_with<
         H,
         L,
     >(alloc, connect, held, made)?;
-    Ok(crowd_on::<H, L, R, X>(rt, alloc, &pool, loans, outs, tally)?)
+    crowd_on::<H, L, R, X>(rt, alloc, &pool, loans, outs, tally)
 }

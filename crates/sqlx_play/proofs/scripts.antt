@@ -4,5 +4,4 @@ pub mod RunsAdded
 pub mod Lines
 pub mod Causes
 pub mod Scripts
-pub mod MadeLemmas
 pub mod Complete

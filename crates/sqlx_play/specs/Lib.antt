@@ -8,6 +8,3 @@ pub mod stage
 pub mod events
 pub mod Causes
 pub mod Plays
-pub mod Commands
-pub mod MadeRuns
-pub mod Program

@@ -1,9 +1,12 @@
-//! The program: plays the script on its standard input, and writes the replies to its standard output.
+//! The program: plays the script on its standard input, or does what its words ask for, and writes to its standard output.
 #![tactic(auto)]
 
-use sqlx_play::{PlayError, StdSink, StdSource, run, status};
-use std::io::BufWriter;
+use sqlx_program::{PlayError, StdSink, StdSource, run, status};
+use std::alloc::Global;
+use std::io::{BufWriter, Input, Print};
 use std::process::ExitCode;
+use std::sync::Wait;
+use std::thread::Threads;
 use std::{env, io};
 
 // Why the words of the command line can't be had: memory was wanting, or one is no text, which is a wrong use.
@@ -29,15 +32,17 @@ fn words(rt: &HostRuntime) -> Result<Vec<String>, PlayError> {
 }
 
 // Runs over the standard input and output. What the buffer holds back at the end is written then; a refusal of that is a write fault too.
-fn run_on(rt: &HostRuntime) -> Result<(), PlayError> {
-    let alloc = rt.alloc();
-    let words = words(rt)?;
+fn run_on<R: Input + Print + Wait + Threads + Copy + Drop + Send + Sync + 'static>(
+    rt: &R,
+    alloc: Global,
+    words: &[String],
+) -> Result<(), PlayError> {
     let Ok(buffer) = BufWriter::new(alloc, io::writer(rt)) else {
         return Err(PlayError::OutOfMemory);
     };
     let mut source = StdSource::new(rt.reader());
     let mut sink = StdSink::new(buffer);
-    let answer = run(alloc, &words, &mut source, &mut sink);
+    let answer = run(rt, alloc, words, &mut source, &mut sink);
     match sink.flush() {
         Ok(()) => answer,
         Err(_) => Err(PlayError::WriteFault),
@@ -45,7 +50,10 @@ fn run_on(rt: &HostRuntime) -> Result<(), PlayError> {
 }
 
 fn main(rt: HostRuntime) -> ExitCode {
-    let answer = run_on(&rt);
+    let answer = match words(&rt) {
+        Ok(words) => run_on(&rt, rt.alloc(), &words),
+        Err(error) => Err(error),
+    };
     if let Err(error) = &answer {
         let _ = eprintln!(rt; "{error}");
     }

@@ -2,6 +2,10 @@
 #![tactic(auto)]
 
 #[cfg(test)]
+mod crowds;
+#[cfg(test)]
 mod made;
 #[cfg(test)]
 mod tables;
+#[cfg(test)]
+mod words;

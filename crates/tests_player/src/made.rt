@@ -1,18 +1,6 @@
 //! The made script by the words of the command line.
-use sqlx_play::{PlayError, SureSink, SureSource, run};
-use std::alloc::Global;
-
-// Runs the program with these words and an empty source.
-fn run_words(alloc: Global, words: &[&str], sink: &mut SureSink) -> Result<(), PlayError> {
-    let mut all = Vec::new(alloc);
-    for word in words {
-        if all.push(String::from_str(alloc, word)?).is_err() {
-            return Err(PlayError::OutOfMemory);
-        }
-    }
-    let mut source = SureSource::new(Vec::new(alloc));
-    run(alloc, &all, &mut source, sink)
-}
+use crate::words::run_words;
+use sqlx_program::{PlayError, SureSink};
 
 #[test]
 fn made_scripts_are_summarized(rt: HostRuntime) -> Result<(), PlayError> {
@@ -35,7 +23,7 @@ fn made_scripts_are_summarized(rt: HostRuntime) -> Result<(), PlayError> {
         ),
     ] {
         let mut sink = SureSink::new(alloc);
-        let answer = run_words(alloc, &["make", lines, seed], &mut sink);
+        let answer = run_words(&rt, alloc, &["make", lines, seed], &mut sink);
         assert!(rt; answer.is_ok(), "make {lines} {seed}");
         assert!(rt; sink.written() == summary.as_bytes(), "make {lines} {seed}");
     }
@@ -55,7 +43,7 @@ fn other_words_are_a_wrong_use(rt: HostRuntime) -> Result<(), PlayError> {
         ["", "4", "1"],
     ] {
         let mut sink = SureSink::new(alloc);
-        let answer = run_words(alloc, &words, &mut sink);
+        let answer = run_words(&rt, alloc, &words, &mut sink);
         assert!(rt;
             answer == Err(PlayError::Usage),
             "{} {} {}",
@@ -66,9 +54,11 @@ fn other_words_are_a_wrong_use(rt: HostRuntime) -> Result<(), PlayError> {
         assert!(rt; sink.written().is_empty());
     }
     let mut sink = SureSink::new(alloc);
-    assert!(rt; run_words(alloc, &["make"], &mut sink) == Err(PlayError::Usage));
-    assert!(rt; run_words(alloc, &["make", "4"], &mut sink) == Err(PlayError::Usage));
-    assert!(rt; run_words(alloc, &["make", "4", "1", "1"], &mut sink) == Err(PlayError::Usage));
+    assert!(rt; run_words(&rt, alloc, &["make"], &mut sink) == Err(PlayError::Usage));
+    assert!(rt; run_words(&rt, alloc, &["make", "4"], &mut sink) == Err(PlayError::Usage));
+    assert!(rt;
+        run_words(&rt, alloc, &["make", "4", "1", "1"], &mut sink) == Err(PlayError::Usage)
+    );
     assert!(rt; sink.written().is_empty());
     Ok(())
 }

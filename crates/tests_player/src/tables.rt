@@ -2,7 +2,9 @@
 ghost use Rattle.std.specs.Prelude.{◌≡◌, ◌≤◌, Some, length};
 ghost use Rattle.sqlx_play.specs.Memory.{left_of, read_faults};
 
-use sqlx_play::{Failed, MemSink, MemSource, PlayError, Source, SureSink, SureSource, run, status};
+use sqlx_program::{
+    Failed, MemSink, MemSource, PlayError, Source, SureSink, SureSource, run, status,
+};
 
 const SCRIPT: &str =
     "pool 1 0 5 - - ----\nask 0 1\npoll 0 1 1 ++++\nask 0 2\npoll 1 2 2 ++++\ngive 2 1 1 ++ 0\npoll 2 2 2 ++++\n";
@@ -65,7 +67,7 @@ fn a_script_is_played_or_stopped_at_its_first_bad_line(rt: HostRuntime) -> Resul
     for cut in 0..script.len() + 1 {
         let mut source = SureSource::new(Vec::from_slice(alloc, &script[..cut])?);
         let mut sink = SureSink::new(alloc);
-        let answer = run(alloc, &[], &mut source, &mut sink);
+        let answer = run(&rt, alloc, &[], &mut source, &mut sink);
         match bad_line_of_cut(script, cut) {
             None => assert!(rt; answer.is_ok(), "cut at {cut}"),
             Some(line) => assert!(rt; answer == Err(PlayError::ScriptLine(line)), "cut at {cut}"),
@@ -73,7 +75,7 @@ fn a_script_is_played_or_stopped_at_its_first_bad_line(rt: HostRuntime) -> Resul
     }
     let mut sink = SureSink::new(alloc);
     let mut source = SureSource::new(Vec::from_slice(alloc, script)?);
-    assert!(rt; run(alloc, &[], &mut source, &mut sink).is_ok());
+    assert!(rt; run(&rt, alloc, &[], &mut source, &mut sink).is_ok());
     assert!(rt; sink.written() == OUTPUT.as_bytes());
     for (count, wanted) in [
         (1_048_577, PlayError::ScriptTooLong),
@@ -82,7 +84,7 @@ fn a_script_is_played_or_stopped_at_its_first_bad_line(rt: HostRuntime) -> Resul
     ] {
         let mut source = SureSource::new(vec![in alloc; b'\n'; count]?);
         let mut sink = SureSink::new(alloc);
-        let answer = run(alloc, &[], &mut source, &mut sink);
+        let answer = run(&rt, alloc, &[], &mut source, &mut sink);
         assert!(rt; answer == Err(wanted), "{count} newlines");
         assert!(rt; sink.written().is_empty(), "{count} newlines");
     }
@@ -96,7 +98,7 @@ fn faults_are_told_where_they_come(rt: HostRuntime) -> Result<(), PlayError> {
     for call in 1..8 {
         let mut source = SureSource::new(Vec::from_slice(alloc, script)?);
         let mut sink = MemSink::new(alloc, Vec::from_slice(alloc, &[call as u64])?);
-        let answer = run(alloc, &[], &mut source, &mut sink);
+        let answer = run(&rt, alloc, &[], &mut source, &mut sink);
         assert!(rt; answer == Err(PlayError::WriteFault), "write {call}");
         assert!(rt; status(&answer) == 6, "write {call}");
         assert!(rt;
@@ -110,7 +112,7 @@ fn faults_are_told_where_they_come(rt: HostRuntime) -> Result<(), PlayError> {
             inner: MemSource::new(Vec::from_slice(alloc, script)?, fails),
         };
         let mut sink = MemSink::new(alloc, Vec::new(alloc));
-        let answer = run(alloc, &[], &mut source, &mut sink);
+        let answer = run(&rt, alloc, &[], &mut source, &mut sink);
         let reads = script.len().div_ceil(7) as u64 + 1;
         if call <= reads {
             assert!(rt; answer == Err(PlayError::ReadFault), "read {call}");

@@ -5,7 +5,8 @@
 mod outcome;
 
 use outcome::outcome;
-use sqlx_play::{SureSink, SureSource, run};
+use sqlx_play::{PlayError, SureSink, SureSource, play};
+use std::alloc::Global;
 use std::{fs, io};
 
 // How many scripts came out as recorded, and how many otherwise.
@@ -25,6 +26,12 @@ impl Tally {
     }
 }
 
+// Plays a script. The pool and the database that it leaves are let go.
+fn played(alloc: Global, source: &mut SureSource, sink: &mut SureSink) -> Result<(), PlayError> {
+    drop(play(alloc, source, sink)?);
+    Ok(())
+}
+
 // Plays a script, and tells a difference from its record.
 fn play_one(
     rt: &HostRuntime,
@@ -38,7 +45,7 @@ fn play_one(
     let replies = fs::read(rt, format!(in alloc; "{folder}/{name}.out")?)?;
     let mut source = SureSource::new(script);
     let mut sink = SureSink::new(alloc);
-    let answer = run(alloc, &[], &mut source, &mut sink);
+    let answer = played(alloc, &mut source, &mut sink);
     let came = outcome(alloc, &answer)?;
     let replies_agree = sink.written() == replies.as_slice();
     let is_same = replies_agree && came.as_str() == wanted;

@@ -5,15 +5,11 @@ ghost use Rattle.sqlx_rules.specs.Output.{output_of};
 ghost use Rattle.sqlx_made.specs.Made.{made_text};
 ghost use Rattle.sqlx_play.specs.Memory.{sure_written};
 ghost use Rattle.sqlx_play.specs.Causes.{TextCause, WrotePart};
-ghost use Rattle.sqlx_play.specs.MadeRuns.{Summarizes, summary_due};
+ghost use Rattle.sqlx_program.specs.MadeRuns.{Summarizes, summary_due};
 ghost use Rattle.sqlx_play.specs.declared.error.PlayError.TheVariants.{OutOfMemory as out_of_memory};
 
-use crate::error::PlayError;
-use crate::io::Sink;
-use crate::memory::{SureSink, SureSource};
-use crate::player::play;
-use crate::pour::write_all;
 use sqlx_made::{made_script, made_summary};
+use sqlx_play::{PlayError, Sink, SureSink, SureSource, play, write_all};
 use std::alloc::Global;
 
 // Plays the made script in memory.

@@ -16,7 +16,7 @@ use Rattle.sqlx_made.proofs.ReplyLines.{is_one, reply_one, report_one}
 use Rattle.sqlx_made.proofs.Valid.{made_is_script}
 use Rattle.sqlx_play.specs.Causes.{Shown, IsSound}
 use Rattle.sqlx_play.specs.Plays.{Plays}
-use Rattle.sqlx_play.specs.MadeRuns.{summary_of, summary_due}
+use Rattle.sqlx_program.specs.MadeRuns.{summary_of, summary_due}
 
 output_lines : (pairs : Pairs) (closing : List ℕ) → is_one closing ≡ true → lines_of (flat_map reply_line pairs ++ line_of closing) ≡ map reply_line pairs ++ line_of closing ∷ []
 unfolding reply_line

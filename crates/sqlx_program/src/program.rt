@@ -1,19 +1,22 @@
 //! What the program does.
 ghost use Rattle.std.specs.Prelude.{◌≡◌, ◌≢◌, ◌≤◌, ◌↔◌, map, string_bytes, IfErr, OnOk, IsErrOf};
-ghost use Rattle.sqlx_play.specs.declared.command.Command.TheVariants.{Play as play_words, Unknown as unknown_words};
-ghost use Rattle.sqlx_play.specs.Commands.{command_of};
+ghost use Rattle.sqlx_program.specs.declared.command.Command.TheVariants.{Play as play_words, Unknown as unknown_words};
+ghost use Rattle.sqlx_program.specs.Commands.{command_of};
 ghost use Rattle.sqlx_play.specs.Causes.{IsComplete, shown};
-ghost use Rattle.sqlx_play.specs.Program.{Ran, RunCause};
+ghost use Rattle.sqlx_program.specs.Program.{Ran, RunCause};
 
 use crate::command::{Command, command_of};
-use crate::error::PlayError;
-use crate::io::{Sink, Source};
+use crate::crowd::crowd;
 use crate::make::make;
-use crate::player::play;
+use sqlx_play::{PlayError, Sink, Source, play};
 use std::alloc::Global;
+use std::sync::Wait;
+use std::thread::Threads;
 
-/// What the program does with the words of its command line: with none it plays the script of the source, and with `make N X` the made script.
-pub fn run<S: Source, K: Sink>(
+/// What the program does with the words of its command line: with none it plays the script of the source, with
+/// `make N X` the made script, and with `crowd W N M` it lets a crowd of threads work. Only with `crowd` may it wait.
+pub fn run<R: Wait + Threads + Copy + Drop + Send + Sync + 'static, S: Source, K: Sink>(
+    rt: &R,
     alloc: Global,
     words: &[String],
     source: &mut S,
@@ -41,6 +44,11 @@ pub fn run<S: Source, K: Sink>(
             Ok(())
         }
         Command::Make { lines, seed } => make(alloc, lines, seed, sink),
+        Command::Crowd {
+            workers,
+            loans,
+            maximum,
+        } => crowd(rt, alloc, workers, loans, maximum, sink),
         Command::Unknown => Err(PlayError::Usage),
     }
 }

@@ -5,9 +5,9 @@ use Rattle.sqlx_made.specs.Made.{made_text}
 use Rattle.std.specs.Io.KnownBytes.{Appends}
 use Rattle.std.proofs.KnownBytes.{Appends-nil}
 use Rattle.sqlx_play.specs.Causes.{TextCause, WrotePart}
-use Rattle.sqlx_play.specs.MadeRuns.{summary_due}
-use Rattle.sqlx_play.proofs.scripts.MadeLemmas.{summary-output, summary-due}
-use Rattle.sqlx_play.proofs.make.make.Goals as goal
+use Rattle.sqlx_program.specs.MadeRuns.{summary_due}
+use Rattle.sqlx_program.proofs.MadeLemmas.{summary-output, summary-due}
+use Rattle.sqlx_program.proofs.make.make.Goals as goal
 
 pub returns-in_err-summary-clause-cause : goal.returns-in_err-summary-clause-cause
 returns-in_err-summary-clause-cause g c =

@@ -2,8 +2,8 @@ use Rattle.std.proofs.Common.{Some, refl, ap, ◌∙◌}
 use Rattle.std.proofs.lemmas.Result.{err_from_is_err_and}
 use Rattle.sqlx_made.specs.Made.{made_text}
 use Rattle.sqlx_made.proofs.Valid.{made_is_script}
-use Rattle.sqlx_play.proofs.scripts.MadeLemmas.{played_is, made_sound}
-use Rattle.sqlx_play.proofs.make.played_made.Goals as goal
+use Rattle.sqlx_program.proofs.MadeLemmas.{played_is, made_sound}
+use Rattle.sqlx_program.proofs.make.played_made.Goals as goal
 
 pub returns-in_err-played-clause-err : goal.returns-in_err-played-clause-err
 returns-in_err-played-clause-err c =
