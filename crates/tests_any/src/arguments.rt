@@ -1,6 +1,7 @@
 //! Rust types as arguments of `Any`, and lists of arguments.
 
-use crate::says::says;
+use crate::samples::{Sample, value_of};
+use crate::says::{says, tells};
 use sqlx_any::*;
 use sqlx_text::{AnyTypeInfoKind, Error, Fault, OutOfMemory};
 use std::alloc::Global;
@@ -256,7 +257,8 @@ fn keeps_the_first_arguments(rt: HostRuntime) -> Result<(), Fail> {
 }
 
 // A copy of a value, with its kind.
-fn copied(alloc: Global, kind: AnyValueKind) -> Result<String, OutOfMemory> {
+fn copied(alloc: Global, sample: Sample) -> Result<String, OutOfMemory> {
+    let kind = value_of(alloc, sample)?;
     let value = AnyValue { kind };
     let copy = value.try_clone(alloc);
     drop(value);
@@ -270,17 +272,17 @@ fn copied(alloc: Global, kind: AnyValueKind) -> Result<String, OutOfMemory> {
 #[test]
 fn copies_values(rt: HostRuntime) -> Result<(), Fail> {
     let alloc = rt.alloc();
-    for (kind, want) in [
-        (AnyValueKind::Null(AnyTypeInfoKind::Text), "Null TEXT, NULL"),
-        (AnyValueKind::Bool(true), "Bool true, BOOLEAN"),
-        (AnyValueKind::SmallInt(-5), "SmallInt -5, SMALLINT"),
-        (AnyValueKind::Integer(5), "Integer 5, INTEGER"),
-        (AnyValueKind::BigInt(7), "BigInt 7, BIGINT"),
-        (cells::text("x"), "Text x, TEXT"),
-        (cells::slice("y"), "TextSlice y, TEXT"),
-        (cells::blob(alloc)?, "Blob [1, 2], BLOB"),
+    for (sample, want) in [
+        (Sample::Null(AnyTypeInfoKind::Text), "Null TEXT, NULL"),
+        (Sample::Flag(true), "Bool true, BOOLEAN"),
+        (Sample::Small(-5), "SmallInt -5, SMALLINT"),
+        (Sample::Whole(5), "Integer 5, INTEGER"),
+        (Sample::Large(7), "BigInt 7, BIGINT"),
+        (Sample::Text("x"), "Text x, TEXT"),
+        (Sample::Slice("y"), "TextSlice y, TEXT"),
+        (Sample::Blob, "Blob [1, 2], BLOB"),
     ] {
-        assert_eq!(rt; copied(alloc, kind)?.as_str(), want);
+        tells(&rt, copied(alloc, sample), want)?;
     }
     Ok(())
 }

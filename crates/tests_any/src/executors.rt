@@ -1,8 +1,8 @@
 //! What each call of an executor gives of the steps that it hands out, and the statements that it prepares.
 
-use crate::says::says;
+use crate::says::{says, tells};
 use sqlx_any::*;
-use sqlx_text::{AnyTypeInfoKind, Error, SqlStr};
+use sqlx_text::{AnyTypeInfoKind, Error, OutOfMemory, SqlStr};
 use std::alloc::Global;
 use std::test::*;
 use tests_backend::StubBackend;
@@ -13,9 +13,11 @@ const BROKEN: &str = "error communicating with database: other error";
 
 const NO_ROW: &str = "no rows returned by a query that expected to return at least one row";
 
-fn of_toy(alloc: Global, call: Call, letters: &str) -> Result<String, Error> {
+fn of_toy(alloc: Global, call: Call, letters: &str) -> Result<String, OutOfMemory> {
     let mut conn = ToyConnection::new(alloc, letters)?;
-    gives::<Toy, ToyConnection, &str>(alloc, call, &mut conn, "SELECT")
+    let given = gives::<Toy, ToyConnection, &str>(alloc, call, &mut conn, "SELECT");
+    drop(conn);
+    given
 }
 
 #[test]
@@ -53,7 +55,7 @@ fn calls_filter_one_list(rt: HostRuntime) -> Result<(), Fail> {
         ),
         (Call::FetchMany, "", ""),
     ] {
-        says(&rt, of_toy(alloc, call, letters), want)?;
+        tells(&rt, of_toy(alloc, call, letters), want)?;
     }
     Ok(())
 }
@@ -62,7 +64,7 @@ fn gives_over<B: AnyConnectionBackend>(
     alloc: Global,
     call: Call,
     conn: &mut AnyConnection<B>,
-) -> Result<String, Error> {
+) -> Result<String, OutOfMemory> {
     gives::<Any<B>, AnyConnection<B>, &str>(alloc, call, conn, "SELECT")
 }
 
@@ -70,7 +72,7 @@ fn of_any(alloc: Global, call: Call, letters: &str) -> Result<String, Error> {
     let mut conn = AnyConnection::new(StubBackend::new(alloc, letters)?);
     let given = gives_over(alloc, call, &mut conn);
     drop(conn);
-    given
+    Ok(given?)
 }
 
 #[test]
@@ -97,26 +99,28 @@ fn a_connection_hands_on_its_backends_list(rt: HostRuntime) -> Result<(), Fail> 
     Ok(())
 }
 
-// How many columns and parameters a statement has, and its text.
-fn told_of(alloc: Global, statement: Result<AnyStatement, Error>) -> Result<String, Error> {
-    let statement = statement?;
-    let columns = statement.columns().len();
-    let parameters = match statement.parameters() {
+// How many parameters are told.
+fn parameters(told: Option<Either<&[AnyTypeInfo], usize>>) -> usize {
+    match told {
         Some(Either::Left(types)) => types.len(),
         Some(Either::Right(count)) => count,
         None => usize::MAX,
-    };
-    let text = format!(in alloc; "{columns} {parameters} {:?}", statement.sql());
-    drop(statement);
-    Ok(text?)
+    }
+}
+
+// How many columns and parameters a statement has, and its text.
+fn told_of(alloc: Global, statement: &AnyStatement) -> Result<String, OutOfMemory> {
+    let columns = statement.columns().len();
+    let parameters = parameters(statement.parameters());
+    Ok(format!(in alloc; "{columns} {parameters} {:?}", statement.sql())?)
 }
 
 // A statement that is prepared for a text as its parameter, or for none.
-fn prepares<B: AnyConnectionBackend>(
+fn prepares<DB: Database<TypeInfo = AnyTypeInfo>, E: Executor<DB>>(
     alloc: Global,
     with: bool,
-    conn: &mut AnyConnection<B>,
-) -> Result<AnyStatement, Error> {
+    conn: &mut E,
+) -> Result<DB::Statement, Error> {
     let sql = SqlStr::from_static("SELECT");
     let kind = AnyTypeInfoKind::Text;
     if with {
@@ -126,11 +130,22 @@ fn prepares<B: AnyConnectionBackend>(
     }
 }
 
+fn prepares_over<B: AnyConnectionBackend>(
+    alloc: Global,
+    with: bool,
+    conn: &mut AnyConnection<B>,
+) -> Result<AnyStatement, Error> {
+    prepares::<Any<B>, AnyConnection<B>>(alloc, with, conn)
+}
+
 fn prepared(alloc: Global, with: bool) -> Result<String, Error> {
     let mut conn = AnyConnection::new(StubBackend::new(alloc, "")?);
-    let statement = prepares(alloc, with, &mut conn);
+    let statement = prepares_over(alloc, with, &mut conn);
     drop(conn);
-    told_of(alloc, statement)
+    let statement = statement?;
+    let told = told_of(alloc, &statement);
+    drop(statement);
+    Ok(told?)
 }
 
 #[test]

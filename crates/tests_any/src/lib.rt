@@ -1,4 +1,4 @@
-//! Tests of `sqlx_traits` and `sqlx_any`, at the toy database and at a stub backend, and queries over that.
+//! Tests of `sqlx_traits` and `sqlx_any`, at the toy database and at a stub backend.
 #![tactic(auto)]
 
 #[cfg(test)]
@@ -20,9 +20,9 @@ mod parts;
 #[cfg(test)]
 mod present;
 #[cfg(test)]
-mod queries;
-#[cfg(test)]
 mod reads;
+#[cfg(test)]
+mod samples;
 #[cfg(test)]
 mod says;
 #[cfg(test)]

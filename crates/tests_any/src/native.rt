@@ -2,6 +2,7 @@
 ghost use Rattle.std.specs.Prelude.{IfOk};
 ghost use Rattle.sqlx_any.specs.Names.{AreBelow};
 
+use crate::samples::{Sample, value_of};
 use crate::says::says;
 use sqlx_any::*;
 use sqlx_text::{AnyTypeInfoKind, Error, OutOfMemory, SqlStr, UStr};
@@ -9,7 +10,7 @@ use std::alloc::Global;
 use std::test::*;
 use tests_backend::{StubBackend, cells};
 use tests_database::letters::{columns_of, row_of, types_of};
-use tests_database::{Toy, ToyColumn, ToyStatement, ToyType};
+use tests_database::{Toy, ToyColumn, ToyStatement, ToyType, ToyValue};
 
 const UNMAPPED: &str = "error in Any driver mapping: no kind for type POINT";
 
@@ -68,9 +69,18 @@ fn names(alloc: Global, position: usize, columns: usize) -> Result<ColumnNames, 
 fn mapped(alloc: Global, letters: &str) -> Result<String, Error> {
     let row = row_of(alloc, letters)?;
     let names = names(alloc, 1, row.len())?;
-    let form = AnyRow::map_from::<Toy>(alloc, &row, names)?;
+    let form = AnyRow::map_from::<Toy>(alloc, &row, names);
+    drop(row);
+    let form = form?;
+    let told = row_told(alloc, &form);
+    drop(form);
+    told
+}
+
+// A row of `Any`: its values, its columns, and the one that is called `second`.
+fn row_told(alloc: Global, form: &AnyRow) -> Result<String, Error> {
     let mut line = String::new(alloc);
-    put_values(alloc, &mut line, &form)?;
+    put_values(alloc, &mut line, form)?;
     put_columns(alloc, &mut line, form.columns())?;
     put_second(alloc, &mut line, form.try_column(alloc, "second"))?;
     Ok(line)
@@ -171,18 +181,47 @@ fn nullable(alloc: Global) -> Result<Vec<Option<bool>>, OutOfMemory> {
     Ok(vec![in alloc; Some(true), None]?)
 }
 
-// The form of what is told of two columns by letters, of which the first may be null, and of parameters.
-fn description(
+// What is told of parameters: their types by letters, their count, or nothing.
+#[derive(Clone, Copy)]
+enum Told {
+    Types(&'static str),
+    Count(usize),
+    Nothing,
+}
+
+fn parameters_of(
     alloc: Global,
-    letters: &str,
-    parameters: Option<Either<Vec<ToyType>, usize>>,
-) -> Result<String, Error> {
-    let own = Describe::<Toy> {
+    told: Told,
+) -> Result<Option<Either<Vec<ToyType>, usize>>, OutOfMemory> {
+    match told {
+        Told::Types(letters) => Ok(Some(Either::Left(types_of(alloc, letters)?))),
+        Told::Count(count) => Ok(Some(Either::Right(count))),
+        Told::Nothing => Ok(None),
+    }
+}
+
+// What is told of two columns by letters, of which the first may be null, and of parameters.
+fn described(alloc: Global, letters: &str, told: Told) -> Result<Describe<Toy>, OutOfMemory> {
+    Ok(Describe::<Toy> {
         columns: columns_of(alloc, letters)?,
-        parameters,
+        parameters: parameters_of(alloc, told)?,
         nullable: nullable(alloc)?,
-    };
+    })
+}
+
+// The form of that.
+fn description(alloc: Global, letters: &str, told: Told) -> Result<String, Error> {
+    let own = described(alloc, letters, told)?;
     let form = own.try_into_any::<StubBackend>(alloc)?;
+    let line = description_told(alloc, &form);
+    drop(form);
+    Ok(line?)
+}
+
+fn description_told<B: AnyConnectionBackend>(
+    alloc: Global,
+    form: &Describe<Any<B>>,
+) -> Result<String, OutOfMemory> {
     let mut line = String::new(alloc);
     put_columns(alloc, &mut line, form.columns())?;
     put_parameters(alloc, &mut line, form.parameters())?;
@@ -194,30 +233,26 @@ fn description(
 
 #[test]
 fn maps_descriptions(rt: HostRuntime) -> Result<(), Fail> {
-    let alloc = rt.alloc();
-    let types = types_of(alloc, "y")?;
-    let points = types_of(alloc, "p")?;
-    for (letters, parameters, want) in [
+    for (letters, told, want) in [
         (
             "lt",
-            Some(Either::Left(types)),
+            Told::Types("y"),
             "0 large BIGINT|1 text TEXT|[AnyTypeInfo { kind: Blob }] [Some(true), None, None]",
         ),
         (
             "tl",
-            Some(Either::Right(3)),
+            Told::Count(3),
             "0 text TEXT|1 large BIGINT|3 [Some(true), None, None]",
         ),
         (
             "lt",
-            None,
+            Told::Nothing,
             "0 large BIGINT|1 text TEXT|untold [Some(true), None, None]",
         ),
-        ("lp", None, UNMAPPED),
-        ("lt", Some(Either::Left(points)), UNMAPPED),
+        ("lp", Told::Nothing, UNMAPPED),
+        ("lt", Told::Types("p"), UNMAPPED),
     ] {
-        let answer = description(alloc, letters, parameters);
-        says(&rt, answer, want)?;
+        says(&rt, description(rt.alloc(), letters, told), want)?;
     }
     Ok(())
 }
@@ -246,17 +281,18 @@ fn maps_columns(rt: HostRuntime) -> Result<(), Fail> {
     Ok(())
 }
 
-// What the toy database takes of two arguments.
-fn taken(alloc: Global, first: AnyValueKind, second: AnyValueKind) -> Result<String, Error> {
+// Two arguments.
+fn two(alloc: Global, first: Sample, second: Sample) -> Result<AnyArguments, OutOfMemory> {
     let mut values = AnyArgumentBuffer::new(alloc);
-    values.push(first)?;
-    values.push(second)?;
-    let own = match (AnyArguments { values }).convert_into::<Toy>(alloc) {
-        Ok(own) => own,
-        Err(fault) => return Err(Error::encode(fault)),
-    };
+    values.push(value_of(alloc, first)?)?;
+    values.push(value_of(alloc, second)?)?;
+    Ok(AnyArguments { values })
+}
+
+// Arguments with their kinds, a bar behind each.
+fn listed(alloc: Global, values: &[ToyValue]) -> Result<String, OutOfMemory> {
     let mut line = String::new(alloc);
-    for value in own.list.as_slice() {
+    for value in values {
         let kind = value.kind;
         let text = format!(in alloc; "{value} {kind:?}|")?;
         line.push_str(&text)?;
@@ -264,28 +300,40 @@ fn taken(alloc: Global, first: AnyValueKind, second: AnyValueKind) -> Result<Str
     Ok(line)
 }
 
+// What the toy database takes of two arguments.
+fn taken(alloc: Global, first: Sample, second: Sample) -> Result<String, Error> {
+    match two(alloc, first, second)?.convert_into::<Toy>(alloc) {
+        Ok(own) => {
+            let line = listed(alloc, own.list.as_slice());
+            drop(own);
+            Ok(line?)
+        }
+        Err(fault) => Err(Error::encode(fault)),
+    }
+}
+
 #[test]
 fn hands_on_arguments(rt: HostRuntime) -> Result<(), Fail> {
     let alloc = rt.alloc();
     for (first, second, want) in [
         (
-            AnyValueKind::BigInt(5),
-            cells::text("x"),
+            Sample::Large(5),
+            Sample::Text("x"),
             "5 Some(BigInt)|x Some(Text)|",
         ),
         (
-            AnyValueKind::SmallInt(1),
-            AnyValueKind::Integer(-2),
+            Sample::Small(1),
+            Sample::Whole(-2),
             "1 Some(SmallInt)|-2 Some(Integer)|",
         ),
         (
-            cells::slice("y"),
-            cells::blob(alloc)?,
+            Sample::Slice("y"),
+            Sample::Blob,
             "y Some(Text)|[1, 2] Some(Blob)|",
         ),
         (
-            AnyValueKind::Integer(1),
-            AnyValueKind::Bool(true),
+            Sample::Whole(1),
+            Sample::Flag(true),
             "error occurred while encoding a value: out of range integral type conversion attempted",
         ),
     ] {
@@ -312,7 +360,7 @@ fn hands_on_nulls(rt: HostRuntime) -> Result<(), Fail> {
         (AnyTypeInfoKind::Blob, "null Some(Blob)|7 Some(BigInt)|"),
         (AnyTypeInfoKind::Null, "null Some(Integer)|7 Some(BigInt)|"),
     ] {
-        let answer = taken(alloc, AnyValueKind::Null(kind), AnyValueKind::BigInt(7));
+        let answer = taken(alloc, Sample::Null(kind), Sample::Large(7));
         says(&rt, answer, want)?;
     }
     Ok(())

@@ -213,26 +213,48 @@ fn copied(alloc: Global, statement: Result<AnyStatement, Error>) -> Result<Strin
     Ok(format!(in alloc; "{parameters} {text}")?)
 }
 
+// What is told of parameters: one type, their count, or nothing.
+#[derive(Clone, Copy)]
+enum Told {
+    Type(AnyTypeInfoKind),
+    Count(usize),
+    Nothing,
+}
+
+fn parameters_of(
+    alloc: Global,
+    told: Told,
+) -> Result<Option<Either<Vec<AnyTypeInfo>, usize>>, OutOfMemory> {
+    match told {
+        Told::Type(kind) => {
+            let mut types = Vec::new(alloc);
+            cells::keep(&mut types, AnyTypeInfo { kind })?;
+            Ok(Some(Either::Left(types)))
+        }
+        Told::Count(count) => Ok(Some(Either::Right(count))),
+        Told::Nothing => Ok(None),
+    }
+}
+
 #[test]
 fn statements_fit(rt: HostRuntime) -> Result<(), Fail> {
     let alloc = rt.alloc();
-    let types = vec![in alloc;
-        AnyTypeInfo {
-            kind: AnyTypeInfoKind::Bool
-        },
-    ]?;
-    for (parameters, position, want) in [
+    for (told, position, want) in [
         (
-            Some(Either::Left(types)),
+            Told::Type(AnyTypeInfoKind::Bool),
             1,
             "[AnyTypeInfo { kind: Bool }] SqlStr { text: \"SELECT\" }",
         ),
-        (Some(Either::Right(2)), 1, "2 SqlStr { text: \"SELECT\" }"),
-        (None, 1, "untold SqlStr { text: \"SELECT\" }"),
-        (None, 2, "a statement names no column past its own"),
+        (Told::Count(2), 1, "2 SqlStr { text: \"SELECT\" }"),
+        (Told::Nothing, 1, "untold SqlStr { text: \"SELECT\" }"),
+        (Told::Nothing, 2, "a statement names no column past its own"),
     ] {
-        let answer = copied(alloc, statement(alloc, parameters, position));
-        says(&rt, answer, want)?;
+        let parameters = parameters_of(alloc, told)?;
+        says(
+            &rt,
+            copied(alloc, statement(alloc, parameters, position)),
+            want,
+        )?;
     }
     Ok(())
 }

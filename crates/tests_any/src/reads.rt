@@ -1,6 +1,7 @@
 //! Which Rust types read a value of `Any` of each kind, and what they read.
 
 use crate::present::Present;
+use crate::samples::{Sample, value_of};
 use crate::says::says;
 use sqlx_any::*;
 use sqlx_text::{Error, OutOfMemory};
@@ -42,47 +43,48 @@ fn texts(alloc: Global, row: &AnyRow, line: &mut String) -> Result<(), OutOfMemo
     read_as::<Vec<u8>>(alloc, row, "Vec<u8>", line)
 }
 
-// The types that read a value, and what they read.
-fn readers(alloc: Global, kind: AnyValueKind) -> Result<String, Error> {
-    let row = cells::single(alloc, kind)?;
+// The types that read a row's one value, and what they read.
+fn readers_of(alloc: Global, row: &AnyRow) -> Result<String, OutOfMemory> {
     let mut line = String::new(alloc);
-    numbers(alloc, &row, &mut line)?;
-    texts(alloc, &row, &mut line)?;
+    numbers(alloc, row, &mut line)?;
+    texts(alloc, row, &mut line)?;
     Ok(line)
+}
+
+// The same of a sample.
+fn readers(alloc: Global, sample: Sample) -> Result<String, Error> {
+    let row = cells::single(alloc, value_of(alloc, sample)?)?;
+    let line = readers_of(alloc, &row);
+    drop(row);
+    Ok(line?)
 }
 
 #[test]
 fn each_kind_has_its_readers(rt: HostRuntime) -> Result<(), Fail> {
     let alloc = rt.alloc();
-    for (kind, want) in [
-        (AnyValueKind::Null(AnyTypeInfoKind::BigInt), ""),
-        (AnyValueKind::Bool(true), "bool true|"),
-        (AnyValueKind::SmallInt(-5), "i16 -5|i32 -5|i64 -5|"),
+    for (sample, want) in [
+        (Sample::Null(AnyTypeInfoKind::BigInt), ""),
+        (Sample::Flag(true), "bool true|"),
+        (Sample::Small(-5), "i16 -5|i32 -5|i64 -5|"),
+        (Sample::Whole(-32_768), "i16 -32768|i32 -32768|i64 -32768|"),
+        (Sample::Whole(-32_769), "i32 -32769|i64 -32769|"),
+        (Sample::Large(32_767), "i16 32767|i32 32767|i64 32767|"),
+        (Sample::Large(32_768), "i32 32768|i64 32768|"),
         (
-            AnyValueKind::Integer(-32_768),
-            "i16 -32768|i32 -32768|i64 -32768|",
-        ),
-        (AnyValueKind::Integer(-32_769), "i32 -32769|i64 -32769|"),
-        (
-            AnyValueKind::BigInt(32_767),
-            "i16 32767|i32 32767|i64 32767|",
-        ),
-        (AnyValueKind::BigInt(32_768), "i32 32768|i64 32768|"),
-        (
-            AnyValueKind::BigInt(2_147_483_647),
+            Sample::Large(2_147_483_647),
             "i32 2147483647|i64 2147483647|",
         ),
-        (AnyValueKind::BigInt(2_147_483_648), "i64 2147483648|"),
+        (Sample::Large(2_147_483_648), "i64 2147483648|"),
         (
-            AnyValueKind::BigInt(-2_147_483_648),
+            Sample::Large(-2_147_483_648),
             "i32 -2147483648|i64 -2147483648|",
         ),
-        (AnyValueKind::BigInt(-2_147_483_649), "i64 -2147483649|"),
-        (cells::text("5"), "&str \"5\"|String \"5\"|"),
-        (cells::slice("5"), "&str \"5\"|String \"5\"|"),
-        (cells::blob(alloc)?, "&[u8] [1, 2]|Vec<u8> [1, 2]|"),
+        (Sample::Large(-2_147_483_649), "i64 -2147483649|"),
+        (Sample::Text("5"), "&str \"5\"|String \"5\"|"),
+        (Sample::Slice("5"), "&str \"5\"|String \"5\"|"),
+        (Sample::Blob, "&[u8] [1, 2]|Vec<u8> [1, 2]|"),
     ] {
-        says(&rt, readers(alloc, kind), want)?;
+        says(&rt, readers(alloc, sample), want)?;
     }
     Ok(())
 }
@@ -91,23 +93,48 @@ fn each_kind_has_its_readers(rt: HostRuntime) -> Result<(), Fail> {
 fn option<'r, T: AnyRead<'r> + Debug + Drop>(
     alloc: Global,
     row: &'r AnyRow,
-) -> Result<String, Error> {
-    Ok(shown(alloc, row.try_get::<Option<T>, usize>(alloc, 0))?)
+) -> Result<String, OutOfMemory> {
+    shown(alloc, row.try_get::<Option<T>, usize>(alloc, 0))
+}
+
+// A value, read as an option of a number and as one of a text.
+fn options(alloc: Global, sample: Sample) -> Result<String, Error> {
+    let row = cells::single(alloc, value_of(alloc, sample)?)?;
+    let number = option::<i32>(alloc, &row);
+    let text = option::<&str>(alloc, &row);
+    drop(row);
+    let (number, text) = (number?, text?);
+    Ok(format!(in alloc; "{number}; {text}")?)
 }
 
 #[test]
 fn reads_options(rt: HostRuntime) -> Result<(), Fail> {
+    let column = "error occurred while decoding column 0: mismatched types; Rust type";
     let alloc = rt.alloc();
-    let null = cells::single(alloc, AnyValueKind::Null(AnyTypeInfoKind::Text))?;
-    let number = cells::single(alloc, AnyValueKind::BigInt(5))?;
-    let text = cells::single(alloc, cells::text("x"))?;
-    let mismatch =
-        "error occurred while decoding column 0: mismatched types; Rust type `i32` is not compatible with SQL type `TEXT`";
-    says(&rt, option::<i32>(alloc, &null), "None")?;
-    says(&rt, option::<i32>(alloc, &number), "Some(5)")?;
-    says(&rt, option::<&str>(alloc, &null), "None")?;
-    says(&rt, option::<&str>(alloc, &text), "Some(\"x\")")?;
-    says(&rt, option::<i32>(alloc, &text), mismatch)
+    let number = format!(in alloc;
+        "Some(5); {column} `&str` is not compatible with SQL type `BIGINT`"
+    )?;
+    let text = format!(in alloc;
+        "{column} `i32` is not compatible with SQL type `TEXT`; Some(\"x\")"
+    )?;
+    for (sample, want) in [
+        (Sample::Null(AnyTypeInfoKind::Text), "None; None"),
+        (Sample::Large(5), number.as_str()),
+        (Sample::Text("x"), text.as_str()),
+    ] {
+        says(&rt, options(alloc, sample), want)?;
+    }
+    Ok(())
+}
+
+// What a type makes of a value alone: checked and unchecked.
+fn alone<'r, T: AnyRead<'r> + Debug + Drop>(
+    alloc: Global,
+    value: &'r AnyValue,
+) -> Result<String, OutOfMemory> {
+    let checked = shown(alloc, value.try_decode::<T>(alloc))?;
+    let unchecked = shown(alloc, value.try_decode_unchecked::<T>(alloc))?;
+    Ok(format!(in alloc; "{checked}; {unchecked}")?)
 }
 
 // What a type makes of a row's one value: checked by a name, unchecked, and checked and unchecked alone.
@@ -117,10 +144,18 @@ fn inherent<'r, T: AnyRead<'r> + Debug + Drop>(
 ) -> Result<String, Error> {
     let named = shown(alloc, row.try_get::<T, &str>(alloc, "what"))?;
     let unchecked = shown(alloc, row.try_get_unchecked::<T, usize>(alloc, 0))?;
-    let value = row.try_get_raw(alloc, 0usize)?;
-    let alone = shown(alloc, value.try_decode::<T>(alloc))?;
-    let unchecked_alone = shown(alloc, value.try_decode_unchecked::<T>(alloc))?;
-    Ok(format!(in alloc; "{named}; {unchecked}; {alone}; {unchecked_alone}")?)
+    let alone = alone::<T>(alloc, row.try_get_raw(alloc, 0usize)?)?;
+    Ok(format!(in alloc; "{named}; {unchecked}; {alone}")?)
+}
+
+// What a type makes of a value alone by the calls of a driver's values.
+fn alone_by_traits<DB: Database, T: DecodeOwned<DB> + SqlType<DB> + Debug + Drop>(
+    alloc: Global,
+    value: &DB::Value,
+) -> Result<String, OutOfMemory> {
+    let checked = shown(alloc, value.try_decode::<T>(alloc))?;
+    let unchecked = shown(alloc, value.try_decode_unchecked::<T>(alloc))?;
+    Ok(format!(in alloc; "{checked}; {unchecked}")?)
 }
 
 // The same by the calls of a driver's rows and values.
@@ -134,32 +169,17 @@ where
 {
     let named = shown(alloc, row.try_get::<T, &'static str>(alloc, "what"))?;
     let unchecked = shown(alloc, row.try_get_unchecked::<T, usize>(alloc, 0))?;
-    let value = row.try_get_raw(alloc, 0usize)?;
-    let alone = shown(alloc, value.try_decode::<T>(alloc))?;
-    let unchecked_alone = shown(alloc, value.try_decode_unchecked::<T>(alloc))?;
-    Ok(format!(in alloc; "{named}; {unchecked}; {alone}; {unchecked_alone}")?)
+    let alone = alone_by_traits::<DB, T>(alloc, row.try_get_raw(alloc, 0usize)?)?;
+    Ok(format!(in alloc; "{named}; {unchecked}; {alone}")?)
 }
 
 fn small_by_traits<B: AnyConnectionBackend>(alloc: Global, row: &AnyRow) -> Result<String, Error> {
     by_traits::<Any<B>, i16>(alloc, row)
 }
 
-// A value that isn't read as an `i16`.
-#[derive(Clone, Copy)]
-enum Unread {
-    TooLarge,
-    Null,
-    Text,
-}
-
-// What both ways of calls tell of it.
-fn refusals(alloc: Global, unread: Unread) -> Result<(String, String), Error> {
-    let kind = match unread {
-        Unread::TooLarge => AnyValueKind::BigInt(70_000),
-        Unread::Null => AnyValueKind::Null(AnyTypeInfoKind::Text),
-        Unread::Text => cells::text("5"),
-    };
-    let row = cells::single(alloc, kind)?;
+// What both ways of calls tell of a value as an `i16`.
+fn refusals(alloc: Global, sample: Sample) -> Result<(String, String), Error> {
+    let row = cells::single(alloc, value_of(alloc, sample)?)?;
     let inherent = inherent::<i16>(alloc, &row);
     let by_traits = small_by_traits::<StubBackend>(alloc, &row);
     drop(row);
@@ -184,18 +204,18 @@ fn wanted(
 fn tells_why_a_value_is_not_read(rt: HostRuntime) -> Result<(), Fail> {
     let range = "out of range integral type conversion attempted";
     let null = "expected SMALLINT, got NULL";
-    for (unread, in_row, alone, unchecked) in [
-        (Unread::TooLarge, range, range, range),
-        (Unread::Null, null, null, null),
+    for (sample, in_row, alone, unchecked) in [
+        (Sample::Large(70_000), range, range, range),
+        (Sample::Null(AnyTypeInfoKind::Text), null, null, null),
         (
-            Unread::Text,
+            Sample::Text("5"),
             "mismatched types; Rust type `i16` is not compatible with SQL type `TEXT`",
             "mismatched types; Rust type `i16` (as SQL type `SMALLINT`) is not compatible with SQL type `TEXT`",
             "expected SMALLINT, got TEXT",
         ),
     ] {
         let want = wanted(rt.alloc(), in_row, alone, unchecked)?;
-        let (inherent, by_traits) = refusals(rt.alloc(), unread)?;
+        let (inherent, by_traits) = refusals(rt.alloc(), sample)?;
         assert_eq!(rt; inherent.as_str(), want.as_str());
         assert_eq!(rt; by_traits.as_str(), want.as_str());
     }

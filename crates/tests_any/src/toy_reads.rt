@@ -1,31 +1,62 @@
 //! Reads of a driver's rows, values and columns, at the toy database.
 
 use crate::present::Present;
-use crate::says::says;
+use crate::says::{says, tells};
 use sqlx_text::{Error, OutOfMemory, SqlStr};
 use sqlx_traits::*;
 use std::alloc::Global;
 use std::test::*;
-use tests_database::answers::shown;
+use tests_database::answers::{refusal, shown};
 use tests_database::letters::{columns_of, row_of, single};
 use tests_database::{Toy, ToyRow, ToyStatement};
 
-// The text at an index, lent and owned, checked and unchecked.
-fn texts<I: ColumnIndex<ToyRow> + Drop>(
+// The text at an index, lent, checked and unchecked.
+fn lent<'r, DB: Database, I: ColumnIndex<DB::Row>>(
     alloc: Global,
-    row: &ToyRow,
-    index: I,
-) -> Result<String, Error> {
-    let lent = reads::try_get::<Toy, &str, &I>(alloc, row, &index);
-    let lent = shown(alloc, lent)?;
-    let unchecked = reads::try_get_unchecked::<Toy, &str, &I>(alloc, row, &index);
+    row: &'r DB::Row,
+    index: &I,
+) -> Result<String, OutOfMemory>
+where
+    DB::Value: 'r,
+    &'r str: Decode<'r, DB> + SqlType<DB>,
+{
+    let checked = reads::try_get::<DB, &'r str, &I>(alloc, row, index);
+    let checked = shown(alloc, checked)?;
+    let unchecked = reads::try_get_unchecked::<DB, &'r str, &I>(alloc, row, index);
     let unchecked = shown(alloc, unchecked)?;
-    let owned = shown(alloc, row.try_get::<String, &I>(alloc, &index))?;
-    let option = shown(
-        alloc,
-        row.try_get_unchecked::<Option<String>, I>(alloc, index),
-    )?;
-    Ok(format!(in alloc; "{lent}; {unchecked}; {owned}; {option}")?)
+    Ok(format!(in alloc; "{checked}; {unchecked}")?)
+}
+
+// The same, owned.
+fn owned<DB: Database, I: ColumnIndex<DB::Row> + Drop>(
+    alloc: Global,
+    row: &DB::Row,
+    index: I,
+) -> Result<String, OutOfMemory>
+where
+    String: DecodeOwned<DB> + SqlType<DB>,
+{
+    let checked = shown(alloc, row.try_get::<String, &I>(alloc, &index))?;
+    let unchecked = row.try_get_unchecked::<Option<String>, I>(alloc, index);
+    let unchecked = shown(alloc, unchecked)?;
+    Ok(format!(in alloc; "{checked}; {unchecked}")?)
+}
+
+// The same in both ways.
+fn texts<'r, DB: Database, I: ColumnIndex<DB::Row> + Drop>(
+    alloc: Global,
+    row: &'r DB::Row,
+    index: I,
+) -> Result<String, OutOfMemory>
+where
+    DB::Value: 'r,
+    &'r str: Decode<'r, DB> + SqlType<DB>,
+    String: DecodeOwned<DB> + SqlType<DB>,
+{
+    let lent = lent::<DB, I>(alloc, row, &index);
+    let owned = owned::<DB, I>(alloc, row, index);
+    let (lent, owned) = (lent?, owned?);
+    Ok(format!(in alloc; "{lent}; {owned}")?)
 }
 
 #[test]
@@ -49,23 +80,51 @@ fn reads_texts(rt: HostRuntime) -> Result<(), Fail> {
         ("flag", flags.as_str()),
         ("when", missing.as_str()),
     ] {
-        says(&rt, texts::<&str>(alloc, &row, name), want)?;
+        tells(&rt, texts::<Toy, &str>(alloc, &row, name), want)?;
     }
     let past = "column index out of bounds: the len is 3, but the index is 3";
     let past = format!(in alloc; "{past}; {past}; {past}; {past}")?;
-    says(&rt, texts::<usize>(alloc, &row, 3), past.as_str())
+    tells(&rt, texts::<Toy, usize>(alloc, &row, 3), past.as_str())
 }
 
-// A value alone, lent and owned, checked and unchecked.
-fn decoded(alloc: Global, letter: char) -> Result<String, Error> {
-    let row = single(alloc, letter)?;
-    let value = row.try_get_raw(alloc, 0usize)?;
-    let lent = shown(alloc, reads::try_decode::<Toy, &str>(alloc, value))?;
-    let unchecked = reads::try_decode_unchecked::<Toy, Option<&str>>(alloc, value);
+// A value alone, lent, checked and unchecked.
+fn lent_value<'r, DB: Database>(alloc: Global, value: &'r DB::Value) -> Result<String, OutOfMemory>
+where
+    &'r str: Decode<'r, DB> + SqlType<DB>,
+{
+    let checked = shown(alloc, reads::try_decode::<DB, &'r str>(alloc, value))?;
+    let unchecked = reads::try_decode_unchecked::<DB, Option<&'r str>>(alloc, value);
     let unchecked = shown(alloc, unchecked)?;
-    let owned = shown(alloc, value.try_decode::<String>(alloc))?;
-    let owned_unchecked = shown(alloc, value.try_decode_unchecked::<String>(alloc))?;
-    Ok(format!(in alloc; "{lent}; {unchecked}; {owned}; {owned_unchecked}")?)
+    Ok(format!(in alloc; "{checked}; {unchecked}")?)
+}
+
+// The same, owned.
+fn owned_value<DB: Database>(alloc: Global, value: &DB::Value) -> Result<String, OutOfMemory>
+where
+    String: DecodeOwned<DB> + SqlType<DB>,
+{
+    let checked = shown(alloc, value.try_decode::<String>(alloc))?;
+    let unchecked = shown(alloc, value.try_decode_unchecked::<String>(alloc))?;
+    Ok(format!(in alloc; "{checked}; {unchecked}")?)
+}
+
+// The first value of a row in both ways.
+fn decoded<'r, DB: Database>(alloc: Global, row: &'r DB::Row) -> Result<String, OutOfMemory>
+where
+    DB::Value: 'r,
+    &'r str: Decode<'r, DB> + SqlType<DB>,
+    String: DecodeOwned<DB> + SqlType<DB>,
+    usize: ColumnIndex<DB::Row>,
+{
+    match row.try_get_raw(alloc, 0usize) {
+        Ok(value) => {
+            let lent = lent_value::<DB>(alloc, value);
+            let owned = owned_value::<DB>(alloc, value);
+            let (lent, owned) = (lent?, owned?);
+            Ok(format!(in alloc; "{lent}; {owned}")?)
+        }
+        Err(error) => refusal(alloc, error),
+    }
 }
 
 #[test]
@@ -79,9 +138,15 @@ fn decodes_values(rt: HostRuntime) -> Result<(), Fail> {
     let numbers = format!(in alloc;
         "{refused} mismatched types; Rust type `&str` {unfit}; {refused} {unread}; {refused} mismatched types; Rust type `String` {unfit}; {refused} {unread}"
     )?;
-    says(&rt, decoded(alloc, 't'), "\"x\"; Some(\"x\"); \"x\"; \"x\"")?;
-    says(&rt, decoded(alloc, 'z'), nulls.as_str())?;
-    says(&rt, decoded(alloc, 'i'), numbers.as_str())
+    for (letter, want) in [
+        ('t', "\"x\"; Some(\"x\"); \"x\"; \"x\""),
+        ('z', nulls.as_str()),
+        ('i', numbers.as_str()),
+    ] {
+        let row = single(alloc, letter)?;
+        tells(&rt, decoded::<Toy>(alloc, &row), want)?;
+    }
+    Ok(())
 }
 
 // The first value by each call that needs to know that it can be read; `None` where there is none.
@@ -143,15 +208,25 @@ fn described<DB: Database>(alloc: Global, column: &DB::Column) -> Result<String,
 }
 
 // The column of a row at a position, as it is tried and as it is known to be there.
-fn in_row(alloc: Global, row: &ToyRow, at: usize) -> Result<String, Error> {
-    let tried = described::<Toy>(alloc, row.try_column(alloc, at)?)?;
-    let known = described::<Toy>(alloc, row.column(alloc, at)?)?;
+fn in_row<DB: Database>(alloc: Global, row: &DB::Row, at: usize) -> Result<String, Error>
+where
+    usize: ColumnIndex<DB::Row>,
+{
+    let tried = described::<DB>(alloc, row.try_column(alloc, at)?)?;
+    let known = described::<DB>(alloc, row.column(alloc, at)?)?;
     Ok(format!(in alloc; "{tried}; {known}")?)
 }
 
-fn in_statement(alloc: Global, statement: &ToyStatement, at: usize) -> Result<String, Error> {
-    let tried = described::<Toy>(alloc, statement.try_column(alloc, at)?)?;
-    let known = described::<Toy>(alloc, statement.column(alloc, at)?)?;
+fn in_statement<DB: Database>(
+    alloc: Global,
+    statement: &DB::Statement,
+    at: usize,
+) -> Result<String, Error>
+where
+    usize: ColumnIndex<DB::Statement>,
+{
+    let tried = described::<DB>(alloc, statement.try_column(alloc, at)?)?;
+    let known = described::<DB>(alloc, statement.column(alloc, at)?)?;
     Ok(format!(in alloc; "{tried}; {known}")?)
 }
 
@@ -172,8 +247,8 @@ fn finds_columns(rt: HostRuntime) -> Result<(), Fail> {
         (0, "0 text TEXT Unknown; 0 text TEXT Unknown"),
         (1, "1 point POINT Unknown; 1 point POINT Unknown"),
     ] {
-        says(&rt, in_row(alloc, &row, at), want)?;
-        says(&rt, in_statement(alloc, &statement, at), want)?;
+        says(&rt, in_row::<Toy>(alloc, &row, at), want)?;
+        says(&rt, in_statement::<Toy>(alloc, &statement, at), want)?;
     }
     Ok(())
 }

@@ -31,23 +31,9 @@ impl StubBackend {
     pub fn new(alloc: Global, letters: &str) -> Result<StubBackend, Error>
         ensures { IfOk result (λ backend. backend.depth ≡ 0) }
     {
-        let mut steps = VecDeque::new(alloc);
-        let mut breaks = false;
-        for letter in letters.chars() {
-            let step = match letter {
-                '!' => {
-                    breaks = true;
-                    continue;
-                }
-                letter => step_of(alloc, letter)?,
-            };
-            if steps.push_back(step).is_err() {
-                return Err(Error::OutOfMemory);
-            }
-        }
         Ok(StubBackend {
-            steps: Some(steps),
-            breaks,
+            steps: Some(steps_of(alloc, letters)?),
+            breaks: letters.ends_with('!'),
             depth: 0,
             faults: 0,
             refuses: false,
@@ -109,6 +95,29 @@ impl StubBackend {
     }
 }
 
+// The steps of letters.
+fn steps_of(
+    alloc: Global,
+    letters: &str,
+) -> Result<VecDeque<Either<AnyQueryResult, AnyRow>>, Error> {
+    let mut steps = VecDeque::new(alloc);
+    for letter in letters.chars() {
+        if letter != '!' {
+            let step = step_of(alloc, letter)?;
+            keep(&mut steps, step)?;
+        }
+    }
+    Ok(steps)
+}
+
+// Puts a step behind the others.
+fn keep(
+    steps: &mut VecDeque<Either<AnyQueryResult, AnyRow>>,
+    step: Either<AnyQueryResult, AnyRow>,
+) -> Result<(), OutOfMemory> {
+    Ok(steps.push_back(step)?)
+}
+
 // The step of a letter.
 fn step_of(alloc: Global, letter: char) -> Result<Either<AnyQueryResult, AnyRow>, Error> {
     match letter.to_digit(10) {
@@ -116,7 +125,10 @@ fn step_of(alloc: Global, letter: char) -> Result<Either<AnyQueryResult, AnyRow>
             rows_affected: u64::from(rows),
             last_insert_id: None,
         })),
-        None => Ok(Either::Right(row_of(alloc, letter)?)),
+        None => match row_of(alloc, letter) {
+            Ok(row) => Ok(Either::Right(row)),
+            Err(error) => Err(error),
+        },
     }
 }
 

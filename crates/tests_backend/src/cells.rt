@@ -3,6 +3,7 @@
 use sqlx_any::*;
 use sqlx_text::{AnyTypeInfoKind, Error, OutOfMemory, UStr};
 use std::alloc::Global;
+use std::fmt::Display;
 
 /// A text.
 pub fn text(text: &'static str) -> AnyValueKind {
@@ -94,20 +95,24 @@ pub fn keep<T: Drop>(list: &mut Vec<T>, item: T) -> Result<(), OutOfMemory> {
 
 /// A value, after the name of its variant.
 pub fn described(alloc: Global, value: &AnyValueKind) -> Result<String, OutOfMemory> {
-    let text = match value {
-        AnyValueKind::Null(kind) => format!(in alloc; "Null {kind}"),
-        AnyValueKind::Bool(b) => format!(in alloc; "Bool {b}"),
-        AnyValueKind::SmallInt(n) => format!(in alloc; "SmallInt {n}"),
-        AnyValueKind::Integer(n) => format!(in alloc; "Integer {n}"),
-        AnyValueKind::BigInt(n) => format!(in alloc; "BigInt {n}"),
-        AnyValueKind::Text(text) => format!(in alloc; "Text {text}"),
-        AnyValueKind::TextSlice(text) => format!(in alloc; "TextSlice {text}"),
-        AnyValueKind::Blob(blob) => {
-            let bytes = blob.as_slice();
-            format!(in alloc; "Blob {bytes:?}")
-        }
-    };
-    Ok(text?)
+    match value {
+        AnyValueKind::Null(kind) => named(alloc, "Null", kind),
+        AnyValueKind::Bool(b) => named(alloc, "Bool", b),
+        AnyValueKind::SmallInt(n) => named(alloc, "SmallInt", n),
+        AnyValueKind::Integer(n) => named(alloc, "Integer", n),
+        AnyValueKind::BigInt(n) => named(alloc, "BigInt", n),
+        AnyValueKind::Text(text) => named(alloc, "Text", text),
+        AnyValueKind::TextSlice(text) => named(alloc, "TextSlice", text),
+        AnyValueKind::Blob(blob) => bytes_described(alloc, blob.as_slice()),
+    }
+}
+
+fn named<T: Display>(alloc: Global, name: &str, value: &T) -> Result<String, OutOfMemory> {
+    Ok(format!(in alloc; "{name} {value}")?)
+}
+
+fn bytes_described(alloc: Global, bytes: &[u8]) -> Result<String, OutOfMemory> {
+    Ok(format!(in alloc; "Blob {bytes:?}")?)
 }
 
 /// The values in their order, a bar behind each.

@@ -1,8 +1,6 @@
-//! For tests: a backend of `Any` that hands out given steps and keeps what it was handed, rows and values of `Any`, and
-//! what a connection answers, whatever its backend.
+//! For tests: a backend of `Any` that hands out given steps and keeps what it was handed, and rows and values of `Any`.
 #![tactic(auto)]
 
-pub mod acts;
 pub mod backend;
 pub mod calls;
 pub mod cells;

@@ -2,7 +2,7 @@
 ghost use Rattle.std.specs.Prelude.{◌≡◌, Bool, IfOk};
 ghost use Rattle.tests_queries.specs.Callers.{RowAppends};
 
-use crate::calls::{Scripted, numbers, ran, ran_read};
+use crate::calls::{Scripted, joined, numbers, ran, ran_read};
 use crate::says::says;
 use sqlx_query::{
     AsRows, AsScalars, FromColumn, FromRow, QueryBuilder, placeholders_are_arguments,
@@ -23,9 +23,18 @@ where
     i64: Encode<'t, DB> + SqlType<DB>,
     ensures { IfOk result (λ builder. builder.built ≡ Bool.false) }
 {
-    let init = init.to_string(alloc)?;
-    let args = numbers::<DB>(alloc, &[9])?;
-    Ok(QueryBuilder::with_arguments(alloc, init, args))
+    let init = text(alloc, init)?;
+    match numbers::<DB>(alloc, &[9]) {
+        Ok(args) => Ok(QueryBuilder::with_arguments(alloc, init, args)),
+        Err(fault) => {
+            drop(init);
+            Err(fault)
+        }
+    }
+}
+
+fn text(alloc: Global, text: &str) -> Result<String, OutOfMemory> {
+    Ok(text.to_string(alloc)?)
 }
 
 // What is asked of the query that is built, and what comes of it.
@@ -38,10 +47,12 @@ where
     DB::QueryResult: Debug,
 {
     if builder.is_built() {
-        return Ok("built".to_string(alloc)?);
+        return text(alloc, "built");
     }
-    let query = builder.build(alloc)?;
-    ran::<DB, E>(alloc, "2", Call::Execute, query)
+    match builder.build(alloc) {
+        Ok(query) => ran::<DB, E>(alloc, "2", Call::Execute, query),
+        Err(want) => Err(want),
+    }
 }
 
 // Pieces by calls that chain.
@@ -91,8 +102,8 @@ where
 }
 
 // So many of two pairs.
-fn two_pairs(alloc: Global, count: usize) -> Result<Vec<(i64, i64)>, OutOfMemory> {
-    let mut pairs = vec![in alloc; (1, 2), (3, 4)]?;
+fn two_pairs<'t>(alloc: Global, count: usize) -> Result<Vec<(i64, &'t str)>, OutOfMemory> {
+    let mut pairs = vec![in alloc; (1, "x"), (2, "y")]?;
     pairs.truncate(count);
     Ok(pairs)
 }
@@ -101,10 +112,11 @@ fn two_pairs(alloc: Global, count: usize) -> Result<Vec<(i64, i64)>, OutOfMemory
 fn values<'t, DB: Database>(
     alloc: Global,
     builder: &mut QueryBuilder<DB>,
-    pairs: Vec<(i64, i64)>,
+    pairs: Vec<(i64, &'t str)>,
 ) -> Result<(), Fault>
 where
     i64: Encode<'t, DB> + SqlType<DB>,
+    &'t str: Encode<'t, DB> + SqlType<DB>,
     requires { builder.old.built ≡ Bool.false }
 {
     builder.push_values(
@@ -124,10 +136,11 @@ where
 fn tuples<'t, DB: Database>(
     alloc: Global,
     builder: &mut QueryBuilder<DB>,
-    pairs: Vec<(i64, i64)>,
+    pairs: Vec<(i64, &'t str)>,
 ) -> Result<(), Fault>
 where
     i64: Encode<'t, DB> + SqlType<DB>,
+    &'t str: Encode<'t, DB> + SqlType<DB>,
     requires { builder.old.built ≡ Bool.false }
 {
     builder.push_tuples(
@@ -149,11 +162,12 @@ where
 fn refused_values<'t, DB: Database>(
     alloc: Global,
     builder: &mut QueryBuilder<DB>,
-    pairs: Vec<(i64, i64)>,
+    pairs: Vec<(i64, &'t str)>,
 ) -> Result<(), Fault>
 where
     bool: Encode<'t, DB> + SqlType<DB>,
     i64: Encode<'t, DB> + SqlType<DB>,
+    &'t str: Encode<'t, DB> + SqlType<DB>,
     requires { builder.old.built ≡ Bool.false }
 {
     builder.try_push_values(
@@ -163,6 +177,7 @@ where
             ensures { RowAppends DB.ArgumentBuffer.count DB.ArgumentBuffer.first DB.Arguments.buffered row.old.parts row.new.parts }
         {
             row.push_bind(alloc, pair.0)?;
+            row.push_bind(alloc, pair.1)?;
             row.push_bind(alloc, true)
         },
     )
@@ -172,11 +187,12 @@ where
 fn refused_tuples<'t, DB: Database>(
     alloc: Global,
     builder: &mut QueryBuilder<DB>,
-    pairs: Vec<(i64, i64)>,
+    pairs: Vec<(i64, &'t str)>,
 ) -> Result<(), Fault>
 where
     bool: Encode<'t, DB> + SqlType<DB>,
     i64: Encode<'t, DB> + SqlType<DB>,
+    &'t str: Encode<'t, DB> + SqlType<DB>,
     requires { builder.old.built ≡ Bool.false }
 {
     builder.try_push_tuples(
@@ -186,6 +202,7 @@ where
             ensures { RowAppends DB.ArgumentBuffer.count DB.ArgumentBuffer.first DB.Arguments.buffered row.old.parts row.new.parts }
         {
             row.push_bind(alloc, pair.0)?;
+            row.push_bind(alloc, pair.1)?;
             row.push_bind(alloc, true)
         },
     )
@@ -193,7 +210,7 @@ where
 
 // What is pushed: pieces, lists of so many pairs, and what is refused.
 #[derive(Clone, Copy)]
-enum Push {
+enum Piece {
     Chained,
     Tried,
     Listed,
@@ -207,7 +224,7 @@ enum Push {
 fn push<'t, DB: Database>(
     alloc: Global,
     builder: &mut QueryBuilder<DB>,
-    push: Push,
+    push: Piece,
 ) -> Result<(), Fault>
 where
     bool: Encode<'t, DB> + SqlType<DB>,
@@ -216,19 +233,19 @@ where
     requires { builder.old.built ≡ Bool.false }
 {
     match push {
-        Push::Chained => chained::<DB>(alloc, builder),
-        Push::Tried => tried::<DB>(alloc, builder),
-        Push::Listed => listed::<DB>(alloc, builder),
-        Push::Values(count) => values::<DB>(alloc, builder, two_pairs(alloc, count)?),
-        Push::Tuples(count) => tuples::<DB>(alloc, builder, two_pairs(alloc, count)?),
-        Push::RefusedValue => builder.try_push_bind(alloc, true),
-        Push::RefusedValues => refused_values::<DB>(alloc, builder, two_pairs(alloc, 2)?),
-        Push::RefusedTuples => refused_tuples::<DB>(alloc, builder, two_pairs(alloc, 2)?),
+        Piece::Chained => chained::<DB>(alloc, builder),
+        Piece::Tried => tried::<DB>(alloc, builder),
+        Piece::Listed => listed::<DB>(alloc, builder),
+        Piece::Values(count) => values::<DB>(alloc, builder, two_pairs(alloc, count)?),
+        Piece::Tuples(count) => tuples::<DB>(alloc, builder, two_pairs(alloc, count)?),
+        Piece::RefusedValue => builder.try_push_bind(alloc, true),
+        Piece::RefusedValues => refused_values::<DB>(alloc, builder, two_pairs(alloc, 2)?),
+        Piece::RefusedTuples => refused_tuples::<DB>(alloc, builder, two_pairs(alloc, 2)?),
     }
 }
 
 // What is said of a push, and what is asked of the query that is built then.
-fn pushed<'t, DB: Database, E: Scripted<DB>>(alloc: Global, what: Push) -> Result<String, Fault>
+fn pushed<'t, DB: Database, E: Scripted<DB>>(alloc: Global, what: Piece) -> Result<String, Fault>
 where
     DB::Arguments: IntoArguments<DB>,
     DB::QueryResult: Debug,
@@ -240,8 +257,7 @@ where
     let answer = push::<DB>(alloc, &mut builder, what);
     let asked = run::<DB, E>(alloc, &mut builder);
     drop(builder);
-    let (answer, asked) = (taken(alloc, answer)?, asked?);
-    Ok(format!(in alloc; "{answer}; {asked}")?)
+    Ok(joined(alloc, taken(alloc, answer), "; ", asked)?)
 }
 
 #[test]
@@ -250,31 +266,31 @@ fn pushes_pieces(rt: HostRuntime) -> Result<(), Fail> {
     let refused =
         "out of range integral type conversion attempted; SELECT $1 kept|9: ToyQueryResult(2)";
     for (push, want) in [
-        (Push::Chained, pieces),
-        (Push::Tried, pieces),
+        (Piece::Chained, pieces),
+        (Piece::Tried, pieces),
         (
-            Push::Listed,
+            Piece::Listed,
             "taken; SELECT $1 IN (a,$2,$3$4) kept|9|5|6|7: ToyQueryResult(2)",
         ),
         (
-            Push::Values(2),
-            "taken; SELECT $1VALUES ($2, $3), ($4, $5) kept|9|1|2|3|4: ToyQueryResult(2)",
+            Piece::Values(2),
+            "taken; SELECT $1VALUES ($2, $3), ($4, $5) kept|9|1|x|2|y: ToyQueryResult(2)",
         ),
         (
-            Push::Values(0),
+            Piece::Values(0),
             "taken; SELECT $1VALUES  kept|9: ToyQueryResult(2)",
         ),
         (
-            Push::Tuples(2),
-            "taken; SELECT $1 ((-$2%, $3), (-$4%, $5))  kept|9|1|2|3|4: ToyQueryResult(2)",
+            Piece::Tuples(2),
+            "taken; SELECT $1 ((-$2%, $3), (-$4%, $5))  kept|9|1|x|2|y: ToyQueryResult(2)",
         ),
         (
-            Push::Tuples(0),
+            Piece::Tuples(0),
             "taken; SELECT $1 ()  kept|9: ToyQueryResult(2)",
         ),
-        (Push::RefusedValue, refused),
-        (Push::RefusedValues, refused),
-        (Push::RefusedTuples, refused),
+        (Piece::RefusedValue, refused),
+        (Piece::RefusedValues, refused),
+        (Piece::RefusedTuples, refused),
     ] {
         let told = pushed::<Toy, ToyConnection>(rt.alloc(), push);
         says(&rt, told, want)?;
@@ -282,79 +298,152 @@ fn pushes_pieces(rt: HostRuntime) -> Result<(), Fail> {
     Ok(())
 }
 
-fn built_as<'t, DB: Database, E: Scripted<DB>, O: FromRow<DB> + Debug + Drop>(
+fn built_as<DB: Database, E: Scripted<DB>, O: FromRow<DB> + Debug + Drop>(
     alloc: Global,
-) -> Result<String, Fault>
+    builder: QueryBuilder<DB>,
+) -> Result<String, OutOfMemory>
 where
     DB::Arguments: IntoArguments<DB>,
     DB::QueryResult: Debug,
-    i64: Encode<'t, DB> + SqlType<DB>,
+    requires { builder.built ≡ Bool.false }
 {
-    let mut builder = started::<DB>(alloc, "SELECT $1")?;
+    let mut builder = builder;
     let query = builder.build_query_as::<O>(alloc);
     drop(builder);
-    Ok(ran_read::<DB, AsRows<O>, E>(alloc, "l", Call::FetchOne, query?)?)
+    match query {
+        Ok(query) => ran_read::<DB, AsRows<O>, E>(alloc, "l", Call::FetchOne, query),
+        Err(want) => Err(want),
+    }
 }
 
-fn built_scalar<'t, DB: Database, E: Scripted<DB>, O: FromColumn<DB> + Debug>(
+fn built_scalar<DB: Database, E: Scripted<DB>, O: FromColumn<DB> + Debug>(
     alloc: Global,
-) -> Result<String, Fault>
+    builder: QueryBuilder<DB>,
+) -> Result<String, OutOfMemory>
 where
     DB::Arguments: IntoArguments<DB>,
     DB::QueryResult: Debug,
-    i64: Encode<'t, DB> + SqlType<DB>,
+    requires { builder.built ≡ Bool.false }
 {
-    let mut builder = started::<DB>(alloc, "SELECT $1")?;
+    let mut builder = builder;
     let query = builder.build_query_scalar::<O>(alloc);
     drop(builder);
-    Ok(ran_read::<DB, AsScalars<O>, E>(alloc, "l", Call::FetchOne, query?)?)
+    match query {
+        Ok(query) => ran_read::<DB, AsScalars<O>, E>(alloc, "l", Call::FetchOne, query),
+        Err(want) => Err(want),
+    }
 }
 
-// A builder without arguments, that is built twice.
-fn built_anew<'t, DB: Database, E: Scripted<DB>>(alloc: Global) -> Result<String, Fault>
+// A builder is run twice, and begun again between.
+fn run_twice<DB: Database, E: Scripted<DB>>(
+    alloc: Global,
+    builder: &mut QueryBuilder<DB>,
+) -> Result<String, OutOfMemory>
 where
     DB::Arguments: IntoArguments<DB>,
     DB::QueryResult: Debug,
-    i64: Encode<'t, DB> + SqlType<DB>,
 {
-    let mut builder = QueryBuilder::<DB>::new(alloc, "SELECT".to_string(alloc)?);
-    let bound = builder.try_push_bind(alloc, 1i64);
-    let first = run::<DB, E>(alloc, &mut builder);
-    let built = builder.is_built();
+    let first = run::<DB, E>(alloc, builder);
+    let between = if builder.is_built() {
+        "; built; "
+    } else {
+        "; "
+    };
     let again = run::<DB, E>(alloc, builder.reset(alloc));
-    let text = builder.into_string();
-    let (bound, first, again) = (taken(alloc, bound)?, first?, again?);
-    Ok(format!(in alloc; "{bound}; {first}; {built}; {again}; {text}")?)
+    joined(alloc, first, between, again)
 }
 
-fn texts<'t, DB: Database>(alloc: Global) -> Result<String, Fault>
+// The same of a builder of one argument.
+fn built_anew<DB: Database, E: Scripted<DB>>(
+    alloc: Global,
+    builder: QueryBuilder<DB>,
+) -> Result<String, OutOfMemory>
 where
     DB::Arguments: IntoArguments<DB>,
-    i64: Encode<'t, DB> + SqlType<DB>,
+    DB::QueryResult: Debug,
 {
-    let builder = started::<DB>(alloc, "SELECT $1")?;
+    let mut builder = builder;
+    let twice = run_twice::<DB, E>(alloc, &mut builder);
+    joined(alloc, twice, "; ", Ok(builder.into_string()))
+}
+
+// The text of a builder, in two ways.
+fn texts<DB: Database>(alloc: Global, builder: QueryBuilder<DB>) -> Result<String, OutOfMemory> {
     let sql = builder.sql(alloc);
     let same = builder.into_sql();
     let sql = sql?;
     Ok(format!(in alloc; "{sql:?} {same:?}")?)
 }
 
+// A builder without arguments, to which one is bound.
+fn begun<'t, DB: Database, E: Scripted<DB>>(alloc: Global) -> Result<String, Fault>
+where
+    DB::Arguments: IntoArguments<DB>,
+    DB::QueryResult: Debug,
+    i64: Encode<'t, DB> + SqlType<DB>,
+{
+    let mut builder = QueryBuilder::<DB>::new(alloc, text(alloc, "SELECT")?);
+    match builder.try_push_bind(alloc, 1i64) {
+        Ok(()) => Ok(built_anew::<DB, E>(alloc, builder)?),
+        Err(fault) => {
+            drop(builder);
+            Err(fault)
+        }
+    }
+}
+
+// What a builder of one argument becomes.
+#[derive(Clone, Copy)]
+enum Use {
+    As,
+    Scalar,
+    Anew,
+    Texts,
+}
+
+fn used<
+    't,
+    DB: Database,
+    E: Scripted<DB>,
+    O: FromRow<DB> + Debug + Drop,
+    P: FromColumn<DB> + Debug,
+>(alloc: Global, what: Use) -> Result<String, Fault>
+where
+    DB::Arguments: IntoArguments<DB>,
+    DB::QueryResult: Debug,
+    i64: Encode<'t, DB> + SqlType<DB>,
+{
+    let builder = started::<DB>(alloc, "SELECT $1")?;
+    let told = match what {
+        Use::As => built_as::<DB, E, O>(alloc, builder),
+        Use::Scalar => built_scalar::<DB, E, P>(alloc, builder),
+        Use::Anew => built_anew::<DB, E>(alloc, builder),
+        Use::Texts => texts::<DB>(alloc, builder),
+    };
+    Ok(told?)
+}
+
 #[test]
 fn builds_queries(rt: HostRuntime) -> Result<(), Fail> {
-    let alloc = rt.alloc();
     placeholders_are_arguments::<Toy>();
-    let told = built_as::<Toy, ToyConnection, (i64,)>(alloc);
-    says(&rt, told, "SELECT $1 kept|9: (7,)")?;
-    let told = built_scalar::<Toy, ToyConnection, i64>(alloc);
-    says(&rt, told, "SELECT $1 kept|9: 7")?;
+    for (what, want) in [
+        (Use::As, "SELECT $1 kept|9: (7,)"),
+        (Use::Scalar, "SELECT $1 kept|9: 7"),
+        (
+            Use::Anew,
+            "SELECT $1 kept|9: ToyQueryResult(2); built; SELECT $1 kept: ToyQueryResult(2); SELECT $1",
+        ),
+        (
+            Use::Texts,
+            "SqlStr { text: \"SELECT $1\" } SqlStr { text: \"SELECT $1\" }",
+        ),
+    ] {
+        let told = used::<Toy, ToyConnection, (i64,), i64>(rt.alloc(), what);
+        says(&rt, told, want)?;
+    }
     says(
         &rt,
-        built_anew::<Toy, ToyConnection>(alloc),
-        "taken; SELECT$1 kept|1: ToyQueryResult(2); true; SELECT kept: ToyQueryResult(2); SELECT",
-    )?;
-    says(
-        &rt,
-        texts::<Toy>(alloc),
-        "SqlStr { text: \"SELECT $1\" } SqlStr { text: \"SELECT $1\" }",
+        begun::<Toy, ToyConnection>(rt.alloc()),
+        "SELECT$1 kept|1: ToyQueryResult(2); built; SELECT kept: ToyQueryResult(2); SELECT",
     )
 }

@@ -23,7 +23,7 @@ where
     E: Executor<DB>,
     T: Encode<'t, DB> + SqlType<DB> + Drop,
     DB::Arguments: IntoArguments<DB>,
-    ensures { IfErr result (λ e. e ≡ Error.OutOfMemory) ⊎ FirstOfUnkept _ _ _ _ _ _ ⟦<DB::Arguments as IntoArguments<DB>>⟧.becomes E.runs
+    ensures { IfErr result (λ e. e ≡ Error.OutOfMemory) ⊎ FirstOfUnkept DB.Statement ⟦<DB::Arguments as IntoArguments<DB>>⟧.becomes E.runs
         (codes "SELECT title FROM articles WHERE author = ?") conn.old conn.new result }
 {
     query::<DB, _>(alloc, "SELECT title FROM articles WHERE author = ?")?
@@ -98,14 +98,14 @@ where
     Ok(notes.into_string())
 }
 
-fn two_notes(alloc: Global) -> Result<Vec<(i64, &'static str)>, OutOfMemory> {
+fn two_notes<'t>(alloc: Global) -> Result<Vec<(i64, &'t str)>, OutOfMemory> {
     Ok(vec![in alloc; (1, "x"), (2, "y")]?)
 }
 
-fn inserted<DB: Database>(alloc: Global) -> Result<String, Fault>
+fn inserted<'t, DB: Database>(alloc: Global) -> Result<String, Fault>
 where
-    i64: Encode<'static, DB> + SqlType<DB>,
-    &'static str: Encode<'static, DB> + SqlType<DB>,
+    i64: Encode<'t, DB> + SqlType<DB>,
+    &'t str: Encode<'t, DB> + SqlType<DB>,
 {
     let mut insert = QueryBuilder::<DB>::new(alloc, "INSERT ".to_string(alloc)?);
     with_notes::<DB, i64>(alloc, &mut insert, two_notes(alloc)?)?;

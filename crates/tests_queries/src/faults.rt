@@ -1,6 +1,6 @@
 //! Arguments that can't be encoded: what a query says of them, and that nothing is run. The toy database refuses truth values.
 
-use crate::calls::{Scripted, ran, ran_read};
+use crate::calls::{Scripted, joined, ran, ran_read};
 use crate::says::says;
 use sqlx_query::*;
 use sqlx_text::{Fault, OutOfMemory};
@@ -17,30 +17,30 @@ const FIRST_REFUSED: &str =
 
 // Which arguments a query has; truth values are refused.
 #[derive(Clone, Copy)]
-enum Bound {
+enum Flags {
     FlagNumberFlag,
     NumberFlag,
 }
 
 fn select<'t, DB: Database + 't>(
     alloc: Global,
-    bound: Bound,
+    flags: Flags,
 ) -> Result<Query<'t, DB, DB::Arguments>, OutOfMemory>
 where
     bool: Encode<'t, DB> + SqlType<DB>,
     i64: Encode<'t, DB> + SqlType<DB>,
 {
     let query = query::<DB, _>(alloc, "SELECT")?;
-    Ok(match bound {
-        Bound::FlagNumberFlag => query.bind(alloc, true).bind(alloc, 7i64).bind(alloc, false),
-        Bound::NumberFlag => query.bind(alloc, 7i64).bind(alloc, true),
+    Ok(match flags {
+        Flags::FlagNumberFlag => query.bind(alloc, true).bind(alloc, 7i64).bind(alloc, false),
+        Flags::NumberFlag => query.bind(alloc, 7i64).bind(alloc, true),
     })
 }
 
 fn bound<'t, DB: Database + 't, E: Scripted<DB>>(
     alloc: Global,
     call: Call,
-    bound: Bound,
+    flags: Flags,
 ) -> Result<String, OutOfMemory>
 where
     DB::Arguments: IntoArguments<DB>,
@@ -48,7 +48,10 @@ where
     bool: Encode<'t, DB> + SqlType<DB>,
     i64: Encode<'t, DB> + SqlType<DB>,
 {
-    ran::<DB, E>(alloc, "t2", call, select::<DB>(alloc, bound)?)
+    match select::<DB>(alloc, flags) {
+        Ok(query) => ran::<DB, E>(alloc, "t2", call, query),
+        Err(want) => Err(want),
+    }
 }
 
 #[test]
@@ -56,7 +59,7 @@ fn tells_the_first_fault(rt: HostRuntime) -> Result<(), Fail> {
     let alloc = rt.alloc();
     let alone = format!(in alloc; "{FIRST_REFUSED}|")?;
     let alone = alone.as_str();
-    let first = Bound::FlagNumberFlag;
+    let first = Flags::FlagNumberFlag;
     for (call, refused, want) in [
         (Call::Execute, first, FIRST_REFUSED),
         (Call::FetchAll, first, FIRST_REFUSED),
@@ -66,7 +69,7 @@ fn tells_the_first_fault(rt: HostRuntime) -> Result<(), Fail> {
         (Call::ExecuteMany, first, alone),
         (
             Call::Execute,
-            Bound::NumberFlag,
+            Flags::NumberFlag,
             "nothing: error occurred while encoding a value: Encoding argument $2 failed: out of range integral type conversion attempted",
         ),
     ] {
@@ -87,8 +90,7 @@ where
     let mut query = query::<DB, _>(alloc, "SELECT")?.bind(alloc, 9i64);
     let answer = query.try_bind(alloc, true);
     let asked = ran::<DB, E>(alloc, "t2", Call::Execute, query);
-    let (answer, asked) = (taken(alloc, answer)?, asked?);
-    Ok(format!(in alloc; "{answer}, {asked}")?)
+    joined(alloc, taken(alloc, answer), ", ", asked)
 }
 
 // An argument that is tried behind a refused one.

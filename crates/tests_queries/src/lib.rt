@@ -1,6 +1,8 @@
-//! Tests of `sqlx_from_row` and `sqlx_query`, at the toy database.
+//! Tests of `sqlx_from_row` and `sqlx_query`, at the toy database, and of queries over a backend of `Any`.
 #![tactic(auto)]
 
+#[cfg(test)]
+mod any;
 #[cfg(test)]
 mod builders;
 #[cfg(test)]

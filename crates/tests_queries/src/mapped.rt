@@ -50,7 +50,27 @@ fn select<'t, DB: Database + 't>(alloc: Global) -> Result<Query<'t, DB, DB::Argu
 where
     i64: Encode<'t, DB> + SqlType<DB>,
 {
-    Ok(query::<DB, _>(alloc, "SELECT")?.bind(alloc, 1i64))
+    match query::<DB, _>(alloc, "SELECT") {
+        Ok(query) => Ok(query.bind(alloc, 1i64)),
+        Err(want) => Err(want),
+    }
+}
+
+// The rows of a query, each as its number, or as -1.
+fn mapped_of<DB: Database, E: Scripted<DB>>(
+    alloc: Global,
+    call: Call,
+    letters: &str,
+    query: Query<'_, DB, DB::Arguments>,
+) -> Result<String, OutOfMemory>
+where
+    DB::Arguments: IntoArguments<DB>,
+    DB::QueryResult: Debug,
+    i64: DecodeOwned<DB> + SqlType<DB>,
+    usize: ColumnIndex<DB::Row>,
+{
+    let map = query.map(move |row: DB::Row| shown::<DB>(alloc, row));
+    ran_map::<DB, _, E>(alloc, letters, call, map)
 }
 
 fn mapped<'t, DB: Database + HasStatementCache + 't, E: Scripted<DB>>(
@@ -64,9 +84,26 @@ where
     i64: Encode<'t, DB> + SqlType<DB> + DecodeOwned<DB>,
     usize: ColumnIndex<DB::Row>,
 {
-    let map = select::<DB>(alloc)?
-        .persistent(false)
-        .map(move |row: DB::Row| shown::<DB>(alloc, row));
+    match select::<DB>(alloc) {
+        Ok(query) => mapped_of::<DB, E>(alloc, call, letters, query.persistent(false)),
+        Err(want) => Err(want),
+    }
+}
+
+// The rows of a query, each as its number, or refused.
+fn tried_of<DB: Database, E: Scripted<DB>>(
+    alloc: Global,
+    call: Call,
+    letters: &str,
+    query: Query<'_, DB, DB::Arguments>,
+) -> Result<String, OutOfMemory>
+where
+    DB::Arguments: IntoArguments<DB>,
+    DB::QueryResult: Debug,
+    i64: DecodeOwned<DB> + SqlType<DB>,
+    usize: ColumnIndex<DB::Row>,
+{
+    let map = query.try_map(move |row: DB::Row| number::<DB>(alloc, row));
     ran_map::<DB, _, E>(alloc, letters, call, map)
 }
 
@@ -81,8 +118,10 @@ where
     i64: Encode<'t, DB> + SqlType<DB> + DecodeOwned<DB>,
     usize: ColumnIndex<DB::Row>,
 {
-    let map = select::<DB>(alloc)?.try_map(move |row: DB::Row| number::<DB>(alloc, row));
-    ran_map::<DB, _, E>(alloc, letters, call, map)
+    match select::<DB>(alloc) {
+        Ok(query) => tried_of::<DB, E>(alloc, call, letters, query),
+        Err(want) => Err(want),
+    }
 }
 
 #[test]
@@ -121,6 +160,23 @@ fn a_refused_row_is_the_last(rt: HostRuntime) -> Result<(), Fail> {
     Ok(())
 }
 
+// The rows of a query, each as whether its number is above zero.
+fn mapped_twice_of<DB: Database, E: Scripted<DB>>(
+    alloc: Global,
+    query: Query<'_, DB, DB::Arguments>,
+) -> Result<String, OutOfMemory>
+where
+    DB::Arguments: IntoArguments<DB>,
+    DB::QueryResult: Debug,
+    i64: DecodeOwned<DB> + SqlType<DB>,
+    usize: ColumnIndex<DB::Row>,
+{
+    let map = query
+        .map(move |row: DB::Row| shown::<DB>(alloc, row))
+        .map(|number: i64| number > 0);
+    ran_map::<DB, _, E>(alloc, "lt", Call::FetchAll, map)
+}
+
 fn mapped_twice<'t, DB: Database + HasStatementCache + 't, E: Scripted<DB>>(
     alloc: Global,
 ) -> Result<String, OutOfMemory>
@@ -130,11 +186,27 @@ where
     i64: Encode<'t, DB> + SqlType<DB> + DecodeOwned<DB>,
     usize: ColumnIndex<DB::Row>,
 {
-    let map = select::<DB>(alloc)?
-        .persistent(false)
+    match select::<DB>(alloc) {
+        Ok(query) => mapped_twice_of::<DB, E>(alloc, query.persistent(false)),
+        Err(want) => Err(want),
+    }
+}
+
+// The rows of a query, each as its number, which is refused below zero.
+fn tried_behind_of<DB: Database, E: Scripted<DB>>(
+    alloc: Global,
+    query: Query<'_, DB, DB::Arguments>,
+) -> Result<String, OutOfMemory>
+where
+    DB::Arguments: IntoArguments<DB>,
+    DB::QueryResult: Debug,
+    i64: DecodeOwned<DB> + SqlType<DB>,
+    usize: ColumnIndex<DB::Row>,
+{
+    let map = query
         .map(move |row: DB::Row| shown::<DB>(alloc, row))
-        .map(|number: i64| number > 0);
-    ran_map::<DB, _, E>(alloc, "lt", Call::FetchAll, map)
+        .try_map(|number: i64| whole(number));
+    ran_map::<DB, _, E>(alloc, "lt", Call::Fetch, map)
 }
 
 fn tried_behind<'t, DB: Database + 't, E: Scripted<DB>>(
@@ -146,10 +218,10 @@ where
     i64: Encode<'t, DB> + SqlType<DB> + DecodeOwned<DB>,
     usize: ColumnIndex<DB::Row>,
 {
-    let map = select::<DB>(alloc)?
-        .map(move |row: DB::Row| shown::<DB>(alloc, row))
-        .try_map(|number: i64| whole(number));
-    ran_map::<DB, _, E>(alloc, "lt", Call::Fetch, map)
+    match select::<DB>(alloc) {
+        Ok(query) => tried_behind_of::<DB, E>(alloc, query),
+        Err(want) => Err(want),
+    }
 }
 
 #[test]

@@ -23,9 +23,13 @@ where
     i64: Encode<'t, DB> + SqlType<DB>,
     &'t str: Encode<'t, DB> + SqlType<DB>,
 {
-    let query = query::<DB, _>(alloc, "SELECT")?;
-    let query = query.bind(alloc, 1i64).bind(alloc, "x");
-    ran::<DB, E>(alloc, letters, call, query)
+    match query::<DB, _>(alloc, "SELECT") {
+        Ok(query) => {
+            let query = query.bind(alloc, 1i64).bind(alloc, "x");
+            ran::<DB, E>(alloc, letters, call, query)
+        }
+        Err(want) => Err(want),
+    }
 }
 
 // Statements that are run as they stand.
@@ -37,7 +41,10 @@ fn raw<DB: Database, E: Scripted<DB>>(
 where
     DB::QueryResult: Debug,
 {
-    ran_raw::<DB, E>(alloc, letters, call, raw_sql(alloc, "DELETE; SELECT")?)
+    match raw_sql(alloc, "DELETE; SELECT") {
+        Ok(raw) => ran_raw::<DB, E>(alloc, letters, call, raw),
+        Err(want) => Err(want),
+    }
 }
 
 #[test]

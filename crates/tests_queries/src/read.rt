@@ -24,9 +24,13 @@ where
     DB::QueryResult: Debug,
     i64: Encode<'t, DB> + SqlType<DB>,
 {
-    let query = query_as::<DB, O, _>(alloc, "SELECT")?;
-    let query = query.bind(alloc, 1i64).persistent(false);
-    ran_read::<DB, AsRows<O>, E>(alloc, letters, call, query)
+    match query_as::<DB, O, _>(alloc, "SELECT") {
+        Ok(query) => {
+            let query = query.bind(alloc, 1i64).persistent(false);
+            ran_read::<DB, AsRows<O>, E>(alloc, letters, call, query)
+        }
+        Err(want) => Err(want),
+    }
 }
 
 // The same of the first column.
@@ -40,9 +44,13 @@ where
     DB::QueryResult: Debug,
     i64: Encode<'t, DB> + SqlType<DB>,
 {
-    let query = query_scalar::<DB, O, _>(alloc, "SELECT")?;
-    let query = query.bind(alloc, 1i64).persistent(false);
-    ran_read::<DB, AsScalars<O>, E>(alloc, letters, call, query)
+    match query_scalar::<DB, O, _>(alloc, "SELECT") {
+        Ok(query) => {
+            let query = query.bind(alloc, 1i64).persistent(false);
+            ran_read::<DB, AsScalars<O>, E>(alloc, letters, call, query)
+        }
+        Err(want) => Err(want),
+    }
 }
 
 const MISMATCH: &str =
