@@ -1,5 +1,5 @@
 -- What the callers of the tests say.
-use Rattle.std.specs.Prelude.{◌≡◌, ℕ, Bool, false, List, Result}
+use Rattle.std.specs.Prelude.{◌≡◌, ℕ, false, List, Result}
 use Rattle.sqlx_query.specs.Builder.{Appends}
 use Rattle.sqlx_query.specs.Query.{Asked, handed_over}
 use Rattle.sqlx_query.specs.Tuples.{behind}
