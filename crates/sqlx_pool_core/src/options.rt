@@ -1,7 +1,7 @@
 //! How a pool is set up.
 
-ghost use Rattle.std.specs.Prelude.{◌≡◌, ◌*◌, true, false, Some};
-ghost use Rattle.sqlx_pool_core.specs.Defaults.{second};
+ghost use Rattle.std.specs.Prelude.{◌≡◌};
+ghost use Rattle.sqlx_pool_core.specs.Defaults.{default_options};
 
 use log::LevelFilter;
 
@@ -30,21 +30,7 @@ impl PoolOptions {
     /// is closed after 10 minutes and any connection after 30; idle connections are tested before they are
     /// lent, one in each poll; no hooks; acquires that take 2 s are logged as warnings.
     pub fn new() -> Self
-        ensures { result ≡ record {
-          max_connections = 10;
-          min_connections = 0;
-          acquire_timeout = 30 * second;
-          max_lifetime = Some (1800 * second);
-          idle_timeout = Some (600 * second);
-          test_before_acquire = true;
-          after_connect = false;
-          before_acquire = false;
-          after_release = false;
-          acquire_time_level = LevelFilter.Off;
-          acquire_slow_level = LevelFilter.Warn;
-          acquire_slow_threshold = 2 * second;
-          idle_tries = 1;
-        } }
+        ensures { result ≡ default_options }
     {
         PoolOptions {
             max_connections: 10,

@@ -39,3 +39,7 @@ begun left c more = if left == 0 then [] else (if left == 4 then c ∷ more else
 abbrev pub unwritten : Bool → ℕ → List ℕ → List ℕ
 unwritten in_word left [] = []
 unwritten in_word left (c ∷ cs) = if is_whitespace c then unwritten false left cs else (if in_word then c ∷ unwritten true left cs else begun left c (unwritten true (left - 1) cs))
+
+-- a whole summary: what is written of it, and what it still lacks before the characters cs
+abbrev pub whole_with : List ℕ → Bool → ℕ → List ℕ → List ℕ
+whole_with written in_word left cs = written ++ encode_utf8_all (unwritten in_word left cs)

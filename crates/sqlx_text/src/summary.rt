@@ -1,8 +1,7 @@
 //! The summary of a statement, by which a log names it.
 ghost use Rattle.std.specs.Prelude.{◌≡◌, ◌<◌, ◌≤◌, false, ◌∷◌, ◌++◌, ℕ, List, IfOk, string_bytes};
 ghost use Rattle.std.specs.Char.{encode_utf8};
-ghost use Rattle.std.specs.Str.{encode_utf8_all};
-ghost use Rattle.sqlx_text.specs.Summary.{summary_of, unwritten};
+ghost use Rattle.sqlx_text.specs.Summary.{summary_of, whole_with};
 
 use crate::{OutOfMemory, UStr};
 use std::alloc::Global;
@@ -38,8 +37,8 @@ fn add(summary: &mut String, place: Place, c: char) -> Result<Place, OutOfMemory
     requires goes_on { place.in_word ≡ false → 0 < place.words_left }
     ensures left { IfOk result (λ next. next.words_left ≤ 4) }
     ensures written { IfOk result (λ next. (cs : List ℕ)
-        → string_bytes summary.old ++ encode_utf8_all (unwritten place.in_word place.words_left (c ∷ cs))
-        ≡ string_bytes summary.new ++ encode_utf8_all (unwritten next.in_word next.words_left cs)) }
+        → whole_with (string_bytes summary.old) place.in_word place.words_left (c ∷ cs)
+        ≡ whole_with (string_bytes summary.new) next.in_word next.words_left cs) }
 {
     if c.is_whitespace() {
         return Ok(Place {
