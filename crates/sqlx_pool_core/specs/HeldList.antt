@@ -23,7 +23,7 @@ pub record IsNotedToo (before after : ℕ → Option ℕ) (held : Option OwnedCo
   pub one_more : (h : OwnedConn) → held ≡ Some h → after h.conn ≡ Some place
 
 -- Where they are said to be noted, they are; they are counted, and there are places for as many as there is room.
-pub record AreKept (places : List (Option OwnedConn)) (noted : ℕ → Option ℕ) (all_noted : Bool) (counted room capacity : ℕ) : Type 0 where
+pub record AreAtTheirPlaces (places : List (Option OwnedConn)) (noted : ℕ → Option ℕ) (all_noted : Bool) (counted room capacity : ℕ) : Type 0 where
   pub found : all_noted ≡ true → AreNoted places noted
   pub counted_right : counted ≡ length (loans_at places)
   pub fits : room ≤ capacity

@@ -29,13 +29,13 @@ pub struct HeldList {
 impl Model for HeldList {
     ghost use Rattle.std.specs.Prelude.{nat_eq, vec_capacity};
     ghost use Rattle.std.specs.HashMap.{get};
-    ghost use Rattle.sqlx_pool_core.specs.HeldList.{HeldQueue, AreKept, loans_at};
+    ghost use Rattle.sqlx_pool_core.specs.HeldList.{HeldQueue, AreAtTheirPlaces, loans_at};
 
     ghost Value = { HeldQueue };
 
     ghost view = { λ s. record { items = loans_at s.places.items; room = s.room } };
 
-    ghost invariant = { λ s. AreKept s.places.items (get nat_eq s.noted) s.all_noted s.len s.room (vec_capacity s.places) };
+    ghost invariant = { λ s. AreAtTheirPlaces s.places.items (get nat_eq s.noted) s.all_noted s.len s.room (vec_capacity s.places) };
 }
 
 // The loan at a place, where it is of this connection.

@@ -1,12 +1,12 @@
 -- Placeholders and arguments, one for one.
 use Rattle.std.proofs.Common.{◌≡◌, ℕ, ◌+◌, ◌≤◌, List, [], ◌∷◌, ◌++◌, refl, sym, ap, ◌∙◌, arith}
 use Rattle.std.proofs.lemmas.List.{append-nil, append_assoc}
-use Rattle.sqlx_query.specs.Builder.{Piece, Text, Bound, Draft, text_of, piece_text, arguments_of, placeholders, with_piece, with_pieces, AddsOneEach, Gains, CountsPlaceholders, NumbersPlaceholders, AppendsTexts}
+use Rattle.sqlx_query.specs.Builder.{Piece, Text, Bound, Draft, text_of_pieces, piece_text, arguments_of, placeholders, with_piece, with_pieces, AddsOneEach, Gains, CountsPlaceholders, NumbersPlaceholders, AppendsTexts}
 use Rattle.sqlx_query.proofs.DraftLemmas.{arguments-with_pieces}
 
-text-with_pieces : {L : Type 0} (d : Draft L) (ps : List (Piece L)) → (with_pieces d ps).text ≡ d.text ++ text_of ps
+text-with_pieces : {L : Type 0} (d : Draft L) (ps : List (Piece L)) → (with_pieces d ps).text ≡ d.text ++ text_of_pieces ps
 text-with_pieces d [] = sym (append-nil d.text)
-text-with_pieces d (p ∷ ps) = text-with_pieces (with_piece d p) ps ∙ append_assoc d.text (piece_text p) (text_of ps)
+text-with_pieces d (p ∷ ps) = text-with_pieces (with_piece d p) ps ∙ append_assoc d.text (piece_text p) (text_of_pieces ps)
 
 initial-with_pieces : {L : Type 0} (d : Draft L) (ps : List (Piece L)) → (with_pieces d ps).initial ≡ d.initial
 initial-with_pieces d [] = refl

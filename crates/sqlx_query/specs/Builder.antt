@@ -15,8 +15,8 @@ pub record Draft (L : Type 0) : Type 0 where
   pub built : Bool
 
 -- a draft that begins with a text and arguments
-abbrev pub begun : {L : Type 0} → List ℕ → L → Draft L
-begun t list = record { initial = t; text = t; arguments = list; built = false }
+abbrev pub fresh_draft : {L : Type 0} → List ℕ → L → Draft L
+fresh_draft t list = record { initial = t; text = t; arguments = list; built = false }
 
 -- what stands in the text for a piece
 abbrev pub piece_text : {L : Type 0} → Piece L → List ℕ
@@ -29,9 +29,9 @@ piece_arguments (Text t) list = list
 piece_arguments (Bound placeholder adds) list = adds list
 
 -- the text of the pieces
-abbrev pub text_of : {L : Type 0} → List (Piece L) → List ℕ
-text_of [] = []
-text_of (p ∷ ps) = piece_text p ++ text_of ps
+abbrev pub text_of_pieces : {L : Type 0} → List (Piece L) → List ℕ
+text_of_pieces [] = []
+text_of_pieces (p ∷ ps) = piece_text p ++ text_of_pieces ps
 
 -- the arguments behind the pieces
 abbrev pub arguments_of : {L : Type 0} → List (Piece L) → L → L
@@ -129,4 +129,4 @@ NumbersPlaceholders {L} count first = (before now : Draft L) (ps qs : List (Piec
 -- a draft that gains pieces has their texts behind its own, and the initial text stays
 abbrev pub AppendsTexts : {L : Type 0} → (L → ℕ) → (ℕ → L → L) → Type 0
 AppendsTexts {L} count first = (before now : Draft L) (ps : List (Piece L)) → Gains count first before ps now
-    → (now.text ≡ before.text ++ text_of ps) × (now.initial ≡ before.initial)
+    → (now.text ≡ before.text ++ text_of_pieces ps) × (now.initial ≡ before.initial)

@@ -39,12 +39,12 @@ abbrev pub handed_over : {S A B : Type 0} → (A → B) → Asked S A → Handed
 handed_over becomes query = record { text = query.text; arguments = turned becomes query.arguments; persistent = query.kept }
 
 -- a query of a text or a statement with these arguments, whose statement is to be kept
-abbrev pub begun : {S A : Type 0} → List ℕ → Option S → Result A Fault → Asked S A
-begun text prepared arguments = record { text = text; prepared = prepared; arguments = given_arguments arguments; kept = true }
+abbrev pub fresh_query : {S A : Type 0} → List ℕ → Option S → Result A Fault → Asked S A
+fresh_query text prepared arguments = record { text = text; prepared = prepared; arguments = given_arguments arguments; kept = true }
 
 -- such a query to which no argument is bound yet
 abbrev pub BeginsEmpty : {S A : Type 0} → (A → ℕ) → List ℕ → Option S → Asked S A → Type 0
-BeginsEmpty {A = A} count text prepared query = (arguments : A) × (count arguments ≡ 0) × (query ≡ begun text prepared (Ok arguments))
+BeginsEmpty {A = A} count text prepared query = (arguments : A) × (count arguments ≡ 0) × (query ≡ fresh_query text prepared (Ok arguments))
 
 -- the arguments of a query that has none
 abbrev pub no_arguments : (A : Type 0) → Result (Option A) Fault

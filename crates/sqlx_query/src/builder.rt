@@ -6,7 +6,7 @@ ghost use Rattle.sqlx_text.specs.declared.fault.Fault.{Fault};
 ghost use Rattle.sqlx_traits.specs.Arguments.{AddsOne};
 ghost use Rattle.sqlx_query.specs.Query as asked;
 ghost use Rattle.sqlx_query.specs.Binding.{OrWantOfMemory};
-ghost use Rattle.sqlx_query.specs.Builder.{Gains, GainsBound, Piece, alone, begun, cut_to, with_piece};
+ghost use Rattle.sqlx_query.specs.Builder.{Gains, GainsBound, Piece, alone, fresh_draft, cut_to, with_piece};
 
 use crate::growing_text::GrowingText;
 use crate::{Query, QueryAs, QueryScalar, ReadQuery, Separated};
@@ -52,7 +52,7 @@ impl<DB: Database> QueryBuilder<DB> {
     /// A builder whose text begins with `init`.
     pub fn new(alloc: Global, init: String) -> Self
         ensures none { DB.ArgumentBuffer.count result.arguments ≡ 0 }
-        ensures begun { result ≡ begun (string_bytes init) result.arguments }
+        ensures begun { result ≡ fresh_draft (string_bytes init) result.arguments }
     {
         QueryBuilder {
             text: GrowingText::new(init),
@@ -63,7 +63,7 @@ impl<DB: Database> QueryBuilder<DB> {
 
     /// A builder whose text begins with `init`, and holds the placeholders of `arguments` already.
     pub fn with_arguments<A: IntoArguments<DB>>(_alloc: Global, init: String, arguments: A) -> Self
-        ensures { result ≡ begun (string_bytes init) (DB.Arguments.buffered (A.becomes arguments)) }
+        ensures { result ≡ fresh_draft (string_bytes init) (DB.Arguments.buffered (A.becomes arguments)) }
     {
         QueryBuilder {
             text: GrowingText::new(init),
@@ -192,7 +192,7 @@ impl<DB: Database> QueryBuilder<DB> {
         requires { self.old.built ≡ Bool.false }
         ensures query { IfOk result (λ query. (arguments : DB.Arguments)
             × (DB.Arguments.buffered arguments ≡ self.old.arguments)
-            × (query ≡ asked.begun self.old.text None (Ok arguments))) }
+            × (query ≡ asked.fresh_query self.old.text None (Ok arguments))) }
         ensures none { OnOk result (DB.ArgumentBuffer.count self.new.arguments ≡ 0) }
         ensures ok { OnOk result (self.new ≡ record self.old { arguments = self.new.arguments; built = Bool.true }) }
         ensures err { OnErr result (self.new ≡ self.old) }
@@ -215,7 +215,7 @@ impl<DB: Database> QueryBuilder<DB> {
         requires { self.old.built ≡ Bool.false }
         ensures query { IfOk result (λ made. (arguments : DB.Arguments)
             × (DB.Arguments.buffered arguments ≡ self.old.arguments)
-            × (made.query ≡ asked.begun self.old.text None (Ok arguments))) }
+            × (made.query ≡ asked.fresh_query self.old.text None (Ok arguments))) }
         ensures none { OnOk result (DB.ArgumentBuffer.count self.new.arguments ≡ 0) }
         ensures ok { OnOk result (self.new ≡ record self.old { arguments = self.new.arguments; built = Bool.true }) }
         ensures err { OnErr result (self.new ≡ self.old) }
@@ -234,7 +234,7 @@ impl<DB: Database> QueryBuilder<DB> {
         requires { self.old.built ≡ Bool.false }
         ensures query { IfOk result (λ made. (arguments : DB.Arguments)
             × (DB.Arguments.buffered arguments ≡ self.old.arguments)
-            × (made.query ≡ asked.begun self.old.text None (Ok arguments))) }
+            × (made.query ≡ asked.fresh_query self.old.text None (Ok arguments))) }
         ensures none { OnOk result (DB.ArgumentBuffer.count self.new.arguments ≡ 0) }
         ensures ok { OnOk result (self.new ≡ record self.old { arguments = self.new.arguments; built = Bool.true }) }
         ensures err { OnErr result (self.new ≡ self.old) }
@@ -249,7 +249,7 @@ impl<DB: Database> QueryBuilder<DB> {
     pub fn reset(&mut self, alloc: Global) -> &mut Self
         ensures same { result.ghost_name ≡ self.entry.ghost_name }
         ensures none { DB.ArgumentBuffer.count result.now.arguments ≡ 0 }
-        ensures begun { result.now ≡ begun self.old.initial result.now.arguments }
+        ensures begun { result.now ≡ fresh_draft self.old.initial result.now.arguments }
     {
         self.text.reset();
         self.arguments = DB::Arguments::new(alloc);

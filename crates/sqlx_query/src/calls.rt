@@ -1,6 +1,6 @@
 //! Queries of a text.
 ghost use Rattle.std.specs.Prelude.{◌≡◌, IfOk, None, Ok};
-ghost use Rattle.sqlx_query.specs.Query.{BeginsEmpty, begun};
+ghost use Rattle.sqlx_query.specs.Query.{BeginsEmpty, fresh_query};
 
 use crate::{Query, QueryAs, QueryScalar, RawSql, ReadQuery};
 use sqlx_text::{Fault, OutOfMemory, SqlSafeStr};
@@ -26,7 +26,7 @@ pub fn query_with<'q, DB: Database, S: SqlSafeStr, A: IntoArguments<DB> + Drop>(
     sql: S,
     arguments: A,
 ) -> Result<Query<'q, DB, A>, OutOfMemory>
-    ensures { IfOk result (λ query. query ≡ begun (S.text sql) None (Ok arguments)) }
+    ensures { IfOk result (λ query. query ≡ fresh_query (S.text sql) None (Ok arguments)) }
 {
     query_with_result(alloc, sql, Ok(arguments))
 }
@@ -37,7 +37,7 @@ pub fn query_with_result<'q, DB: Database, S: SqlSafeStr, A: IntoArguments<DB> +
     sql: S,
     arguments: Result<A, Fault>,
 ) -> Result<Query<'q, DB, A>, OutOfMemory>
-    ensures { IfOk result (λ query. query ≡ begun (S.text sql) None arguments) }
+    ensures { IfOk result (λ query. query ≡ fresh_query (S.text sql) None arguments) }
 {
     match sql.into_sql_str(alloc) {
         Ok(sql) => Ok(Query::new(Either::Left(sql), arguments)),
@@ -67,7 +67,7 @@ pub fn query_as_with<'q, DB: Database, O, S: SqlSafeStr, A: IntoArguments<DB> + 
     sql: S,
     arguments: A,
 ) -> Result<QueryAs<'q, DB, O, A>, OutOfMemory>
-    ensures { IfOk result (λ made. made.query ≡ begun (S.text sql) None (Ok arguments)) }
+    ensures { IfOk result (λ made. made.query ≡ fresh_query (S.text sql) None (Ok arguments)) }
 {
     match query_with(alloc, sql, arguments) {
         Ok(query) => Ok(ReadQuery::new(query)),
@@ -81,7 +81,7 @@ pub fn query_as_with_result<'q, DB: Database, O, S: SqlSafeStr, A: IntoArguments
     sql: S,
     arguments: Result<A, Fault>,
 ) -> Result<QueryAs<'q, DB, O, A>, OutOfMemory>
-    ensures { IfOk result (λ made. made.query ≡ begun (S.text sql) None arguments) }
+    ensures { IfOk result (λ made. made.query ≡ fresh_query (S.text sql) None arguments) }
 {
     match query_with_result(alloc, sql, arguments) {
         Ok(query) => Ok(ReadQuery::new(query)),
@@ -108,7 +108,7 @@ pub fn query_scalar_with<'q, DB: Database, O, S: SqlSafeStr, A: IntoArguments<DB
     sql: S,
     arguments: A,
 ) -> Result<QueryScalar<'q, DB, O, A>, OutOfMemory>
-    ensures { IfOk result (λ made. made.query ≡ begun (S.text sql) None (Ok arguments)) }
+    ensures { IfOk result (λ made. made.query ≡ fresh_query (S.text sql) None (Ok arguments)) }
 {
     match query_with(alloc, sql, arguments) {
         Ok(query) => Ok(ReadQuery::new(query)),
@@ -122,7 +122,7 @@ pub fn query_scalar_with_result<'q, DB: Database, O, S: SqlSafeStr, A: IntoArgum
     sql: S,
     arguments: Result<A, Fault>,
 ) -> Result<QueryScalar<'q, DB, O, A>, OutOfMemory>
-    ensures { IfOk result (λ made. made.query ≡ begun (S.text sql) None arguments) }
+    ensures { IfOk result (λ made. made.query ≡ fresh_query (S.text sql) None arguments) }
 {
     match query_with_result(alloc, sql, arguments) {
         Ok(query) => Ok(ReadQuery::new(query)),

@@ -1,6 +1,6 @@
 //! Queries of a prepared statement, as functions and as calls of the statement.
 ghost use Rattle.std.specs.Prelude.{◌≡◌, Ok, Some};
-ghost use Rattle.sqlx_query.specs.Query.{BeginsEmpty, begun};
+ghost use Rattle.sqlx_query.specs.Query.{BeginsEmpty, fresh_query};
 
 use crate::{Query, QueryAs, QueryScalar, ReadQuery};
 use sqlx_traits::{ArgumentList, Arguments, Database, Either, IntoArguments, Statement};
@@ -21,7 +21,7 @@ pub fn query_statement_with<'q, DB: Database, A: IntoArguments<DB> + Drop>(
     statement: &'q DB::Statement,
     arguments: A,
 ) -> Query<'q, DB, A>
-    ensures { result ≡ begun (DB.Statement.text statement.entry.now) (Some statement.entry.now) (Ok arguments) }
+    ensures { result ≡ fresh_query (DB.Statement.text statement.entry.now) (Some statement.entry.now) (Ok arguments) }
 {
     Query::new(Either::Right(statement), Ok(arguments))
 }
@@ -41,7 +41,7 @@ pub fn query_statement_as_with<'q, DB: Database, O, A: IntoArguments<DB> + Drop>
     statement: &'q DB::Statement,
     arguments: A,
 ) -> QueryAs<'q, DB, O, A>
-    ensures { result.query ≡ begun (DB.Statement.text statement.entry.now) (Some statement.entry.now) (Ok arguments) }
+    ensures { result.query ≡ fresh_query (DB.Statement.text statement.entry.now) (Some statement.entry.now) (Ok arguments) }
 {
     ReadQuery::new(query_statement_with::<DB, A>(statement, arguments))
 }
@@ -61,7 +61,7 @@ pub fn query_statement_scalar_with<'q, DB: Database, O, A: IntoArguments<DB> + D
     statement: &'q DB::Statement,
     arguments: A,
 ) -> QueryScalar<'q, DB, O, A>
-    ensures { result.query ≡ begun (DB.Statement.text statement.entry.now) (Some statement.entry.now) (Ok arguments) }
+    ensures { result.query ≡ fresh_query (DB.Statement.text statement.entry.now) (Some statement.entry.now) (Ok arguments) }
 {
     ReadQuery::new(query_statement_with::<DB, A>(statement, arguments))
 }
@@ -99,7 +99,7 @@ pub trait StatementQuery<DB: Database>: Sized {
 
     /// A query of the statement, with these arguments.
     final fn query_with<A: IntoArguments<DB> + Drop>(&self, arguments: A) -> Query<'_, DB, A>
-        ensures { result ≡ begun (DB.Statement.text (itself self.entry.now)) (Some (itself self.entry.now)) (Ok arguments) }
+        ensures { result ≡ fresh_query (DB.Statement.text (itself self.entry.now)) (Some (itself self.entry.now)) (Ok arguments) }
     {
         query_statement_with::<DB, A>(self.as_statement(), arguments)
     }
@@ -109,7 +109,7 @@ pub trait StatementQuery<DB: Database>: Sized {
         &self,
         arguments: A,
     ) -> QueryAs<'_, DB, O, A>
-        ensures { result.query ≡ begun (DB.Statement.text (itself self.entry.now)) (Some (itself self.entry.now)) (Ok arguments) }
+        ensures { result.query ≡ fresh_query (DB.Statement.text (itself self.entry.now)) (Some (itself self.entry.now)) (Ok arguments) }
     {
         query_statement_as_with::<DB, O, A>(self.as_statement(), arguments)
     }
@@ -119,7 +119,7 @@ pub trait StatementQuery<DB: Database>: Sized {
         &self,
         arguments: A,
     ) -> QueryScalar<'_, DB, O, A>
-        ensures { result.query ≡ begun (DB.Statement.text (itself self.entry.now)) (Some (itself self.entry.now)) (Ok arguments) }
+        ensures { result.query ≡ fresh_query (DB.Statement.text (itself self.entry.now)) (Some (itself self.entry.now)) (Ok arguments) }
     {
         query_statement_scalar_with::<DB, O, A>(self.as_statement(), arguments)
     }

@@ -4,7 +4,7 @@ ghost use Rattle.sqlx_text.specs.declared.error.Error.{Error};
 ghost use Rattle.sqlx_traits.specs.Reads.{Answers};
 ghost use Rattle.sqlx_traits.specs.StepList.{Ran, RunsNothing, StepCause, StepCauses, all_of, combined, first_of, one_or, results_of, rows_of};
 ghost use Rattle.sqlx_query.specs.Binding.{AddsOrFails, Binds, Bound, CanBind, IsUnencoded, fault_after_a_fault};
-ghost use Rattle.sqlx_query.specs.Query.{begun, given_arguments, handed_over, statement_of, text_of, turned};
+ghost use Rattle.sqlx_query.specs.Query.{fresh_query, given_arguments, handed_over, statement_of, text_of, turned};
 
 use either::Either;
 use sqlx_text::{Error, Fault, OutOfMemory, SqlStr, UStr};
@@ -43,7 +43,7 @@ impl<'q, DB: Database, A> Query<'q, DB, A> {
         statement: Either<SqlStr, &'q DB::Statement>,
         arguments: Result<A, Fault>,
     ) -> Self
-        ensures { result ≡ begun (text_of DB.Statement.text statement.entry) (statement_of statement.entry) arguments }
+        ensures { result ≡ fresh_query (text_of DB.Statement.text statement.entry) (statement_of statement.entry) arguments }
     {
         Query {
             statement,
