@@ -4,6 +4,7 @@ pub mod LinksMoves
 pub mod LinksGone
 pub mod LinksKept
 pub mod LentTaken
+pub mod LentPlaces
 pub mod OneOut
 pub mod Owners
 pub mod Middles

@@ -13,8 +13,9 @@ mod upkeep;
 
 use crate::error::PlayError;
 use crate::outside::ScriptOutside;
+use crate::stage::loans::lent::LentList;
 use mem_store::{MemStore, StoreLink};
-use sqlx_pool_core::{Lent, PoolCore, PoolOptions};
+use sqlx_pool_core::{PoolCore, PoolOptions};
 use sqlx_script::{Event, PoolLine, Reply, Report, Step};
 use std::alloc::Global;
 
@@ -26,7 +27,7 @@ pub struct Stage {
     // The database in memory, and the answers of the present line.
     pub out: ScriptOutside,
     // The connections that clients own, in the order of lending.
-    pub lent: Vec<Lent<StoreLink>>,
+    pub lent: LentList,
 }
 
 // The options that a first line sets up.
@@ -59,7 +60,7 @@ pub fn new_stage(alloc: Global, pool: PoolLine) -> Result<Stage, PlayError>
             pool,
             core,
             out: ScriptOutside::new(MemStore::new(alloc)),
-            lent: Vec::new(alloc),
+            lent: LentList::new(alloc),
         }),
         Err(_) => Err(PlayError::OutOfMemory),
     }

@@ -1,6 +1,5 @@
 -- The stage behind a connection that was given back.
-use Rattle.std.proofs.Common.{◌≡◌, ℕ, ◌≤◌, ◌<◌, ◌==◌, ◌&&◌, ◌||◌, true, false, not, List, [], ◌∷◌, find, length, get_or, count_by, Some, None, refl, sym, ap, subst, ◌∙◌, arith}
-use Rattle.std.specs.List.{insert, remove}
+use Rattle.std.proofs.Common.{◌≡◌, ℕ, ◌≤◌, ◌==◌, ◌&&◌, ◌||◌, Bool, true, false, not, List, [], ◌∷◌, find, count_by, Option, Some, None, is_some, refl, sym, ap, subst, ◌∙◌, arith}
 use Rattle.std.proofs.lemmas.Bool.{eqb-true, and_parts}
 use Rattle.sqlx_log.specs.declared.mark.Mark.{Mark}
 use Rattle.sqlx_log.specs.declared.mark.Mark.TheVariants as mark
@@ -32,11 +31,15 @@ use Rattle.sqlx_play.specs.events.GivesBack.{lets_rest, GivesBack}
 use Rattle.sqlx_play.proofs.links.LinksSame.{links-same}
 use Rattle.sqlx_play.proofs.links.LinksGone.{lent-counted, closed_in, links-leave}
 use Rattle.sqlx_play.proofs.links.LinksKept.{links-kept}
-use Rattle.sqlx_play.proofs.links.LentTaken.{first-only, put-back}
+use Rattle.sqlx_play.proofs.links.LentTaken.{first-only, without-unfound}
 use Rattle.sqlx_play.proofs.links.Owners.{held-once}
 use Rattle.sqlx_play.proofs.leaving.GiveAnswers.{Loaned, told-kept, told-closed, told-not_held, word-told, stranger-told, unlent-loan}
 
 -- ---- no link
+
+none-is : {X : Type 0} (o : Option X) → is_some o ≡ false → o ≡ None
+none-is None e = refl
+none-is (Some x) e = absurd cc
 
 module _ (old : Stage) (answers : GiveAnswers) (m k c : ℕ) (sound : IsNumbered old.core) where
   -- what changed nothing
@@ -53,11 +56,15 @@ module _ (old : Stage) (answers : GiveAnswers) (m k c : ℕ) (sound : IsNumbered
         (subst (λ (x : Store). LinksStand old.core x new.lent.items past) (sym store) (subst (λ (l : List (Lent Link)). LinksStand old.core old.out.store l past) (sym lent) at.links));
   }
 
-  pub returns-unlent : find (is_lent c) old.lent.items ≡ None → GivesBack old old answers m k c word.NotHeld
-  returns-unlent none marks past at = (
+  pub returns-unlent : (new : Stage) → new.pool ≡ old.pool → new.core ≡ old.core → new.out.store ≡ old.out.store → new.lent.items ≡ without_first (is_lent c) old.lent.items → find (is_lent c) old.lent.items ≡ None
+      → GivesBack old new answers m k c word.NotHeld
+  returns-unlent new pool core store lent none marks past at = (
     stranger-told old.pool old.core marks past old.lent.items old.out.store c sound k m answers at.stands (unlent-loan old.pool old.core marks past old.lent.items old.out.store c k none at.links),
-    stays old.core old marks past at refl refl refl refl,
+    stays old.core new marks past at pool core store (lent ∙ without-unfound (is_lent c) old.lent.items none),
   )
+
+  pub returns-unowned : is_some (loan_of k c old.core.held) ≡ false → GivesBack old old answers m k c word.NotHeld
+  returns-unowned none marks past at = (stranger-told old.pool old.core marks past old.lent.items old.out.store c sound k m answers at.stands (none-is (loan_of k c old.core.held) none), stays old.core old marks past at refl refl refl refl)
 
   -- ---- a link
 
@@ -143,17 +150,9 @@ module _ (old : Stage) (answers : GiveAnswers) (m k c : ℕ) (sound : IsNumbered
           },
         )
 
-    -- it is another's
-    pub returns-not_held : (new : Stage) (at_m : ℕ) (raw : Link) → new.pool ≡ old.pool → new.core ≡ core → new.out.store ≡ old.out.store
-        → (i : ℕ) → i < length old.lent.items → l ≡ get_or old.lent.items i l → new.lent.items ≡ insert (remove old.lent.items i) i (record { id = c; created = l.created; raw = raw })
-        → given.NotHeld raw ≡ give_answer old.core.options old.core.shut at_m (lets_rest old.pool answers l.raw.depth) (loan_of k l.id old.core.held) l
-        → core ≡ core_after_give (loan_of k l.id old.core.held) l at_m (given.NotHeld raw) old.core
-        → GivesBack old new answers m k c word.NotHeld
-    returns-not_held new at_m raw pool core_is store i below value put answer becomes marks past at =
-        let told = told-not_held old.core.options old.core.shut at_m (lets_rest old.pool answers l.raw.depth) l raw (loan_of k l.id old.core.held) answer in
-        let loan_c : loan_of k c old.core.held ≡ None = ap (λ (n : ℕ). loan_of k n old.core.held) (sym same_conn) ∙ told.0 in
-        let whole : record { id = c; created = l.created; raw = raw } ≡ l = λ j. record { id = sym same_conn j; created = l.created; raw = told.1 j } in
-        let lent : new.lent.items ≡ old.lent.items = put ∙ ap (insert (remove old.lent.items i) i) whole ∙ put-back old.lent.items i l below value in (
-          stranger-told old.pool old.core marks past old.lent.items old.out.store c sound k m answers at.stands loan_c,
-          stays core new marks past at pool (core_is ∙ becomes) store lent,
-        )
+    -- it isn't another's where the client owns it
+    pub returns-owned : (at_m : ℕ) (lets : Bool) (raw : Link) → is_some (loan_of k c old.core.held) ≡ true → given.NotHeld raw ≡ give_answer old.core.options old.core.shut at_m lets (loan_of k l.id old.core.held) l → ⊥
+    returns-owned at_m lets raw own answer =
+        let told = told-not_held old.core.options old.core.shut at_m lets l raw (loan_of k l.id old.core.held) answer in
+        let none : loan_of k c old.core.held ≡ None = ap (λ (n : ℕ). loan_of k n old.core.held) (sym same_conn) ∙ told.0 in
+        absurd (let both : true ≡ false = sym own ∙ ap is_some none in cc)

@@ -140,7 +140,7 @@ not_held-counts other runs = refl
 
 statement-counted : (old new : Stage) (s : Statement) (x : Step) (r : Reply) → done_by x ≡ Some s.act → Runs old new s r → new.out.store.runs ≡ runs_after x r old.out.store.runs
 statement-counted old new s x r is (inl w) =
-    ap (λ (t : Store). t.runs) w.store ∙ step-counted x s.act (at_work old.out.store w.own.raw s) is ∙ ap (λ (r : Reply). runs_after x r old.out.store.runs) (sym w.told)
+    ap (λ (t : Store). t.runs) w.ran.store ∙ step-counted x s.act (at_work old.out.store w.ran.own.raw s) is ∙ ap (λ (r : Reply). runs_after x r old.out.store.runs) (sym w.ran.told)
 statement-counted old new s x r is (inr w) = ap (λ (t : Store). t.runs) w.store ∙ not_held-counts x old.out.store.runs ∙ ap (λ (r : Reply). runs_after x r old.out.store.runs) (sym w.told)
 
 pub statement-counted_if : (old new : Stage) (s : Statement) (x : Step) (r : Result Reply PlayError) → done_by x ≡ Some s.act → IfOk r (Runs old new s) → IfOk r (λ reply. new.out.store.runs ≡ runs_after x reply old.out.store.runs)

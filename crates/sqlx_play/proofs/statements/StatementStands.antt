@@ -169,28 +169,28 @@ runs_on : (old new : Stage) (pairs : Pairs) (event : Event) (st : Statement) (r 
 runs_on old new pairs event st r s sound e met core pool ran =
     let past : History = history_of old.pool pairs in
     let marks : List Mark = marks_of old.pool pairs in
-    let own : Lent Link = ran.own in
+    let own : Lent Link = ran.ran.own in
     let a : bracket.Act = act_on own.id st.act in
     let now : bracket.Act = act_on st.connection st.act in
     let said' : bracket.Reply = reply_of a true (met_of st.answer) past in
-    let links : LinksStand old.core old.out.store (ran.before ++ own ∷ ran.after) past = subst (λ (l : List (Lent Link)). LinksStand old.core old.out.store l past) ran.lent s.links in
+    let links : LinksStand old.core old.out.store (ran.ran.before ++ own ∷ ran.ran.after) past = subst (λ (l : List (Lent Link)). LinksStand old.core old.out.store l past) ran.ran.lent s.links in
     let owned : owns st.client (owner_of st.connection marks) ≡ true = sym (owner-alike old.core sound marks st.client st.connection s.stands) ∙ ran.owned in
     let work : at_work old.out.store own.raw st ≡ session_at past own.id own.raw old.out.store.open_links old.out.store.given old.out.store.runs (answer_for st.answer) =
-    work_is past own.id old.out.store own.raw st links.rows (All-mid (λ (x : Lent Link). IsLinkOf (linked_after past) x.id x.raw) ran.before own ran.after links.lent_links) in
+    work_is past own.id old.out.store own.raw st links.rows (All-mid (λ (x : Lent Link). IsLinkOf (linked_after past) x.id x.raw) ran.ran.before own ran.ran.after links.lent_links) in
     let alike : AlikeAt a past own.id (at_work old.out.store own.raw st) said' (reply_on st.act (at_work old.out.store own.raw st)) (left_at old.out.store own.raw st) =
     subst (λ (x : Session). AlikeAt a past own.id x said' (reply_on st.act x) (left_by st.act x)) (sym work)
     (acts-alike past links.accepted own.id own.raw old.out.store.open_links old.out.store.given old.out.store.runs st.act st.answer met
-    (ap (λ (k : BracketLink). others_in_level k.depth old.out.store.open_links) (sym (All-mid (λ (x : Lent Link). IsLinkOf (linked_after past) x.id x.raw) ran.before own ran.after links.lent_links)) ∙ busy-alike old.core sound old.out.store ran.before own ran.after past links)) in
-    let told : r ≡ written_reply a (depth own.id past) said' = ran.told ∙ alike.0 in
-    let left : LinksStand old.core (left_at old.out.store own.raw st).store (ran.before ++ record own { raw = (left_at old.out.store own.raw st).link } ∷ ran.after) (change_by a said' past) =
-    links-left old.core sound old.out.store ran.before own ran.after past (change_by a said' past) links (answer_for st.answer) (left_at old.out.store own.raw st) (asked_fine a true (met_of st.answer) past links.accepted) alike.1 in
+    (ap (λ (k : BracketLink). others_in_level k.depth old.out.store.open_links) (sym (All-mid (λ (x : Lent Link). IsLinkOf (linked_after past) x.id x.raw) ran.ran.before own ran.ran.after links.lent_links)) ∙ busy-alike old.core sound old.out.store ran.ran.before own ran.ran.after past links)) in
+    let told : r ≡ written_reply a (depth own.id past) said' = ran.ran.told ∙ alike.0 in
+    let left : LinksStand old.core (left_at old.out.store own.raw st).store (ran.ran.before ++ record own { raw = (left_at old.out.store own.raw st).link } ∷ ran.ran.after) (change_by a said' past) =
+    links-left old.core sound old.out.store ran.ran.before own ran.ran.after past (change_by a said' past) links (answer_for st.answer) (left_at old.out.store own.raw st) (asked_fine a true (met_of st.answer) past links.accepted) alike.1 in
     let changed : change_by a said' past ≡ changed_by (Some (said st)) r past =
-    ap (λ (x : bracket.Reply). change_by a x past) (sym (ap read_reply told ∙ read_written a (depth own.id past) said')) ∙ ap (λ n. change_by (act_on n st.act) (read_reply r) past) ran.is in (
-      told ∙ ap (λ n. written_reply (act_on n st.act) (depth n past) (reply_of (act_on n st.act) true (met_of st.answer) past)) ran.is
+    ap (λ (x : bracket.Reply). change_by a x past) (sym (ap read_reply told ∙ read_written a (depth own.id past) said')) ∙ ap (λ n. change_by (act_on n st.act) (read_reply r) past) ran.ran.is in (
+      told ∙ ap (λ n. written_reply (act_on n st.act) (depth n past) (reply_of (act_on n st.act) true (met_of st.answer) past)) ran.ran.is
           ∙ ap (λ b. written_reply now (depth st.connection past) (reply_of now b (met_of st.answer) past)) (sym owned) ∙ sym (answer_is old.pool pairs event (said st) e),
       moves old new pairs event r (said st) s e core pool
           (subst (λ (h : History). LinksStand old.core new.out.store new.lent.items h) changed
-          (subst (λ (x : Store). LinksStand old.core x new.lent.items (change_by a said' past)) (sym ran.store) (subst (λ (l : List (Lent Link)). LinksStand old.core (left_at old.out.store own.raw st).store l (change_by a said' past)) (sym ran.links) left))),
+          (subst (λ (x : Store). LinksStand old.core x new.lent.items (change_by a said' past)) (sym ran.ran.store) (subst (λ (l : List (Lent Link)). LinksStand old.core (left_at old.out.store own.raw st).store l (change_by a said' past)) (sym ran.ran.links) left))),
     )
 
 -- a statement is played

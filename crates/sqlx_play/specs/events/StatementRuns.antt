@@ -52,17 +52,27 @@ at_work store link s = record { store = store; link = link; answer = answer_for 
 abbrev pub left_at : Store → Link → Statement → Session
 left_at store link s = left_by s.act (at_work store link s)
 
--- The client's connection did the act, on its link.
-pub record RunsOnLink (old new : Stage) (s : Statement) (reply : Reply) : Type 0 where
+-- The link of the connection did the act where it lies, and the others stay.
+pub record RunsThere (s : Statement) (old new : List (Lent Link)) (store_old store_new : Store) (reply : Reply) : Type 0 where
   pub before : List (Lent Link)
   pub own : Lent Link
   pub after : List (Lent Link)
-  pub lent : old.lent.items ≡ before ++ own ∷ after
+  pub lent : old ≡ before ++ own ∷ after
   pub is : own.id ≡ s.connection
+  pub told : reply ≡ reply_on s.act (at_work store_old own.raw s)
+  pub store : store_new ≡ (left_at store_old own.raw s).store
+  pub links : new ≡ before ++ record own { raw = (left_at store_old own.raw s).link } ∷ after
+
+-- The connection has no link, and nothing changed.
+pub record RunsNowhere (s : Statement) (old new : List (Lent Link)) (store_old store_new : Store) : Type 0 where
+  pub none : find (is_lent s.connection) old ≡ None
+  pub store : store_new ≡ store_old
+  pub links : new ≡ old
+
+-- The client's connection did the act, on its link.
+pub record RunsOnLink (old new : Stage) (s : Statement) (reply : Reply) : Type 0 where
   pub owned : is_some (loan_of s.client s.connection old.core.held) ≡ true
-  pub told : reply ≡ reply_on s.act (at_work old.out.store own.raw s)
-  pub store : new.out.store ≡ (left_at old.out.store own.raw s).store
-  pub links : new.lent.items ≡ before ++ record own { raw = (left_at old.out.store own.raw s).link } ∷ after
+  pub ran : RunsThere s old.lent.items new.lent.items old.out.store new.out.store reply
 
 -- The client has no such connection, and nothing changed.
 pub record RunsNot (old new : Stage) (s : Statement) (reply : Reply) : Type 0 where

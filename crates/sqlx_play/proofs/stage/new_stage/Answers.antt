@@ -22,7 +22,7 @@ returns-in-Ok-clause-fresh c =
         untried = λ t h. tries_of-nil t;
         links = subst (LinksStand core c.new-in-Ok-2.result.store c.new-in-Ok-3.result.items) (sym (history_of-nil c.args.pool))
             (subst (λ (store : Store). LinksStand core store c.new-in-Ok-3.result.items []) (sym (c.new-in-Ok-2.ensures.store ∙ c.new-in-Ok.ensures))
-            (links-none core c.new-in-Ok-3.result.items (held-nil core stands) (idle-nil core stands) c.new-in-Ok-3.ensures.items));
+            (links-none core c.new-in-Ok-3.result.items (held-nil core stands) (idle-nil core stands) c.new-in-Ok-3.ensures));
       };
       runs = ap (λ (s : Store). s.runs) (c.new-in-Ok-2.ensures.store ∙ c.new-in-Ok.ensures);
       last = c.in-Ok.ensures.last;

@@ -11,7 +11,6 @@ ghost use Rattle.sqlx_play.specs.events.LoanEnds.{LoanEnds};
 ghost use Rattle.sqlx_play.specs.stage.EventFrame.{EventFrame, Frame};
 ghost use Rattle.sqlx_play.specs.stage.StageStands.{last_of, numbers_of};
 
-use super::lent::take_lent;
 use crate::error::PlayError;
 use crate::stage::Stage;
 use crate::stage::upkeep::fill::fill;
@@ -27,7 +26,7 @@ fn close_lent(stage: &mut Stage, conn: u64)
     ensures runs { stage.new.out.store.runs ≡ stage.old.out.store.runs }
     ensures lent { stage.new.lent.items ≡ without_first (is_lent conn) stage.old.lent.items }
 {
-    if let Some(lent) = take_lent(&mut stage.lent, conn) {
+    if let Some(lent) = stage.lent.take(conn) {
         stage.out.store.close(lent.raw);
     }
 }

@@ -1,41 +1,126 @@
-//! The links of the connections that clients own.
-ghost use Rattle.std.specs.Prelude.{◌≡◌, ◌≤◌, find, length, nat_lt, if◌then◌else◌, Some, None, OnOk, IfErr};
-ghost use Rattle.std.specs.List.{position_or_len, insert};
+//! The links of the connections that clients own: one is found, taken out and changed where it lies without a look at
+//! the others.
+ghost use Rattle.std.specs.Prelude.{◌≡◌, ◌∷◌, ◌++◌, [], ◌<◌, find, length, vec_capacity, IfOk, OnOk, OnErr, IfErr, IfSome, IfNone};
+ghost use Rattle.sqlx_numbered.specs.Numbered.{items_at};
+ghost use Rattle.sqlx_numbered.specs.Notes.{Tells};
 ghost use Rattle.sqlx_pool_core.specs.MaintenanceSteps.{without_first};
-ghost use Rattle.sqlx_play.specs.stage.LentLinks.{is_lent};
+ghost use Rattle.sqlx_play.specs.declared.error.PlayError.TheVariants as error;
+ghost use Rattle.sqlx_play.specs.events.StatementRuns.{RunsThere, RunsNowhere};
+ghost use Rattle.sqlx_play.specs.stage.LentLinks.{is_lent, number_of};
 
+use super::acts::run_on;
+use super::statements::Statement;
 use crate::error::PlayError;
-use mem_store::StoreLink;
+use mem_store::{MemStore, StoreLink};
+use sqlx_numbered::{Notes, Numbering};
 use sqlx_pool_core::Lent;
+use sqlx_script::Reply;
+use sqlx_text::OutOfMemory;
+use std::alloc::Global;
+use std::marker::Model;
 
-/// At which place a connection's link stands.
-pub fn place_of(lent: &[Lent<StoreLink>], conn: u64) -> Option<usize>
-    ensures { result ≡ (if nat_lt (position_or_len (is_lent conn) lent.now) (length lent.now) then Some (position_or_len (is_lent conn) lent.now) else None) }
-{
-    lent.iter().position(|l| conn == l.id)
+/// Links of connections, in the order of lending.
+#[derive(Drop)]
+pub struct LentList {
+    // A link that was taken out left a gap. They are closed where the places are used up.
+    places: Vec<Option<Lent<StoreLink>>>,
+    notes: Notes,
 }
 
-/// Takes a connection's link out.
-pub fn take_lent(lent: &mut Vec<Lent<StoreLink>>, conn: u64) -> Option<Lent<StoreLink>>
-    ensures found { result ≡ find (is_lent conn) lent.old.items }
-    ensures rest { lent.new.items ≡ without_first (is_lent conn) lent.old.items }
-{
-    let at = place_of(lent, conn)?;
-    Some(lent.remove(at))
+impl Model for LentList {
+    ghost use Rattle.sqlx_numbered.specs.Numbered.{items_at};
+    ghost use Rattle.sqlx_numbered.specs.Notes.{Tells};
+    ghost use Rattle.sqlx_play.specs.stage.LentLinks.{LentQueue, number_of, queue_code};
+
+    ghost Value = { LentQueue };
+
+    ghost coded = { queue_code };
+
+    ghost view = { λ s. record { items = items_at s.places.items } };
+
+    ghost invariant = { λ s. Tells number_of s.notes s.places.items };
 }
 
-/// Puts a link at a place.
-pub fn put_lent(
-    lent: &mut Vec<Lent<StoreLink>>,
-    at: usize,
-    link: Lent<StoreLink>,
-) -> Result<(), PlayError>
-    requires { at ≤ length lent.old.items }
-    ensures ok { OnOk result (lent.new.items ≡ insert lent.old.items at link) }
-    ensures memory { IfErr result (λ e. e ≡ PlayError.OutOfMemory) }
+impl Numbering<Lent<StoreLink>> for LentList {
+    ghost use Rattle.sqlx_play.specs.stage.LentLinks.{number_of};
+
+    ghost number = { number_of };
+
+    fn number(lent: &Lent<StoreLink>) -> u64 {
+        lent.id
+    }
+}
+
+// Makes room for one more. Where the places are used up the gaps are closed, and as many places are added as are left.
+fn make_room(
+    places: &mut Vec<Option<Lent<StoreLink>>>,
+    notes: &mut Notes,
+) -> Result<(), OutOfMemory>
+    requires { Tells number_of notes.old places.old.items }
+    ensures items { items_at places.new.items ≡ items_at places.old.items }
+    ensures tells { Tells number_of notes.new places.new.items }
+    ensures room { OnOk result (length places.new.items < vec_capacity places.new) }
 {
-    match lent.insert(at, link) {
+    if places.len() < places.capacity() {
+        return Ok(());
+    }
+    notes.close_gaps::<Lent<StoreLink>, LentList>(places);
+    match places.reserve(places.len().max(1)) {
         Ok(()) => Ok(()),
-        Err(_) => Err(PlayError::OutOfMemory),
+        Err(_) => Err(OutOfMemory),
+    }
+}
+
+impl LentList {
+    /// No links.
+    pub fn new(alloc: Global) -> LentList
+        ensures { result.items ≡ [] }
+    {
+        LentList {
+            places: Vec::new(alloc),
+            notes: Notes::new(alloc),
+        }
+    }
+
+    /// Puts a link last.
+    pub fn push(&mut self, lent: Lent<StoreLink>) -> Result<(), OutOfMemory>
+        ensures ok { OnOk result (self.new.items ≡ self.old.items ++ lent ∷ []) }
+        ensures err { OnErr result (self.new.items ≡ self.old.items) }
+    {
+        make_room(&mut self.places, &mut self.notes)?;
+        self.notes
+            .note_last::<Lent<StoreLink>, LentList>(&self.places, lent.id);
+        self.places.push_reserved(Some(lent));
+        Ok(())
+    }
+
+    /// Takes a connection's link out.
+    pub fn take(&mut self, conn: u64) -> Option<Lent<StoreLink>>
+        ensures found { result ≡ find (is_lent conn) self.old.items }
+        ensures rest { self.new.items ≡ without_first (is_lent conn) self.old.items }
+    {
+        let place = self
+            .notes
+            .find::<Lent<StoreLink>, LentList>(&self.places, conn)?;
+        self.places[place].take()
+    }
+
+    /// Runs a statement on its connection's link, where that lies.
+    pub fn run(
+        &mut self,
+        store: &mut MemStore,
+        alloc: Global,
+        statement: Statement,
+    ) -> Option<Result<Reply, PlayError>>
+        ensures ran { IfSome result (λ ran. IfOk ran (RunsThere statement self.old.items self.new.items store.old store.new)) }
+        ensures memory { IfSome result (λ ran. IfErr ran (λ e. e ≡ error.OutOfMemory)) }
+        ensures none { IfNone result (RunsNowhere statement self.old.items self.new.items store.old store.new) }
+    {
+        let conn = u64::from(statement.connection);
+        let place = self
+            .notes
+            .find::<Lent<StoreLink>, LentList>(&self.places, conn)?;
+        let lent = self.places[place].as_mut()?;
+        Some(run_on(store, alloc, &mut lent.raw, statement.act, statement.answer))
     }
 }

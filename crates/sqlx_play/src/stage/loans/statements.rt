@@ -8,8 +8,7 @@ ghost use Rattle.sqlx_play.specs.events.PlaysEvent.{PlaysEvent};
 ghost use Rattle.sqlx_play.specs.stage.EventFrame.{EventFrame};
 ghost use Rattle.sqlx_play.specs.stage.StageStands.{last_of};
 
-use super::acts::{Act, run_on};
-use super::lent::place_of;
+use super::acts::Act;
 use crate::error::PlayError;
 use crate::stage::Stage;
 use sqlx_script::{Event, Reply, StatementAnswer, Step};
@@ -93,21 +92,17 @@ fn run(stage: &mut Stage, alloc: Global, statement: Statement) -> Result<Reply, 
     ensures numbered { IsNumbered stage.old.core }
     ensures memory { IfErr result (λ e. e ≡ PlayError.OutOfMemory) }
 {
-    let id = u64::from(statement.connection);
     stage.core.bounds();
-    if !stage.core.owns(statement.client, id) {
+    if !stage
+        .core
+        .owns(statement.client, u64::from(statement.connection))
+    {
         return Ok(Reply::NotHeld);
     }
-    let Some(at) = place_of(&stage.lent, id) else {
-        return Ok(Reply::NotHeld);
-    };
-    run_on(
-        &mut stage.out.store,
-        alloc,
-        &mut stage.lent[at].raw,
-        statement.act,
-        statement.answer,
-    )
+    match stage.lent.run(&mut stage.out.store, alloc, statement) {
+        Some(ran) => ran,
+        None => Ok(Reply::NotHeld),
+    }
 }
 
 /// One statement.
