@@ -17,7 +17,7 @@ use mem_store::{MemStore, StoreLink};
 use sqlx_pool_core::PoolCore;
 use sqlx_script::{Event, cut_line, read_event, read_pool_line};
 use std::alloc::Global;
-use std::fmt::Display;
+use std::fmt::{Display, Write};
 
 /// What a script left: the pool's core and the database that it was played on.
 #[derive(Drop)]
@@ -26,15 +26,20 @@ pub struct Played {
     pub store: MemStore,
 }
 
-// Writes a value's text and a newline, by one call if the sink takes it whole.
+// Writes a value's text and a newline, by one call if the sink takes it whole. The line's room is used again.
 #[tactic(auto, using(crate::proofs::scripts::Parts::none_yet))]
-fn write_line<K: Sink, T: Display>(alloc: Global, sink: &mut K, value: &T) -> Result<(), PlayError>
+fn write_line<K: Sink, T: Display>(
+    line: &mut String,
+    sink: &mut K,
+    value: &T,
+) -> Result<(), PlayError>
     ensures ok { OnOk result (IfSome (T.output value.now) (λ text. Appends (K.written sink.old) (K.written sink.new) (line_of text))) }
     ensures rises { K.faults sink.old ≤ K.faults sink.new }
     ensures cause { IfErr result (TextCause (λ _. ⊥) (IfSome (T.output value.now) (λ text. WrotePart (K.written sink.old) (K.written sink.new) (line_of text)))
         (K.faults sink.old) (K.faults sink.new)) }
 {
-    let line = format!(in alloc; "{value}\n")?;
+    line.clear();
+    write!(line, "{value}\n")?;
     write_all(sink, line.as_bytes())
 }
 
@@ -44,6 +49,7 @@ fn play_event<K: Sink>(
     alloc: Global,
     stage: &mut Stage,
     event: &Event,
+    line: &mut String,
     sink: &mut K,
 ) -> Result<(), PlayError>
     requires few { has_few_opens event.now.step ≡ true }
@@ -55,7 +61,7 @@ fn play_event<K: Sink>(
     ensures cause { IfErr result (TextCause (λ _. ⊥) (RepliesInPart (K.written sink.old) (K.written sink.new) stage.old event.now) (K.faults sink.old) (K.faults sink.new)) }
 {
     let reply = answer(stage, alloc, event)?;
-    write_line(alloc, sink, &reply)
+    write_line(line, sink, &reply)
 }
 
 // Plays the lines after the first.
@@ -63,6 +69,7 @@ fn play_lines<K: Sink>(
     alloc: Global,
     stage: &mut Stage,
     text: &[u8],
+    reply: &mut String,
     sink: &mut K,
 ) -> Result<(), PlayError>
     requires fresh { IsFresh stage.old }
@@ -82,7 +89,7 @@ fn play_lines<K: Sink>(
             Some(event) if event.moment.0 >= last => event,
             _ => return Err(PlayError::ScriptLine(number)),
         };
-        if let Err(error) = play_event(alloc, stage, &event, sink) {
+        if let Err(error) = play_event(alloc, stage, &event, reply, sink) {
             return Err(error);
         }
         rest = after;
@@ -119,11 +126,12 @@ fn play_text<K: Sink>(alloc: Global, text: &[u8], sink: &mut K) -> Result<Played
         return Err(PlayError::ScriptLine(1));
     };
     let mut stage = new_stage(alloc, pool)?;
-    if let Err(error) = play_lines(alloc, &mut stage, rest, sink) {
+    let mut reply = String::new(alloc);
+    if let Err(error) = play_lines(alloc, &mut stage, rest, &mut reply, sink) {
         drop(stage);
         return Err(error);
     }
-    if let Err(error) = write_line(alloc, sink, &report(&stage)) {
+    if let Err(error) = write_line(&mut reply, sink, &report(&stage)) {
         drop(stage);
         return Err(error);
     }

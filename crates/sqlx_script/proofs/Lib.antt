@@ -1,6 +1,7 @@
 pub mod Rows
 pub mod Cuts
 pub mod Digits
+pub mod LeadingDigits
 mod WorkedRows
 pub mod FewOpens
 pub mod ScriptBytes

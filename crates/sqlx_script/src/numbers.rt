@@ -1,5 +1,7 @@
 //! Words that are numbers.
-ghost use Rattle.std.specs.Prelude.{◌≡◌, ◌<◌, ◌≤◌, ◌^◌, ◌*◌, IfSome};
+ghost use Rattle.std.specs.Prelude.{◌≡◌, ◌<◌, ◌≤◌, ◌^◌, ◌*◌, true, IfSome, length, take};
+ghost use Rattle.std.specs.Str.{all_ascii_digits};
+ghost use Rattle.std.specs.Str.Parse.{digits_value};
 ghost use Rattle.sqlx_script.specs.Numbers.{digits_below};
 ghost use Rattle.sqlx_script.specs.Numbers as spec;
 
@@ -20,8 +22,28 @@ fn digits(word: &[u8]) -> Option<u64>
     Some(n)
 }
 
-// Whether the first of several digits is `0`.
-fn has_leading_zero(word: &[u8]) -> bool
+// How many digits a number without a check of its size may have.
+const FEW: usize = 19;
+
+/// The number that the digits in front write, and how many they are: all, or as many as are surely below 2^64.
+pub fn leading_digits(text: &[u8]) -> (u64, usize)
+    ensures within { result.1 ≤ length text.now }
+    ensures digits { all_ascii_digits (take result.1 text.now) ≡ true }
+    ensures value { result.0 ≡ digits_value 10 (take result.1 text.now) }
+{
+    let few = text.len().min(FEW);
+    let mut n: u64 = 0;
+    for at in 0..few {
+        if !text[at].is_ascii_digit() {
+            return (n, at);
+        }
+        n = n * 10 + u64::from(text[at] - b'0');
+    }
+    (n, few)
+}
+
+/// Whether the first of several digits is `0`.
+pub fn has_leading_zero(word: &[u8]) -> bool
     ensures { result ≡ spec.has_leading_zero word.now }
 {
     match word {

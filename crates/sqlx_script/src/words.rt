@@ -72,12 +72,39 @@ impl<'a> Words<'a> {
         Some(word)
     }
 
+    // The number of the next word in one pass, where it is as it should be and not too long.
+    fn short_number(&mut self, low: u64, high: u64) -> Option<u64>
+        ensures some { IfSome result (λ n. word (numbers_spec.number_in low high) self.old ≡ Some (n, self.new)) }
+        ensures within { IfSome result (λ n. (low ≤ n) × (n < high)) }
+        ensures none { IfNone result (self.new ≡ self.old) }
+    {
+        if self.ended {
+            return None;
+        }
+        let (n, at) = numbers::leading_digits(self.rest);
+        if at == 0 || numbers::has_leading_zero(&self.rest[..at]) || n < low || high <= n {
+            return None;
+        }
+        if at == self.rest.len() {
+            self.ended = true;
+            return Some(n);
+        }
+        if self.rest[at] != b' ' {
+            return None;
+        }
+        self.rest = &self.rest[at + 1..];
+        Some(n)
+    }
+
     /// The number of the next word, from `low` to below `high`.
     #[tactic(auto, unfolding(crate::specs::Rows::word))]
     pub fn number(&mut self, low: u64, high: u64) -> Option<u64>
         ensures reads { Reads (numbers_spec.number_in low high) result self.old self.new }
         ensures within { IfSome result (λ n. (low ≤ n) × (n < high)) }
     {
+        if let Some(n) = self.short_number(low, high) {
+            return Some(n);
+        }
         numbers::number_in(self.next()?, low, high)
     }
 
