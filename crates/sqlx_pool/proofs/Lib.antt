@@ -3,3 +3,5 @@ pub mod CutLemmas
 pub mod LeavesLemmas
 pub mod ReturnsLemmas
 pub mod RefusalLemmas
+pub mod HandleLemmas
+pub mod SeenLemmas

@@ -13,3 +13,5 @@ pub mod Maybe
 pub mod Acquired
 pub mod Opened
 pub mod MarkLog
+pub mod Handle
+pub mod Seen

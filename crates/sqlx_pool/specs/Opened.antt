@@ -9,6 +9,10 @@ use Rattle.sqlx_pool_core.specs.Outside.{HasRisen}
 abbrev pub IsOpenable : PoolOptions → ℕ → Type 0
 IsOpenable options max = (1 ≤ options.max_connections) × (1 ≤ options.idle_tries) × (options.idle_tries ≤ 16) × (options.max_connections ≡ max)
 
--- why the first connections are refused: want of memory, a level that their hook left open, or a refusal of the connect or of the hook, which was counted
-abbrev pub IsOpenRefusal : ℕ → ℕ → ℕ → ℕ → Error → Type 0
-IsOpenRefusal faults refusals faults_now refusals_now e = (e ≡ error.OutOfMemory) ⊎ (e ≡ error.BeginFailed) ⊎ HasRisen faults faults_now ⊎ HasRisen refusals refusals_now
+-- an outside tells of each connection as many open levels as the connection itself
+abbrev pub TellsLevels : {C X : Type 0} → (X → C → ℕ) → (C → ℕ) → Type 0
+TellsLevels {C = C} {X = X} depth levels = (out : X) → (conn : C) → depth out conn ≡ levels conn
+
+-- why the first connections are refused: want of memory; a level that their hook left open, which was counted where the outside tells of levels as the connections do; or a refusal of the connect or of the hook, which was counted
+abbrev pub IsOpenRefusal : {C X : Type 0} → (X → C → ℕ) → (C → ℕ) → ℕ → ℕ → ℕ → ℕ → Error → Type 0
+IsOpenRefusal depth levels faults refusals faults_now refusals_now e = (e ≡ error.OutOfMemory) ⊎ ((e ≡ error.BeginFailed) × (TellsLevels depth levels → HasRisen refusals refusals_now)) ⊎ HasRisen faults faults_now ⊎ HasRisen refusals refusals_now

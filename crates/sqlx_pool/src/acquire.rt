@@ -60,3 +60,24 @@ impl<'c, DB: Database, H: Ledger, L: Loans> Acquire<DB>
         Ok(Borrowed(Hold::<DB>::conn_mut(self)))
     }
 }
+
+impl<'c, 'd, DB: Database> Acquire<DB> for &'c mut Transaction<DB, Borrowed<'d, DB>> {
+    type Holder = Borrowed<'c, DB>;
+
+    ghost acquires = { λ level result. Holds level.now.0.now (λ holder. holder.0.now) result };
+
+    fn acquire(self, _alloc: Global) -> Result<Borrowed<'c, DB>, Error> {
+        Ok(Borrowed(Hold::<DB>::conn_mut(self)))
+    }
+}
+
+impl<'c, DB: Database, H: Ledger, L: Loans> Acquire<DB>
+    for &'c mut Transaction<DB, PoolConnectionOf<DB::Connection, DB::Options, H, L>> {
+    type Holder = Borrowed<'c, DB>;
+
+    ghost acquires = { λ level result. Holds level.now.raw (λ holder. holder.0.now) result };
+
+    fn acquire(self, _alloc: Global) -> Result<Borrowed<'c, DB>, Error> {
+        Ok(Borrowed(Hold::<DB>::conn_mut(self)))
+    }
+}

@@ -1,9 +1,9 @@
 //! What is asked of the outside between two locked steps: the core's own test of an idle connection, try to open one
 //! and test of one that comes back. Nothing here knows the lock. Each reads the connection's own depth last.
 
-ghost use Rattle.std.specs.Prelude.{◌≡◌, ℕ, ◌≤◌, IfErr, OnErr};
+ghost use Rattle.std.specs.Prelude.{◌≡◌, ◌==◌, ◌⊎◌, ℕ, ◌≤◌, false, IfErr, IfOk, OnErr};
+ghost use Rattle.sqlx_text.specs.declared.error.Error.{Error};
 ghost use Rattle.sqlx_pool_core.specs.Outside.{HasRisen};
-ghost use Rattle.sqlx_pool.specs.Opened.{IsOpenRefusal};
 ghost use Rattle.sqlx_pool_core.specs.PollParts.{IfAccepted, IfOpened, IfFailed, IsForGood};
 ghost use Rattle.sqlx_pool_core.specs.Giving.{is_pass};
 ghost use Rattle.sqlx_pool_core.specs.PollSteps.{judged};
@@ -100,6 +100,7 @@ pub fn judge<C: Depth, O, X: Outside<C, O>>(
 pub fn hooked<C, O, X: Outside<C, O>>(hook: bool, raw: &mut C, out: &mut X) -> Result<(), Error>
     ensures counts { (X.faults out.old ≤ X.faults out.new) × (X.refusals out.old ≤ X.refusals out.new) }
     ensures refused { OnErr result (HasRisen (X.refusals out.old) (X.refusals out.new)) }
+    ensures left { X.depth out.old raw.old ≡ 0 → (X.depth out.new raw.new == 0) ≡ false → HasRisen (X.refusals out.old) (X.refusals out.new) }
 {
     if !hook {
         return Ok(());
@@ -118,7 +119,8 @@ pub fn connected<C, O, X: Outside<C, O>>(
     out: &mut X,
 ) -> Result<C, Error>
     ensures counts { (X.faults out.old ≤ X.faults out.new) × (X.refusals out.old ≤ X.refusals out.new) }
-    ensures refused { IfErr result (IsOpenRefusal (X.faults out.old) (X.refusals out.old) (X.faults out.new) (X.refusals out.new)) }
+    ensures refused { IfErr result (λ e. (e ≡ Error.OutOfMemory) ⊎ HasRisen (X.faults out.old) (X.faults out.new)) }
+    ensures flat { IfOk result (λ raw. X.depth out.new raw ≡ 0) }
 {
     out.connect(alloc, connect)
 }

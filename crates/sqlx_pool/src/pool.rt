@@ -1,12 +1,17 @@
 //! The pool that threads share: a handle on one locked value. Each call takes the lock for one step at a time.
 
-ghost use Rattle.std.specs.Prelude.{◌≡◌, ℕ, ◌+◌, ◌^◌, ◌<◌, ◌≤◌, ◌⊎◌, List, [], ◌++◌, true, false, is_some, IfOk, IfErr, IfSome, OnErr};
+ghost use Rattle.std.specs.Prelude.{◌≡◌, ℕ, ◌+◌, ◌^◌, ◌<◌, ◌≤◌, ◌⊎◌, List, [], ◌++◌, true, false, is_some, length, not, IfOk, IfErr, IfSome, OnErr};
 ghost use Rattle.sqlx_text.specs.declared.error.Error.{Error};
+ghost use Rattle.sqlx_log.specs.EventTable.{size_at};
 ghost use Rattle.sqlx_log.specs.FairLog.{IsFair};
+ghost use Rattle.sqlx_log.specs.Marks.{is_open, idle_of};
 ghost use Rattle.sqlx_pool_core.specs.Balance.{lents};
+ghost use Rattle.sqlx_pool_core.specs.MaintenanceSteps.{close_state_of};
 ghost use Rattle.sqlx_pool.specs.Booked.{CountsIf};
 ghost use Rattle.sqlx_pool.specs.Opened.{IsOpenable};
 ghost use Rattle.sqlx_pool.specs.MarkLog.{IsUncut};
+ghost use Rattle.sqlx_pool.specs.Seen.{Saw};
+ghost use Rattle.sqlx_pool.specs.State.{since_start};
 
 mod first;
 mod maintenance;
@@ -150,26 +155,32 @@ impl<C: Depth + Drop, O: Drop, H: Ledger, L: Loans> PoolOf<C, O, H, L> {
 
     /// How many connections there are or may be: at most the maximum.
     pub fn size<R: Wait>(&self, rt: &R) -> u32
-        ensures { result ≤ L.max }
+        ensures most { result ≤ L.max }
+        ensures saw { Saw C.levels L.max L.cuts (λ state. result ≡ size_at state.core.places state.marks) }
     {
-        self.shared.locked.lock(rt).size()
+        self.shared.locked.lock(rt).seen_size()
     }
 
     /// How many connections are idle: at most the maximum.
     pub fn num_idle<R: Wait>(&self, rt: &R) -> usize
-        ensures { result ≤ L.max }
+        ensures most { result ≤ L.max }
+        ensures saw { Saw C.levels L.max L.cuts (λ state. result ≡ length (idle_of state.marks)) }
     {
-        self.shared.locked.lock(rt).num_idle()
+        self.shared.locked.lock(rt).seen_idle()
     }
 
     /// Whether the pool is closed.
-    pub fn is_closed<R: Wait>(&self, rt: &R) -> bool {
-        self.shared.locked.lock(rt).is_closed()
+    pub fn is_closed<R: Wait>(&self, rt: &R) -> bool
+        ensures { Saw C.levels L.max L.cuts (λ state. is_open state.marks ≡ not result) }
+    {
+        self.shared.locked.lock(rt).seen_closed()
     }
 
     /// How far the pool is closed.
-    pub fn closing<R: Wait>(&self, rt: &R) -> CloseState {
-        self.shared.locked.lock(rt).closing()
+    pub fn closing<R: Wait>(&self, rt: &R) -> CloseState
+        ensures { Saw C.levels L.max L.cuts (λ state. result ≡ close_state_of state.marks) }
+    {
+        self.shared.locked.lock(rt).seen_closing()
     }
 
     /// What tells that the pool is closed.
@@ -212,8 +223,10 @@ impl<C: Depth + Drop, O: Drop, H: Ledger, L: Loans> PoolOf<C, O, H, L> {
     }
 
     /// How many marks the log has behind its start.
-    pub fn log_len<R: Wait>(&self, rt: &R) -> usize {
-        self.shared.locked.lock(rt).log_len()
+    pub fn log_len<R: Wait>(&self, rt: &R) -> usize
+        ensures { Saw C.levels L.max L.cuts (λ state. result ≡ length (since_start state)) }
+    {
+        self.shared.locked.lock(rt).seen_len()
     }
 
     /// Cuts the log: the marks that later ones still look at become its start, and the others are forgotten. It takes no

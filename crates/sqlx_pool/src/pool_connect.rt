@@ -71,7 +71,7 @@ pub trait PoolConnect: Drop + Sized {
         requires loans { (loans.name ≡ L.name) × (loans.parts ≡ L.parts) }
         ensures options { IfOk result (λ made. made.0.shared.value.options ≡ options self) }
         ensures tally { IfOk result (λ made. made.1 ≡ record { parts = L.parts; loans = 0 }) }
-        ensures refused { IfErr result (IsOpenRefusal (X.faults out.old) (X.refusals out.old) (X.faults out.new) (X.refusals out.new)) }
+        ensures refused { IfErr result (IsOpenRefusal X.depth C.levels (X.faults out.old) (X.refusals out.old) (X.faults out.new) (X.refusals out.new)) }
     {
         let (pool, tally) = self.connect_lazy_with::<C, O, H, L>(alloc, connect, held, loans)?;
         match pool.connect_all::<R, X>(rt, alloc, now, out) {
@@ -107,7 +107,7 @@ pub trait PoolConnect: Drop + Sized {
         requires loans { (loans.name ≡ L.name) × (loans.parts ≡ L.parts) }
         ensures options { IfOk result (λ made. made.0.shared.value.options ≡ options self) }
         ensures tally { IfOk result (λ made. made.1 ≡ record { parts = L.parts; loans = 0 }) }
-        ensures refused { IfErr result (λ e. IsOpenRefusal (X.faults out.old) (X.refusals out.old) (X.faults out.new) (X.refusals out.new) e ⊎ ReadsText (parse_url None url.now) O.reads (Err e)) }
+        ensures refused { IfErr result (λ e. IsOpenRefusal X.depth C.levels (X.faults out.old) (X.refusals out.old) (X.faults out.new) (X.refusals out.new) e ⊎ ReadsText (parse_url None url.now) O.reads (Err e)) }
     {
         let connect = O::parse(alloc, url)?;
         self.connect_with::<C, O, H, L, R, X>(rt, alloc, connect, now, out, held, loans)
@@ -158,7 +158,7 @@ impl<C: Depth + Drop, O: Drop, H: Ledger, L: Loans> PoolOf<C, O, H, L> {
         requires held { (held.name ≡ H.name) × (held.parts ≡ H.parts) × (held.parts ≡ 2 ^ 32) }
         requires loans { (loans.name ≡ L.name) × (loans.parts ≡ L.parts) }
         ensures tally { IfOk result (λ made. made.1 ≡ record { parts = L.parts; loans = 0 }) }
-        ensures refused { IfErr result (IsOpenRefusal (X.faults out.old) (X.refusals out.old) (X.faults out.new) (X.refusals out.new)) }
+        ensures refused { IfErr result (IsOpenRefusal X.depth C.levels (X.faults out.old) (X.refusals out.old) (X.faults out.new) (X.refusals out.new)) }
     {
         PoolOptions::new().connect_with::<C, O, H, L, R, X>(
             rt, alloc, connect, now, out, held, loans,
@@ -197,7 +197,7 @@ impl<C: Depth + Drop, O: ConnectOptions + Drop, H: Ledger, L: Loans> PoolOf<C, O
         requires held { (held.name ≡ H.name) × (held.parts ≡ H.parts) × (held.parts ≡ 2 ^ 32) }
         requires loans { (loans.name ≡ L.name) × (loans.parts ≡ L.parts) }
         ensures tally { IfOk result (λ made. made.1 ≡ record { parts = L.parts; loans = 0 }) }
-        ensures refused { IfErr result (λ e. IsOpenRefusal (X.faults out.old) (X.refusals out.old) (X.faults out.new) (X.refusals out.new) e ⊎ ReadsText (parse_url None url.now) O.reads (Err e)) }
+        ensures refused { IfErr result (λ e. IsOpenRefusal X.depth C.levels (X.faults out.old) (X.refusals out.old) (X.faults out.new) (X.refusals out.new) e ⊎ ReadsText (parse_url None url.now) O.reads (Err e)) }
     {
         PoolOptions::new().connect::<C, O, H, L, R, X>(rt, alloc, url, now, out, held, loans)
     }

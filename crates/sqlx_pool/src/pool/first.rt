@@ -16,10 +16,12 @@ use std::sync::Wait;
 use std::sync::ledger::Ledger;
 
 // Sets a new connection up by its hook, where it is set. A level that is left open is `BeginFailed`.
+#[tactic(auto, using(crate::proofs::RefusalLemmas::left_open))]
 fn set_up<C: Depth, O, X: Outside<C, O>>(hook: bool, given: C, out: &mut X) -> Result<C, Error>
+    requires { X.depth out.old given ≡ 0 }
     ensures flat { IfOk result (λ raw. C.levels raw ≡ 0) }
     ensures counts { (X.faults out.old ≤ X.faults out.new) × (X.refusals out.old ≤ X.refusals out.new) }
-    ensures refused { IfErr result (IsOpenRefusal (X.faults out.old) (X.refusals out.old) (X.faults out.new) (X.refusals out.new)) }
+    ensures refused { IfErr result (IsOpenRefusal X.depth C.levels (X.faults out.old) (X.refusals out.old) (X.faults out.new) (X.refusals out.new)) }
 {
     let mut raw = given;
     match checks::hooked::<C, O, X>(hook, &mut raw, out) {
@@ -40,6 +42,7 @@ fn set_up<C: Depth, O, X: Outside<C, O>>(hook: bool, given: C, out: &mut X) -> R
 
 impl<C: Depth + Drop, O: Drop, H: Ledger, L: Loans> PoolOf<C, O, H, L> {
     // Opens the first connections; where one is refused the pool is closed, and what was opened is closed hard.
+    #[tactic(auto, using(crate::proofs::RefusalLemmas::open_later))]
     pub(crate) fn connect_all<R: Wait, X: Outside<C, O>>(
         &self,
         rt: &R,
@@ -48,7 +51,7 @@ impl<C: Depth + Drop, O: Drop, H: Ledger, L: Loans> PoolOf<C, O, H, L> {
         out: &mut X,
     ) -> Result<(), Error>
         ensures counts { (X.faults out.old ≤ X.faults out.new) × (X.refusals out.old ≤ X.refusals out.new) }
-        ensures refused { IfErr result (IsOpenRefusal (X.faults out.old) (X.refusals out.old) (X.faults out.new) (X.refusals out.new)) }
+        ensures refused { IfErr result (IsOpenRefusal X.depth C.levels (X.faults out.old) (X.refusals out.old) (X.faults out.new) (X.refusals out.new)) }
     {
         let opened = self.open_first::<R, X>(rt, alloc, now, out);
         if opened.is_err() {
@@ -60,6 +63,7 @@ impl<C: Depth + Drop, O: Drop, H: Ledger, L: Loans> PoolOf<C, O, H, L> {
     }
 
     // Opens the first connections.
+    #[tactic(auto, using(crate::proofs::RefusalLemmas::open_sooner))]
     fn open_first<R: Wait, X: Outside<C, O>>(
         &self,
         rt: &R,
@@ -68,7 +72,7 @@ impl<C: Depth + Drop, O: Drop, H: Ledger, L: Loans> PoolOf<C, O, H, L> {
         out: &mut X,
     ) -> Result<(), Error>
         ensures counts { (X.faults out.old ≤ X.faults out.new) × (X.refusals out.old ≤ X.refusals out.new) }
-        ensures refused { IfErr result (IsOpenRefusal (X.faults out.old) (X.refusals out.old) (X.faults out.new) (X.refusals out.new)) }
+        ensures refused { IfErr result (IsOpenRefusal X.depth C.levels (X.faults out.old) (X.refusals out.old) (X.faults out.new) (X.refusals out.new)) }
     {
         let max = self.shared.options.get_max_connections();
         for _ in 0..max {
@@ -90,7 +94,7 @@ impl<C: Depth + Drop, O: Drop, H: Ledger, L: Loans> PoolOf<C, O, H, L> {
         out: &mut X,
     ) -> Result<Filled, Error>
         ensures counts { (X.faults out.old ≤ X.faults out.new) × (X.refusals out.old ≤ X.refusals out.new) }
-        ensures refused { IfErr result (IsOpenRefusal (X.faults out.old) (X.refusals out.old) (X.faults out.new) (X.refusals out.new)) }
+        ensures refused { IfErr result (IsOpenRefusal X.depth C.levels (X.faults out.old) (X.refusals out.old) (X.faults out.new) (X.refusals out.new)) }
     {
         let place = self.shared.locked.lock(rt).first_place(alloc);
         match place {
@@ -115,7 +119,7 @@ impl<C: Depth + Drop, O: Drop, H: Ledger, L: Loans> PoolOf<C, O, H, L> {
     ) -> Result<C, Error>
         ensures flat { IfOk result (λ raw. C.levels raw ≡ 0) }
         ensures counts { (X.faults out.old ≤ X.faults out.new) × (X.refusals out.old ≤ X.refusals out.new) }
-        ensures refused { IfErr result (IsOpenRefusal (X.faults out.old) (X.refusals out.old) (X.faults out.new) (X.refusals out.new)) }
+        ensures refused { IfErr result (IsOpenRefusal X.depth C.levels (X.faults out.old) (X.refusals out.old) (X.faults out.new) (X.refusals out.new)) }
     {
         let Ok(connect) = self.connect_options(rt) else {
             return Err(Error::OutOfMemory);

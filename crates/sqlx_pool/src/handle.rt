@@ -1,0 +1,145 @@
+//! A pool as an executor: each call waits for a connection, works on it and returns it.
+
+ghost use Rattle.std.specs.Prelude.{◌≡◌, ℕ, ◌<◌, ◌≤◌, true, IfOk, IfErr, OnOk, OnErr};
+ghost use Rattle.sqlx_pool_core.specs.Outside.{HasRisen};
+ghost use Rattle.sqlx_pool.specs.Booked.{CountsIf};
+ghost use Rattle.sqlx_pool.specs.Refusals.{IsPollRefusal};
+
+mod executor;
+
+use crate::counting::Counting;
+use crate::{Acquire, Clock, Loans, PoolConnection, PoolConnectionOf, PoolOf, Tally};
+use sqlx_pool_core::Outside;
+use sqlx_text::{Depth, Error};
+use sqlx_traits::{Database, Faults};
+use std::alloc::Global;
+use std::sync::Wait;
+use std::sync::ledger::Ledger;
+
+/// A pool, with all that a call of it takes: what tells the time, the outside, and the tally of its loans. Each call as an
+/// executor waits for a connection, makes one call on it and returns it.
+#[derive(Drop)]
+pub struct PoolHandle<'p, C: Depth, O, H: Ledger, L: Loans, R, K, X> {
+    pool: &'p PoolOf<C, O, H, L>,
+    rt: R,
+    clock: K,
+    client: u32,
+    out: X,
+    tally: Counting<L>,
+    // How many calls were made of it.
+    calls: u64,
+}
+
+impl<C: Depth + Drop, O: Drop, H: Ledger, L: Loans> PoolOf<C, O, H, L> {
+    /// The pool as an executor, for a client. In sqlx: `&pool`.
+    pub fn with<'p, R: Wait, K: Clock, X: Outside<C, O>>(
+        &'p self,
+        rt: R,
+        clock: K,
+        client: u32,
+        out: X,
+        tally: Tally<L>,
+    ) -> PoolHandle<'p, C, O, H, L, R, K, X>
+        requires { 0 < tally.parts }
+        ensures clock { result.clock ≡ clock }
+        ensures out { result.out ≡ out }
+        ensures tally { result.tally ≡ tally }
+    {
+        PoolHandle {
+            pool: self,
+            rt,
+            clock,
+            client,
+            out,
+            tally: Counting::new(tally),
+            calls: 0,
+        }
+    }
+}
+
+impl<'p, C: Depth, O, H: Ledger, L: Loans, R, K, X> Faults for PoolHandle<'p, C, O, H, L, R, K, X> {
+    ghost faults = { λ handle. handle.calls };
+}
+
+impl<
+    'p,
+    C: Depth + Drop,
+    O: Drop,
+    H: Ledger,
+    L: Loans,
+    R: Wait + Drop,
+    K: Clock,
+    X: Outside<C, O>,
+> PoolHandle<'p, C, O, H, L, R, K, X> {
+    /// What tells the time, the outside, and the tally with the loans that were made.
+    pub fn into_parts(self) -> (K, X, Tally<L>)
+        ensures clock { result.0 ≡ self.entry.clock }
+        ensures out { result.1 ≡ self.entry.out }
+        ensures tally { result.2 ≡ self.entry.tally }
+    {
+        let PoolHandle {
+            pool: _,
+            rt,
+            clock,
+            client: _,
+            out,
+            tally,
+            calls: _,
+        } = self;
+        drop(rt);
+        (clock, out, tally.into_tally())
+    }
+
+    // Waits for a connection. Each call is counted, since it may be refused.
+    fn lend(&mut self, alloc: Global) -> Result<PoolConnectionOf<C, O, H, L>, Error>
+        ensures lent { OnOk result (CountsIf true self.old.tally self.new.tally) }
+        ensures refused { OnErr result (self.new.tally ≡ self.old.tally) }
+        ensures flat { IfOk result (λ conn. C.levels conn.raw ≡ 0) }
+        ensures causes { IfErr result (IsPollRefusal (X.faults self.old.out) (X.faults self.new.out)) }
+        ensures counted { HasRisen self.old.calls self.new.calls }
+        ensures rises { self.old.calls ≤ self.new.calls }
+    {
+        self.calls = self.calls.saturating_add(1);
+        self.tally.acquire::<C, O, H, R, K, X>(
+            self.pool,
+            &self.rt,
+            alloc,
+            &mut self.clock,
+            self.client,
+            &mut self.out,
+        )
+    }
+
+    // Returns a connection.
+    fn give_back(&mut self, alloc: Global, conn: PoolConnectionOf<C, O, H, L>)
+        ensures tally { self.new.tally ≡ self.old.tally }
+        ensures calls { self.new.calls ≡ self.old.calls }
+    {
+        let now = self.clock.now();
+        let _ = conn.return_to_pool::<R, X>(&self.rt, alloc, now, &mut self.out);
+    }
+}
+
+impl<
+    'h,
+    'p,
+    DB: Database,
+    H: Ledger,
+    L: Loans,
+    R: Wait + Drop,
+    K: Clock,
+    X: Outside<DB::Connection, DB::Options>,
+> Acquire<DB> for &'h mut PoolHandle<'p, DB::Connection, DB::Options, H, L, R, K, X>
+where
+    DB::Connection: Drop,
+{
+    type Holder = PoolConnection<DB, H, L>;
+
+    ghost use Rattle.sqlx_pool.specs.Handle.{Lends};
+
+    ghost acquires = { λ handle result. Lends DB.Connection.levels (λ lent. lent.raw) (X.faults handle.now.out) result };
+
+    fn acquire(self, alloc: Global) -> Result<PoolConnection<DB, H, L>, Error> {
+        self.lend(alloc)
+    }
+}

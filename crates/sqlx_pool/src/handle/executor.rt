@@ -1,0 +1,191 @@
+//! The calls of a pool as an executor.
+
+ghost use Rattle.std.specs.Prelude.{◌≡◌, ℕ, ◌<◌, ◌≤◌, ◌⊎◌, ◌∷◌, [], Err, IfErr, IfOk};
+ghost use Rattle.sqlx_traits.specs.Faults.{FaultCause};
+ghost use Rattle.sqlx_traits.specs.Handed.{handed};
+ghost use Rattle.sqlx_traits.specs.StepList.{StepCauses};
+ghost use Rattle.sqlx_pool.specs.Handle.{is_of_begin, told, WasRefused, WorkedOn};
+
+use super::PoolHandle;
+use crate::taken::Taken;
+use crate::{Clock, Loans, PoolConnection};
+use sqlx_pool_core::Outside;
+use sqlx_text::{Error, IoFault, SqlStr};
+use sqlx_traits::{Database, Execute, Executor, FetchMany, StepList};
+use std::alloc::Global;
+use std::sync::Wait;
+use std::sync::ledger::Ledger;
+
+// The pool of a database as an executor.
+type Handle<'p, DB, H, L, R, K, X> = PoolHandle<
+    'p,
+    <DB as Database>::Connection,
+    <DB as Database>::Options,
+    H,
+    L,
+    R,
+    K,
+    X,
+>;
+
+// It is one of the two errors of a begin.
+fn is_of_begin(error: &Error) -> bool
+    ensures { result ≡ is_of_begin error.now }
+{
+    match error {
+        Error::InvalidSavePointStatement => true,
+        Error::BeginFailed => true,
+        _ => false,
+    }
+}
+
+// An error of the lending, as an executor tells it: a connect may answer the two of a begin, and an executor may not.
+fn as_told(error: Error) -> Error
+    ensures { result ≡ told error }
+{
+    if is_of_begin(&error) {
+        drop(error);
+        Error::Io(IoFault::Other)
+    } else {
+        error
+    }
+}
+
+// Runs a query on a connection that was lent.
+fn run_on<DB: Database, H: Ledger, L: Loans, Q: Execute<DB>>(
+    alloc: Global,
+    conn: &mut PoolConnection<DB, H, L>,
+    query: Q,
+) -> FetchMany<DB>
+where
+    DB::Connection: Executor<DB>,
+    ensures steps { DB.Connection.runs conn.old.raw (handed Q.text Q.arguments Q.kept query) result conn.new.raw }
+    ensures causes { StepCauses (DB.Connection.faults conn.old.raw) (DB.Connection.faults conn.new.raw) (Q.arguments query) result }
+{
+    Executor::<DB>::fetch_many(&mut conn.raw, alloc, query)
+}
+
+// Prepares a statement on a connection that was lent.
+fn prepare_on<DB: Database, H: Ledger, L: Loans>(
+    alloc: Global,
+    conn: &mut PoolConnection<DB, H, L>,
+    sql: SqlStr,
+    parameters: &[DB::TypeInfo],
+) -> Result<DB::Statement, Error>
+where
+    DB::Connection: Executor<DB>,
+    ensures prepared { DB.Connection.prepares conn.old.raw sql parameters.now result conn.new.raw }
+    ensures text { IfOk result (λ statement. DB.Statement.text statement ≡ sql) }
+    ensures cause { IfErr result (FaultCause (DB.Connection.faults conn.old.raw) (DB.Connection.faults conn.new.raw)) }
+{
+    Executor::<DB>::prepare_with(&mut conn.raw, alloc, sql, parameters)
+}
+
+// Waits for a connection, runs a query on it and returns it.
+#[tactic(auto, using(crate::proofs::HandleLemmas::causes_counted))]
+fn run<
+    DB: Database,
+    H: Ledger,
+    L: Loans,
+    R: Wait + Drop,
+    K: Clock,
+    X: Outside<DB::Connection, DB::Options>,
+    Q: Execute<DB>,
+>(handle: &mut Handle<'_, DB, H, L, R, K, X>, alloc: Global, query: Q) -> FetchMany<DB>
+where
+    DB::Connection: Executor<DB> + Drop,
+    ensures ran { WasRefused (X.faults handle.old.out) (X.faults handle.new.out) handle.old.tally handle.new.tally (λ e. result ≡ Err e ∷ [])
+        ⊎ WorkedOn DB.Connection.levels handle.old.tally handle.new.tally (λ first last. DB.Connection.runs first (handed Q.text Q.arguments Q.kept query) result last) }
+    ensures rises { handle.old.calls ≤ handle.new.calls }
+    ensures causes { StepCauses handle.old.calls handle.new.calls (Q.arguments query) result }
+{
+    match handle.lend(alloc) {
+        Ok(lent) => {
+            let mut conn = lent;
+            let list = run_on::<DB, H, L, Q>(alloc, &mut conn, query);
+            handle.give_back(alloc, conn);
+            list
+        }
+        Err(error) => {
+            drop(query);
+            StepList::refused(alloc, as_told(error))
+        }
+    }
+}
+
+// Waits for a connection, prepares a statement on it and returns it.
+#[tactic(auto, using(crate::proofs::HandleLemmas::errs_counted))]
+fn prepare<
+    DB: Database,
+    H: Ledger,
+    L: Loans,
+    R: Wait + Drop,
+    K: Clock,
+    X: Outside<DB::Connection, DB::Options>,
+>(
+    handle: &mut Handle<'_, DB, H, L, R, K, X>,
+    alloc: Global,
+    sql: SqlStr,
+    parameters: &[DB::TypeInfo],
+) -> Result<DB::Statement, Error>
+where
+    DB::Connection: Executor<DB> + Drop,
+    ensures ran { WasRefused (X.faults handle.old.out) (X.faults handle.new.out) handle.old.tally handle.new.tally (λ e. result ≡ Err e)
+        ⊎ WorkedOn DB.Connection.levels handle.old.tally handle.new.tally (λ first last. DB.Connection.prepares first sql parameters.now result last) }
+    ensures text { IfOk result (λ statement. DB.Statement.text statement ≡ sql) }
+    ensures rises { handle.old.calls ≤ handle.new.calls }
+    ensures cause { IfErr result (FaultCause handle.old.calls handle.new.calls) }
+{
+    match handle.lend(alloc) {
+        Ok(lent) => {
+            let mut conn = lent;
+            let prepared = prepare_on::<DB, H, L>(alloc, &mut conn, sql, parameters);
+            handle.give_back(alloc, conn);
+            prepared
+        }
+        Err(error) => {
+            drop(sql);
+            Err(as_told(error))
+        }
+    }
+}
+
+impl<
+    'p,
+    DB: Database,
+    H: Ledger,
+    L: Loans,
+    R: Wait + Drop,
+    K: Clock,
+    X: Outside<DB::Connection, DB::Options>,
+> Executor<DB> for PoolHandle<'p, DB::Connection, DB::Options, H, L, R, K, X>
+where
+    DB::Connection: Executor<DB> + Drop,
+{
+    ghost use Rattle.std.specs.Prelude.{◌≡◌, ◌⊎◌, ◌∷◌, [], Err, IfErr, IfOk};
+    ghost use Rattle.sqlx_traits.specs.StepList.{RunsNothing};
+    ghost use Rattle.sqlx_pool.specs.Handle.{WasRefused, WorkedOn};
+
+    ghost runs = { λ handle query list after. IfErr query.arguments (RunsNothing handle after (λ e. list ≡ Err e ∷ [])) × IfOk query.arguments (λ _.
+        WasRefused (X.faults handle.out) (X.faults after.out) handle.tally after.tally (λ e. list ≡ Err e ∷ [])
+        ⊎ WorkedOn DB.Connection.levels handle.tally after.tally (λ first last. DB.Connection.runs first query list last)) };
+
+    ghost prepares = { λ handle sql parameters answer after. WasRefused (X.faults handle.out) (X.faults after.out) handle.tally after.tally (λ e. answer ≡ Err e)
+        ⊎ WorkedOn DB.Connection.levels handle.tally after.tally (λ first last. DB.Connection.prepares first sql parameters answer last) };
+
+    fn fetch_many<Q: Execute<DB>>(&mut self, alloc: Global, query: Q) -> FetchMany<DB> {
+        match Taken::<DB, Q>::new(query) {
+            Ok(taken) => run::<DB, H, L, R, K, X, Taken<DB, Q>>(self, alloc, taken),
+            Err(fault) => StepList::not_encoded(alloc, fault),
+        }
+    }
+
+    fn prepare_with(
+        &mut self,
+        alloc: Global,
+        sql: SqlStr,
+        parameters: &[DB::TypeInfo],
+    ) -> Result<DB::Statement, Error> {
+        prepare::<DB, H, L, R, K, X>(self, alloc, sql, parameters)
+    }
+}
