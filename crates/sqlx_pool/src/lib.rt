@@ -24,6 +24,7 @@ mod parts;
 mod pool;
 mod pool_connect;
 mod record;
+mod sleepers;
 mod stage;
 mod tally;
 

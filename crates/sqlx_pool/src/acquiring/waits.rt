@@ -17,6 +17,10 @@ use std::alloc::Global;
 use std::sync::Wait;
 use std::sync::ledger::Ledger;
 
+// Where no more tickets than these haven't ended, one that waits looks for its call before it sleeps: its turn comes
+// soon, and the threads that bring it have processors.
+const LOOKERS: usize = 3;
+
 impl<C: Depth, O, H: Ledger, L: Loans> Locked<C, O, H, L> {
     // Asks, and begins the first poll.
     fn ask_and_begin(
@@ -41,16 +45,33 @@ impl<C: Depth, O, H: Ledger, L: Loans> Locked<C, O, H, L> {
 }
 
 impl<C: Depth + Drop, O: Drop, H: Ledger, L: Loans> PoolOf<C, O, H, L> {
-    // Lets the lock go. Where the ticket waits, it sleeps first until a step may have freed something for it: the lock
-    // was held since the step that said so, so no such step is missed.
+    // Lets the lock go. Where the ticket waits, it then sleeps until it is called.
+    //
+    // No call is missed. The lock was held since the step that said `Waiting`, so the ticket isn't entitled yet, and the
+    // calls of its place are counted as they are now. A step that entitles it moves the edge past it under a later
+    // holding, and then its maker calls its place (`unlock`), or all places (`notify`), as after a close: that raises the
+    // count, and a sleep on another count ends, or doesn't begin. The step of a client that entitles its own ticket
+    // calls nobody, for it is awake.
     fn sleep_if_waiting<R: Wait>(
         &self,
         rt: &R,
         guard: Guard<'_, C, O, H, L>,
+        ticket: u64,
         begun: &Stage<C, Held<H>>,
     ) {
+        let mut guard = guard;
+        let place = self.shared.sleepers.place(ticket);
+        let calls = place.calls();
+        let looks = guard.num_tickets() <= LOOKERS;
+        let entitled = guard.entitled();
+        drop(guard);
+        if let Some(other) = entitled {
+            if other != ticket {
+                self.shared.sleepers.call(other);
+            }
+        }
         if let Stage::Pending(Why::Waiting) = begun {
-            drop(self.shared.freed.wait(rt, guard));
+            place.sleep(rt, calls, looks);
         }
     }
 
@@ -73,7 +94,7 @@ impl<C: Depth + Drop, O: Drop, H: Ledger, L: Loans> PoolOf<C, O, H, L> {
         let mut guard = self.lock_and_cut(rt);
         match guard.ask_and_begin(alloc, client, now, tally) {
             Ok((ticket, begun)) => {
-                self.sleep_if_waiting(rt, guard, &begun);
+                self.sleep_if_waiting(rt, guard, ticket, &begun);
                 Ok((ticket, begun))
             }
             Err(error) => Err(error),
@@ -169,7 +190,7 @@ impl<C: Depth + Drop, O: Drop, H: Ledger, L: Loans> AcquiringOf<C, O, H, L> {
         let now = clock.now();
         let mut guard = self.pool.shared.locked.lock(rt);
         let begun = guard.begin(self.client, self.ticket, now, tally);
-        self.pool.sleep_if_waiting(rt, guard, &begun);
+        self.pool.sleep_if_waiting(rt, guard, self.ticket, &begun);
         self.go_on::<R, X>(rt, alloc, now, begun, out, tally)
     }
 }
