@@ -17,8 +17,8 @@ use crate::{AcquiringOf, CloseEventOf, Loans, Locked, MarkLog, PoolConnectionOf,
 use sqlx_pool_core::{CloseState, PoolOptions};
 use sqlx_text::{Depth, Error, Moment, OutOfMemory};
 use std::alloc::Global;
-use std::sync::ledger::{Blank, Ledger};
 use std::sync::atomic::AtomicBool;
+use std::sync::ledger::{Blank, Ledger};
 use std::sync::{Arc, Mutex, MutexGuard, Wait};
 
 // What the handles of a pool share: the locked value, and how the pool was set up.
