@@ -43,8 +43,9 @@ fn one_loan<H: Ledger, L: Loans, R: Wait>(
 {
     let mut clock = FixedClock(Moment(0));
     let mut out = Opens;
-    match pool.acquire_wait::<R, FixedClock, Opens>(rt, alloc, &mut clock, client, &mut out, tally)
-    {
+    match pool.acquire_wait::<R, FixedClock, Opens>(
+        rt, alloc, &mut clock, client, &mut out, tally,
+    ) {
         Ok(conn) => {
             conn.return_to_pool::<R, Opens>(rt, alloc, Moment(0), &mut out);
         }
