@@ -13,9 +13,12 @@ mod worker;
 
 use figures::measure;
 use round::made;
-use std::process::ExitCode;
+use std::alloc::Global;
+use std::env;
+use std::io::{self, Print};
 use std::rt::Clock;
-use std::{env, io};
+use std::sync::Wait;
+use std::thread::Threads;
 use words::{Words, read};
 
 // What is made where there are no words.
@@ -50,17 +53,21 @@ fn arguments(rt: &HostRuntime) -> io::Result<Vec<String>> {
 }
 
 // Writes the count of loans of a small round.
-fn count_small(rt: &HostRuntime) -> io::Result<()> {
-    let round = made(rt, rt.alloc(), SMALL, false)?;
+fn count_small<R: Wait + Threads + Clock + Print + Sync>(rt: &R, alloc: Global) -> io::Result<()> {
+    let round = made(rt, alloc, SMALL, false)?;
     println!(rt; "loans {}", round.loans)
 }
 
 // Writes the figures.
-fn tell(rt: &HostRuntime, words: Words) -> io::Result<()>
+fn tell<R: Wait + Threads + Clock + Print + Sync>(
+    rt: &R,
+    alloc: Global,
+    words: Words,
+) -> io::Result<()>
     requires workers { words.workers < 2 ^ 16 }
     requires maximum { 1 ≤ words.maximum }
 {
-    let figures = measure(rt, rt.alloc(), words)?;
+    let figures = measure(rt, alloc, words)?;
     println!(rt; "loans_per_s {}", figures.best)?;
     println!(rt; "median_per_s {}", figures.median)?;
     println!(rt; "p50_ns {}", figures.p50)?;
@@ -70,10 +77,10 @@ fn tell(rt: &HostRuntime, words: Words) -> io::Result<()>
 fn main(rt: HostRuntime) -> io::Result<()> {
     let words = arguments(&rt)?;
     if words.is_empty() {
-        return count_small(&rt);
+        return count_small(&rt, rt.alloc());
     }
     match read(&words) {
-        Some(words) => tell(&rt, words),
+        Some(words) => tell(&rt, rt.alloc(), words),
         None => {
             eprintln!(rt; "words: W N M R, each from 1 on, W and M up to 1000")?;
             Err(io::Error::from(io::ErrorKind::InvalidInput))
