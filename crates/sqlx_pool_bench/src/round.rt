@@ -1,4 +1,4 @@
-//! A round: workers in threads of their own over a new pool whose connections are open.
+//! A round: workers in threads of their own over a new pool whose connections are open, and aren't pinged before a loan.
 
 ghost use Rattle.std.specs.Prelude.{◌≡◌, ℕ, ◌+◌, ◌*◌, ◌^◌, ◌<◌, ◌≤◌, IfOk, true, vec_len};
 
@@ -115,7 +115,8 @@ fn counted<H: Ledger + Send + Sync, L: Loans + Send + Sync, R: Wait + Threads + 
 {
     let options = PoolOptions::new()
         .max_connections(words.maximum)
-        .min_connections(words.maximum);
+        .min_connections(words.maximum)
+        .test_before_acquire(false);
     let mut out = Opens;
     let opened = options.connect_with::<Conn, (), H, L, R, Opens>(
         rt,
