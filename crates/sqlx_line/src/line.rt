@@ -70,6 +70,13 @@ impl Line {
         self.moves
     }
 
+    /// Behind the last ticket that was entitled.
+    pub fn edge(&self) -> u64
+        ensures { result ≡ self.now.edge }
+    {
+        self.edge
+    }
+
     /// Whether a ticket of this number is entitled, if it waits.
     pub fn is_entitled(&self, ticket: u64) -> bool
         ensures { result ≡ is_below_edge ticket self.now }

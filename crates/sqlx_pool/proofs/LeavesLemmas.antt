@@ -20,7 +20,7 @@ use Rattle.sqlx_pool_core.specs.Core.{Core}
 use Rattle.sqlx_pool_core.specs.Edits.{is_another_idle, at_moment, asked}
 use Rattle.sqlx_pool_core.specs.MaintenanceSteps.{placed, reaped, done, done_at, placed_back, closed_from}
 use Rattle.sqlx_pool_core.specs.ReturnSteps.{give_answer, core_after_give, released, leaked}
-use Rattle.sqlx_pool_core.specs.PollSteps.{started, after_test, after_connect, cancelled, after_try, try_lent, lent_since}
+use Rattle.sqlx_pool_core.specs.PollSteps.{started, after_test, after_connect, cancelled, after_try, after_serve, try_lent, lent_since}
 use Rattle.sqlx_pool.specs.State.{RestFlat}
 
 -- The options are as they were, and idle connections still have no level open.
@@ -88,6 +88,10 @@ module _ {C : Type 0} (levels : C → ℕ) where
   pub try-leaves : (k m : ℕ) (answer : Option (Lent C)) (core : Core C) → Leaves levels core (after_try k m answer core)
   try-leaves k m None core = record { options = refl; rest = λ r. r }
   try-leaves k m (Some lent) core = record { options = refl; rest = λ r. All-drop (λ (x : Idle C). levels x.lent.raw ≡ 0) 1 core.idle r }
+
+  pub serve-leaves : (k m : ℕ) (answer : Option (Lent C)) (core : Core C) → Leaves levels core (after_serve k m answer core)
+  serve-leaves k m None core = record { options = refl; rest = λ r. r }
+  serve-leaves k m (Some lent) core = record { options = refl; rest = λ r. All-drop (λ (x : Idle C). levels x.lent.raw ≡ 0) 1 core.idle r }
 
   pub placed-leaves : (answer : Bool) (core : Core C) → Leaves levels core (placed answer core)
   placed-leaves true core = record { options = refl; rest = λ r. r }

@@ -135,8 +135,9 @@ impl<C: Depth + Drop, O: Drop, H: Ledger, L: Loans> AcquiringOf<C, O, H, L> {
             client,
             ticket,
         } = self;
-        let ended = pool.shared.locked.lock(rt).cancel(client, ticket);
-        pool.notify();
+        let mut guard = pool.shared.locked.lock(rt);
+        let ended = guard.cancel(client, ticket);
+        pool.unlock(guard);
         ended
     }
 }

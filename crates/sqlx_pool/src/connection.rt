@@ -84,12 +84,9 @@ impl<C: Depth + Drop, O: Drop, H: Ledger, L: Loans> PoolConnectionOf<C, O, H, L>
         } = self;
         let check = pool.check::<R, X>(rt, closes, created, now, &mut raw, out);
         let lent = Lent { id, created, raw };
-        let gave = pool
-            .shared
-            .locked
-            .lock(rt)
-            .give(client, lent, now, passes(check), held);
-        pool.notify();
+        let mut guard = pool.shared.locked.lock(rt);
+        let gave = guard.give(client, lent, now, passes(check), held);
+        pool.unlock(guard);
         let (given, left) = gave;
         drop(left);
         match given {
@@ -127,8 +124,9 @@ impl<C: Depth + Drop, O: Drop, H: Ledger, L: Loans> PoolConnectionOf<C, O, H, L>
             held,
             closes: _,
         } = self;
-        let (ended, left) = pool.shared.locked.lock(rt).end(client, id, held);
-        pool.notify();
+        let mut guard = pool.shared.locked.lock(rt);
+        let (ended, left) = guard.end(client, id, held);
+        pool.unlock(guard);
         drop(left);
         if ended {
             close_by::<C, O, X>(Check::Close, raw, out);
@@ -159,8 +157,9 @@ impl<C: Depth + Drop, O: Drop, H: Ledger, L: Loans> PoolConnectionOf<C, O, H, L>
             held,
             closes: _,
         } = self;
-        let (left_pool, share) = pool.shared.locked.lock(rt).detach(client, id, held);
-        pool.notify();
+        let mut guard = pool.shared.locked.lock(rt);
+        let (left_pool, share) = guard.detach(client, id, held);
+        pool.unlock(guard);
         drop(share);
         let opened = pool.keep_minimum_if::<R, X>(left_pool, rt, alloc, now, out);
         (raw, opened)

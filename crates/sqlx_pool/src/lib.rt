@@ -27,6 +27,7 @@ mod pool;
 mod pool_connect;
 mod record;
 mod seen;
+mod sleepers;
 mod stage;
 mod taken;
 mod tally;

@@ -11,6 +11,7 @@ mod maintenance;
 mod poll;
 mod questions;
 mod returns;
+mod turns;
 
 use crate::books::Books;
 use crate::{Loans, LogStart, Tally};
@@ -29,6 +30,8 @@ pub struct Locked<C: Depth, O, H: Ledger, L: Loans> {
     start: LogStart,
     connect: O,
     books: Books<H, L>,
+    // The edge of the entitled tickets, when it was asked for last.
+    edge: u64,
 }
 
 impl<C: Depth, O, H: Ledger, L: Loans> Model for Locked<C, O, H, L> {
@@ -80,6 +83,7 @@ impl<C: Depth + Drop, O: Drop, H: Ledger, L: Loans> Locked<C, O, H, L> {
             },
             connect,
             books,
+            edge: 0,
         };
         Ok((locked, tally))
     }

@@ -17,19 +17,23 @@ mod first;
 mod maintenance;
 mod polls;
 
+use crate::sleepers::Sleepers;
 use crate::{AcquiringOf, CloseEventOf, Loans, Locked, MarkLog, PoolConnectionOf, Tally};
 use sqlx_pool_core::{CloseState, PoolOptions};
 use sqlx_text::{Depth, Error, Moment, OutOfMemory};
 use std::alloc::Global;
+use std::sync::atomic::AtomicBool;
 use std::sync::ledger::{Blank, Ledger};
-use std::sync::{Arc, Condvar, Mutex, MutexGuard, Wait};
+use std::sync::{Arc, Mutex, MutexGuard, Wait};
 
 // What the handles of a pool share: the locked value, and how the pool was set up.
 #[derive(Drop)]
 pub(crate) struct Shared<C: Depth, O, H: Ledger, L: Loans> {
     pub(crate) locked: Mutex<Locked<C, Arc<O, Global>, H, L>>,
-    // Those that wait for their turn sleep at it.
-    pub(crate) freed: Condvar,
+    // Where those sleep that wait for their turn.
+    pub(crate) sleepers: Sleepers,
+    // The pool was closed by `close`.
+    pub(crate) closed: AtomicBool,
     pub(crate) options: PoolOptions,
 }
 
@@ -65,7 +69,8 @@ impl<C: Depth + Drop, O: Drop, H: Ledger, L: Loans> PoolOf<C, O, H, L> {
         let (locked, tally) = Locked::new(alloc, options, connect, held, loans)?;
         let shared = Shared {
             locked: Mutex::new(locked),
-            freed: Condvar::new(),
+            sleepers: Sleepers::new(),
+            closed: AtomicBool::new(false),
             options,
         };
         match Arc::new(alloc, shared) {
@@ -81,10 +86,20 @@ impl<C: Depth + Drop, O: Drop, H: Ledger, L: Loans> PoolOf<C, O, H, L> {
         guard
     }
 
-    // Wakes those that wait for their turn: after each step that frees a permit, ends a ticket without a loan, or closes
-    // the pool.
+    // Lets the lock go behind a step of a client that waits for nothing, and wakes the ticket that became entitled, if
+    // one did. A step that frees no permit for anybody wakes nobody.
+    pub(crate) fn unlock(&self, guard: Guard<'_, C, O, H, L>) {
+        let mut guard = guard;
+        let entitled = guard.entitled();
+        drop(guard);
+        if let Some(ticket) = entitled {
+            self.shared.sleepers.call(ticket);
+        }
+    }
+
+    // Wakes all that wait for their turn: after a step that closes the pool, or of which nobody asked whom it entitled.
     pub(crate) fn notify(&self) {
-        self.shared.freed.notify_all();
+        self.shared.sleepers.call_all();
     }
 
     /// Another handle on the same pool. In sqlx: `clone`.

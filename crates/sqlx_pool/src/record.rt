@@ -120,6 +120,23 @@ pub fn reap<C>(log: &mut Vec<Mark>, reaped: &Option<Idle<C>>)
     }
 }
 
+// The marks of an ask that is served at once.
+pub fn serve(log: &mut Vec<Mark>, client: u32, ticket: u64, deadline: u128, conn: u64)
+    requires { length log.old.items + 5 ≤ vec_capacity log.old }
+    ensures marks { log.new.items ≡ log.old.items ++ Mark.Asked ticket client deadline ∷ Mark.Left ticket ∷ Mark.Taken conn ∷ Mark.Lent client conn ∷ Mark.Ended ticket ∷ [] }
+    ensures capacity { vec_capacity log.new ≡ vec_capacity log.old }
+{
+    log.push_reserved(Mark::Asked {
+        ticket,
+        client,
+        deadline,
+    });
+    log.push_reserved(Mark::Left { ticket });
+    log.push_reserved(Mark::Taken { conn });
+    log.push_reserved(Mark::Lent { client, conn });
+    log.push_reserved(Mark::Ended { ticket });
+}
+
 // The marks of a loan past the line.
 pub fn lend_past(log: &mut Vec<Mark>, client: u32, conn: u64)
     requires { length log.old.items + 2 ≤ vec_capacity log.old }

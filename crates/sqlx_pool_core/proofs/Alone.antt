@@ -50,7 +50,7 @@ alone-closed {C} old new made a left d sound = by old.shut left
 
 -- ---- numbers
 
-number-append : (draws : Mark → Option ℕ) (n : ℕ) (xs ys : List Mark) → next_number draws n (xs ++ ys) ≡ next_number draws (next_number draws n xs) ys
+pub number-append : (draws : Mark → Option ℕ) (n : ℕ) (xs ys : List Mark) → next_number draws n (xs ++ ys) ≡ next_number draws (next_number draws n xs) ys
 number-append draws n [] ys = refl
 number-append draws n (m ∷ xs) ys = number-append draws (next_after (draws m) n) xs ys
 

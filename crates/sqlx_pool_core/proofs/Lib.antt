@@ -29,6 +29,7 @@ pub mod BalanceLemmas
 pub mod Drawn
 pub mod SharedLemmas
 pub mod Alone
+pub mod Served
 pub mod MaintenanceAtMarks
 pub mod AnswersAtMarks
 mod EventRows

@@ -456,7 +456,7 @@ looks-without {C} core now new line mid next t b before first after view s l is 
 
 -- ---- an ask
 
-without_last : (n low : ℕ) (xs : List Ticket) (x : Ticket) → IsRising low (map number_of xs) n → x.number ≡ n → without_ticket n (xs ++ x ∷ []) ≡ xs
+pub without_last : (n low : ℕ) (xs : List Ticket) (x : Ticket) → IsRising low (map number_of xs) n → x.number ≡ n → without_ticket n (xs ++ x ∷ []) ≡ xs
 without_last n low [] x r is = let e : (n == x.number) ≡ true = grind (arith, nat_tests) in rw e refl
 without_last n low (y ∷ xs) x r is =
     let l : y.number + 1 ≤ n = rising-bound (y.number + 1) (map number_of xs) n r.1 in

@@ -119,7 +119,7 @@ module _ {C : Type 0} (core : Core C) (marks : List Mark) (sound : IsSound core)
         goes w (i ∷ rest) = (refl, let number = w.conns in omega (arith, number, used))
 
     -- the first idle connection is tested
-    makes-test : (i : Idle C) (rest : List (Idle C)) → core.idle ≡ i ∷ rest
+    pub makes-test : (i : Idle C) (rest : List (Idle C)) → core.idle ≡ i ∷ rest
         → MakesWhere (InOwnLine core marks t q) core.options.max_connections marks (Left t ∷ Taken i.lent.id ∷ []) (at_moment m (core_without_first (record core { tickets = with_ticket t (to_test m i) core.tickets })))
     makes-test i rest first =
         let below = ticket-below core sound k t x e in

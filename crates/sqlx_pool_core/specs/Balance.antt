@@ -103,6 +103,11 @@ abbrev pub try_room : {C : Type 0} → Option (LentValue C) → ℕ
 try_room (Some lent) = 4
 try_room None = 0
 
+-- what an ask that is served at once adds
+abbrev pub serve_room : {C : Type 0} → Option (LentValue C) → ℕ
+serve_room (Some lent) = 6
+serve_room None = 0
+
 -- what a place adds
 abbrev pub place_room : Bool → ℕ
 place_room held = if held then 3 else 0

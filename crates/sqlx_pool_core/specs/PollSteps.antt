@@ -211,3 +211,15 @@ try_marks k None = []
 abbrev pub after_try : {C : Type 0} → ℕ → ℕ → Option (LentValue C) → Core C → Core C
 after_try k m (Some lent) core = at_moment m (lent_to k lent.id lent.created (core_without_first core))
 after_try k m None core = core
+
+-- ---- serve_new
+
+-- the marks of an ask that is served at once: the ticket is asked and leaves the line, the first idle connection is taken and lent, and the ticket ends
+abbrev pub serve_marks : {C : Type 0} → ℕ → ℕ → ℕ → Option (LentValue C) → List Mark
+serve_marks k t deadline (Some lent) = Asked t k deadline ∷ Left t ∷ Taken lent.id ∷ Lent k lent.id ∷ Ended t ∷ []
+serve_marks k t deadline None = []
+
+-- the core after it: as after a loan past the line, but one more ticket was numbered
+abbrev pub after_serve : {C : Type 0} → ℕ → ℕ → Option (LentValue C) → Core C → Core C
+after_serve k m (Some lent) core = record (after_try k m (Some lent) core) { next_ticket = core.next_ticket + 1 }
+after_serve k m None core = core

@@ -13,14 +13,17 @@ use std::alloc::Global;
 use std::collections::HashMap;
 use std::marker::Model;
 
+// Where there is room for no more loans than these, a look at each place is sooner done than a note.
+const FEW: usize = 16;
+
 /// Loans, in the order of lending.
 #[derive(Drop)]
 pub struct HeldList {
     // A loan that ended left a gap. They are closed where the places are used up.
     places: Vec<Option<OwnedConn>>,
-    // Where each connection was lent last.
+    // Where each connection was lent last; nothing where there is room for few.
     noted: HashMap<u64, usize>,
-    // Each loan is noted. Without memory for that it may not be, until the gaps are closed.
+    // Each loan is noted. Where there is room for few none is; without memory one may not be, until the gaps are closed.
     all_noted: bool,
     len: usize,
     room: usize,
@@ -129,11 +132,12 @@ fn note_last(
     note(noted, loan.conn, places.len())
 }
 
-// Closes the gaps where the places are used up, and tells whether all are noted then.
+// Closes the gaps where the places are used up, and tells whether all are noted then, which is so only where it is wanted.
 fn make_room(
     places: &mut Vec<Option<OwnedConn>>,
     noted: &mut HashMap<u64, usize>,
     all_noted: bool,
+    notes: bool,
 ) -> bool
     requires noted { all_noted ≡ true → AreNoted places.old.items (get nat_eq noted.old) }
     requires room { length (loans_at places.old.items) < vec_capacity places.old }
@@ -146,6 +150,9 @@ fn make_room(
         return all_noted;
     }
     places.retain(|p| p.is_some());
+    if !notes {
+        return false;
+    }
     noted.clear();
     note_all(places, noted)
 }
@@ -166,7 +173,7 @@ impl HeldList {
         Ok(HeldList {
             places,
             noted,
-            all_noted: true,
+            all_noted: room > FEW,
             len: 0,
             room,
         })
@@ -205,7 +212,8 @@ impl HeldList {
         ensures items { self.new.items ≡ self.old.items ++ loan ∷ [] }
         ensures capacity { self.new.room ≡ self.old.room }
     {
-        let all_noted = make_room(&mut self.places, &mut self.noted, self.all_noted);
+        let notes = self.room > FEW;
+        let all_noted = make_room(&mut self.places, &mut self.noted, self.all_noted, notes);
         self.all_noted = note_last(&self.places, &mut self.noted, all_noted, loan);
         self.places.push_reserved(Some(loan));
         self.len += 1;

@@ -1,7 +1,8 @@
 //! Waiting for a connection: polls of a ticket, between which the thread sleeps until a step may have freed something.
 
-ghost use Rattle.std.specs.Prelude.{◌≡◌, ℕ, ◌+◌, ◌<◌, ◌≤◌, ◌⊎◌, true, IfOk, IfErr, OnOk, OnErr};
+ghost use Rattle.std.specs.Prelude.{◌≡◌, ℕ, ◌+◌, ◌<◌, ◌≤◌, ◌⊎◌, true, is_some, IfSome, IfOk, IfErr, OnOk, OnErr};
 ghost use Rattle.sqlx_text.specs.declared.error.Error.{Error};
+ghost use Rattle.sqlx_pool.specs.Answers.{lent_alone};
 ghost use Rattle.sqlx_pool.specs.Booked.{CountsIf};
 ghost use Rattle.sqlx_pool.specs.Polling.{is_ready, IfReady, IfFailed};
 ghost use Rattle.sqlx_pool.specs.Refusals.{IsEnd, IsPollRefusal};
@@ -10,12 +11,18 @@ ghost use Rattle.sqlx_pool.specs.Stage.{has_lent, IfLent, IfEnded};
 use super::AcquiringOf;
 use crate::pool::Guard;
 use crate::stage::{Stage, Why};
-use crate::{Clock, Held, Loans, Locked, Polling, PoolConnectionOf, PoolOf, PoolPollOf, Tally};
-use sqlx_pool_core::Outside;
+use crate::{
+    Clock, Held, Loans, Locked, Polling, PoolConnectionOf, PoolOf, PoolPollOf, Tally, checks,
+};
+use sqlx_pool_core::{Lent, Outside};
 use sqlx_text::{Depth, Error, Moment};
 use std::alloc::Global;
 use std::sync::Wait;
 use std::sync::ledger::Ledger;
+
+// Where no more tickets than these haven't ended, one that waits looks for its call before it sleeps: its turn comes
+// soon, and the threads that bring it have processors.
+const LOOKERS: usize = 3;
 
 impl<C: Depth, O, H: Ledger, L: Loans> Locked<C, O, H, L> {
     // Asks, and begins the first poll.
@@ -38,19 +45,55 @@ impl<C: Depth, O, H: Ledger, L: Loans> Locked<C, O, H, L> {
             Err(error) => Err(error),
         }
     }
+
+    // Serves an ask at once, where it would be served so and the test of an idle connection asks nothing of the outside.
+    fn serve_untested(
+        &mut self,
+        alloc: Global,
+        client: u32,
+        now: Moment,
+        tally: &mut Tally<L>,
+    ) -> Option<(Lent<C>, Held<H>)>
+        requires { 0 < tally.old.parts }
+        ensures tally { CountsIf (is_some result) tally.old tally.new }
+        ensures flat { IfSome (lent_alone result) (λ l. C.levels l.raw ≡ 0) }
+    {
+        if checks::tests_nothing(self.options()) {
+            self.serve_new(alloc, now, client, tally)
+        } else {
+            None
+        }
+    }
 }
 
 impl<C: Depth + Drop, O: Drop, H: Ledger, L: Loans> PoolOf<C, O, H, L> {
-    // Lets the lock go. Where the ticket waits, it sleeps first until a step may have freed something for it: the lock
-    // was held since the step that said so, so no such step is missed.
+    // Lets the lock go. Where the ticket waits, it then sleeps until it is called.
+    //
+    // No call is missed. The lock was held since the step that said `Waiting`, so the ticket isn't entitled yet, and the
+    // calls of its place are counted as they are now. A step that entitles it moves the edge past it under a later
+    // holding, and then its maker calls its place (`unlock`), or all places (`notify`), as after a close: that raises the
+    // count, and a sleep on another count ends, or doesn't begin. The step of a client that entitles its own ticket
+    // calls nobody, for it is awake.
     fn sleep_if_waiting<R: Wait>(
         &self,
         rt: &R,
         guard: Guard<'_, C, O, H, L>,
+        ticket: u64,
         begun: &Stage<C, Held<H>>,
     ) {
+        let mut guard = guard;
+        let place = self.shared.sleepers.place(ticket);
+        let calls = place.calls();
+        let looks = guard.num_tickets() <= LOOKERS;
+        let entitled = guard.entitled();
+        drop(guard);
+        if let Some(other) = entitled {
+            if other != ticket {
+                self.shared.sleepers.call(other);
+            }
+        }
         if let Stage::Pending(Why::Waiting) = begun {
-            drop(self.shared.freed.wait(rt, guard));
+            place.sleep(rt, calls, looks);
         }
     }
 
@@ -58,6 +101,7 @@ impl<C: Depth + Drop, O: Drop, H: Ledger, L: Loans> PoolOf<C, O, H, L> {
     fn ask_or_sleep<R: Wait>(
         &self,
         rt: &R,
+        guard: Guard<'_, C, O, H, L>,
         alloc: Global,
         client: u32,
         now: Moment,
@@ -70,10 +114,10 @@ impl<C: Depth + Drop, O: Drop, H: Ledger, L: Loans> PoolOf<C, O, H, L> {
         ensures causes { IfErr result (λ e. (e ≡ Error.PoolClosed) ⊎ ((e ≡ Error.Exhausted) ⊎ (e ≡ Error.OutOfMemory))) }
         ensures err { OnErr result (tally.new ≡ tally.old) }
     {
-        let mut guard = self.lock_and_cut(rt);
+        let mut guard = guard;
         match guard.ask_and_begin(alloc, client, now, tally) {
             Ok((ticket, begun)) => {
-                self.sleep_if_waiting(rt, guard, &begun);
+                self.sleep_if_waiting(rt, guard, ticket, &begun);
                 Ok((ticket, begun))
             }
             Err(error) => Err(error),
@@ -103,7 +147,12 @@ impl<C: Depth + Drop, O: Drop, H: Ledger, L: Loans> PoolOf<C, O, H, L> {
             return Err(Error::OutOfMemory);
         };
         let now = clock.now();
-        match self.ask_or_sleep(rt, alloc, client, now, tally) {
+        let mut guard = self.lock_and_cut(rt);
+        if let Some((lent, held)) = guard.serve_untested(alloc, client, now, tally) {
+            drop(guard);
+            return Ok(PoolConnectionOf::new(pool, client, lent, held));
+        }
+        match self.ask_or_sleep(rt, guard, alloc, client, now, tally) {
             Ok((ticket, begun)) => {
                 let asked = AcquiringOf::new(pool, client, ticket);
                 match asked.go_on::<R, X>(rt, alloc, now, begun, out, tally) {
@@ -169,7 +218,7 @@ impl<C: Depth + Drop, O: Drop, H: Ledger, L: Loans> AcquiringOf<C, O, H, L> {
         let now = clock.now();
         let mut guard = self.pool.shared.locked.lock(rt);
         let begun = guard.begin(self.client, self.ticket, now, tally);
-        self.pool.sleep_if_waiting(rt, guard, &begun);
+        self.pool.sleep_if_waiting(rt, guard, self.ticket, &begun);
         self.go_on::<R, X>(rt, alloc, now, begun, out, tally)
     }
 }

@@ -1,6 +1,6 @@
 //! Asking, and lending past the line.
 
-ghost use Rattle.std.specs.Prelude.{◌≡◌, ℕ, ◌+◌, ◌^◌, ◌<◌, ◌≤◌, ◌↔◌, ◌⊎◌, [], ◌∷◌, ◌++◌, true, false, is_some, option_map, IfSome, IfOk, IfErr, OnOk, OnErr};
+ghost use Rattle.std.specs.Prelude.{◌≡◌, ℕ, ◌+◌, ◌^◌, ◌<◌, ◌≤◌, ◌↔◌, ◌⊎◌, [], ◌∷◌, ◌++◌, Some, true, false, is_some, option_map, IfSome, IfOk, IfErr, OnOk, OnErr};
 ghost use Rattle.sqlx_text.specs.declared.error.Error.{Error};
 ghost use Rattle.sqlx_log.specs.declared.mark.Mark.{Mark};
 ghost use Rattle.sqlx_log.specs.Marks.{is_open, next_ticket};
@@ -8,7 +8,7 @@ ghost use Rattle.sqlx_log.specs.Answers.{lent_past_at};
 ghost use Rattle.sqlx_pool_core.specs.Answers.{lent_conn};
 ghost use Rattle.sqlx_pool_core.specs.Edits.{at_moment, asked};
 ghost use Rattle.sqlx_pool_core.specs.Logs.{moment_of};
-ghost use Rattle.sqlx_pool_core.specs.PollSteps.{try_marks, after_try};
+ghost use Rattle.sqlx_pool_core.specs.PollSteps.{try_lent, try_marks, after_try, serve_marks, after_serve};
 ghost use Rattle.sqlx_pool.specs.Answers.{lent_alone};
 ghost use Rattle.sqlx_pool.specs.Booked.{CountsIf};
 
@@ -21,6 +21,9 @@ use std::sync::ledger::Ledger;
 
 // How many marks a loan past the line may lead to.
 const TRY_ROOM: usize = 4;
+
+// How many marks an ask that is served at once may lead to.
+const SERVE_ROOM: usize = 6;
 
 // How many tickets a pool numbers.
 const NUMBERS: u64 = 1 << 63;
@@ -61,6 +64,41 @@ impl<C: Depth, O, H: Ledger, L: Loans> Locked<C, O, H, L> {
             deadline: u128::from(moment.0) + u128::from(timeout),
         });
         Ok(ticket)
+    }
+
+    /// Asks for a connection and lends the first idle one at once, without a test: what `ask`, `start` and an accepted
+    /// `finish_test` come to where nobody has a ticket. None, and nothing changes, where the pool is closed, somebody has
+    /// a ticket, no connection is idle, a ticket has no time, or there is no memory: then `ask` tells what comes of it.
+    pub fn serve_new(
+        &mut self,
+        _alloc: Global,
+        now: Moment,
+        client: u32,
+        tally: &mut Tally<L>,
+    ) -> Option<(Lent<C>, Held<H>)>
+        requires parts { 0 < tally.old.parts }
+        ensures marks { self.new.marks ≡ self.old.marks ++ serve_marks client self.old.core.next_ticket (moment_of self.old.core now + self.old.core.options.acquire_timeout) (lent_alone result) }
+        ensures becomes { self.new.core ≡ after_serve client (moment_of self.old.core now) (lent_alone result) self.old.core }
+        ensures first { IfSome (lent_alone result) (λ lent. Some lent ≡ try_lent true self.old.core.idle) }
+        ensures tally { CountsIf (is_some result) tally.old tally.new }
+        ensures flat { IfSome (lent_alone result) (λ l. C.levels l.raw ≡ 0) }
+        ensures connect { self.new.connect ≡ self.old.connect }
+    {
+        if self.core.num_tickets() != 0 || self.core.num_idle() == 0 {
+            return None;
+        }
+        let Ok(()) = self.log.reserve(self.core.due() + SERVE_ROOM) else {
+            return None;
+        };
+        self.core.bounds();
+        let ticket = self.core.numbers().next_ticket;
+        let moment = self.core.moment(now);
+        let timeout = self.core.options().get_acquire_timeout();
+        let lent = self.core.serve_new(now, client)?;
+        let deadline = u128::from(moment.0) + u128::from(timeout);
+        record::serve(&mut self.log, client, ticket, deadline, lent.id);
+        let held = self.books.lend(tally);
+        Some((lent, held))
     }
 
     /// Lends the first idle connection past the line, without a test: where the pool is open, a connection is idle,

@@ -8,21 +8,30 @@ use super::PoolOf;
 use crate::filled::Filled;
 use crate::{Loans, Locked, checks};
 use sqlx_pool_core::idle_check::{Check, Opening};
-use sqlx_pool_core::{Idle, Openings, Outside, PoolConnectionMetadata};
+use sqlx_pool_core::{Idle, Openings, Outside, PoolConnectionMetadata, PoolOptions};
 use sqlx_text::{Depth, Error, Moment};
 use std::alloc::Global;
 use std::collections::VecDeque;
 use std::sync::Wait;
+use std::sync::atomic::Ordering;
 use std::sync::ledger::Ledger;
 
 impl<C: Depth, O, H: Ledger, L: Loans> Locked<C, O, H, L> {
-    // The moment at which a connection that comes back is tested; None where the pool is closed or it is too old.
+    // The moment at which the hook tests a connection that comes back; None where the pool is closed or it is too old.
     fn tests_at(&self, created: Moment, now: Moment) -> Option<Moment> {
         if self.must_close(created, now) {
             None
         } else {
             Some(self.moment(now))
         }
+    }
+}
+
+// A connection that was opened at this moment is too old.
+fn is_too_old(options: &PoolOptions, created: Moment, now: Moment) -> bool {
+    match options.get_max_lifetime() {
+        Some(limit) => limit < now.0.saturating_sub(created.0),
+        None => false,
     }
 }
 
@@ -63,8 +72,7 @@ impl<C: Depth + Drop, O: Drop, H: Ledger, L: Loans> PoolOf<C, O, H, L> {
         if closes {
             return Check::Close;
         }
-        let tests_at = self.shared.locked.lock(rt).tests_at(created, now);
-        match tests_at {
+        match self.tests_at(rt, created, now) {
             None => Check::Close,
             Some(moment) => {
                 let meta = PoolConnectionMetadata {
@@ -76,12 +84,30 @@ impl<C: Depth + Drop, O: Drop, H: Ledger, L: Loans> PoolOf<C, O, H, L> {
         }
     }
 
+    // The moment at which a connection that comes back is tested; None where it is to be closed anyway. Without a hook no
+    // test looks at the moment, and the lock isn't taken: what is pinged goes by the caller's moment, what is kept by the
+    // pool's.
+    fn tests_at<R: Wait>(&self, rt: &R, created: Moment, now: Moment) -> Option<Moment> {
+        let options = &self.shared.options;
+        if options.get_after_release() {
+            return self.shared.locked.lock(rt).tests_at(created, now);
+        }
+        if self.shared.closed.load(Ordering::SeqCst) || is_too_old(options, created, now) {
+            None
+        } else {
+            Some(now)
+        }
+    }
+
     /// Closes the pool: from now on it serves no ticket and keeps no connection. The idle connections are closed; their
     /// number comes back. A second close gives 0.
     pub fn close<R: Wait, X: Outside<C, O>>(&self, rt: &R, out: &mut X) -> usize
         ensures counts { (X.faults out.old ≤ X.faults out.new) × (X.refusals out.old ≤ X.refusals out.new) }
     {
-        let idle = self.shared.locked.lock(rt).close();
+        let mut guard = self.shared.locked.lock(rt);
+        let idle = guard.close();
+        self.shared.closed.store(true, Ordering::SeqCst);
+        drop(guard);
         self.notify();
         close_all::<C, O, X>(Check::Close, idle, out)
     }

@@ -11,7 +11,7 @@ ghost use Rattle.sqlx_pool_core.specs.Makes.{MakesIn, MakesWhere};
 ghost use Rattle.sqlx_pool_core.specs.Numbers.{Draws, Stays};
 ghost use Rattle.sqlx_pool_core.specs.Balance.{Balance, ask_room, try_room};
 ghost use Rattle.sqlx_pool_core.specs.CoreTurn.{PastOwnLine};
-ghost use Rattle.sqlx_pool_core.specs.PollSteps.{phase_for, asked_marks, may_cancel, cancel_marks, cancelled, try_lent, try_marks, after_try};
+ghost use Rattle.sqlx_pool_core.specs.PollSteps.{phase_for, asked_marks, may_cancel, cancel_marks, cancelled, try_lent, try_marks, after_try, after_serve};
 ghost use Rattle.sqlx_pool_core.specs.Edits.{at_moment, asked, unasked};
 
 use super::{Member, NUMBERS};
@@ -122,6 +122,41 @@ impl<C> Member<C> {
         ensures { result ≡ is_some (try_lent passes self.now.idle) }
     {
         passes && !self.idle.is_empty()
+    }
+
+    /// A new ticket would be served at once: the pool is open, nobody has a ticket, a permit is free, the numbers of
+    /// tickets and connections aren't used up, and a ticket has time.
+    pub fn serves_new(&self) -> bool
+        ensures open { result ≡ true → self.now.closed ≡ false }
+        ensures none { result ≡ true → length self.now.tickets ≡ 0 }
+        ensures permit { result ≡ true → 0 < free self.now }
+        ensures few { result ≡ true → self.now.next_ticket ≤ 2 ^ 63 }
+        ensures numbered { result ≡ true → self.now.next_conn ≤ 2 ^ 63 }
+        ensures in_time { result ≡ true → 0 < self.now.options.acquire_timeout }
+    {
+        if self.closed || self.tickets.len() != 0 {
+            return false;
+        }
+        if self.next_ticket > NUMBERS || self.next_conn > NUMBERS {
+            return false;
+        }
+        self.num_free() > 0 && self.options.get_acquire_timeout() > 0
+    }
+
+    /// Lends the first idle connection to a new ticket at a moment, where such a ticket is served at once.
+    pub fn serve_new(&mut self, client: u32, moment: Moment, serves: bool) -> Option<Lent<C>>
+        requires open { serves ≡ true → self.old.closed ≡ false }
+        requires none { serves ≡ true → length self.old.tickets ≡ 0 }
+        requires permit { serves ≡ true → 0 < free self.old }
+        requires few { serves ≡ true → self.old.next_ticket ≤ 2 ^ 63 }
+        ensures answer { result ≡ try_lent serves self.old.idle }
+        ensures becomes { self.new ≡ after_serve client moment.0 result self.old }
+        ensures sound { IsSound self.old }
+    {
+        self.sound();
+        let lent = self.lend_first(client, moment, serves)?;
+        self.next_ticket += 1;
+        Some(lent)
     }
 
     /// Lends the first idle connection at a moment, where the line lets it pass.

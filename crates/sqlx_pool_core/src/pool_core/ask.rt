@@ -1,6 +1,6 @@
 //! The steps before and beside a poll: asking, cancelling, and lending past the line.
 
-ghost use Rattle.std.specs.Prelude.{◌≡◌, ℕ, ◌+◌, ◌<◌, ◌≤◌, ◌^◌, ◌↔◌, max, List, [], ◌∷◌, Option, Some, None, IfOk, OnOk, OnErr, IfErr, length, true, false, not, ◌&&◌, is_some, option_map, ◌⊎◌};
+ghost use Rattle.std.specs.Prelude.{◌≡◌, ℕ, ◌+◌, ◌<◌, ◌≤◌, ◌^◌, ◌↔◌, max, List, [], ◌∷◌, Option, Some, None, IfOk, IfSome, OnOk, OnErr, IfErr, length, true, false, not, ◌&&◌, is_some, option_map, ◌⊎◌};
 ghost use Rattle.sqlx_text.specs.declared.Error.{Error};
 ghost use Rattle.sqlx_log.specs.Marks.{is_open, tickets_of, next_ticket};
 ghost use Rattle.sqlx_log.specs.Counts.{asked_in};
@@ -10,10 +10,10 @@ ghost use Rattle.sqlx_pool_core.specs.Answers.{is_busy, lent_conn};
 ghost use Rattle.sqlx_pool_core.specs.Core.{waiting, free};
 ghost use Rattle.sqlx_log.specs.declared.mark.Mark.{Mark};
 ghost use Rattle.sqlx_pool_core.specs.Makes.{Makes};
-ghost use Rattle.sqlx_pool_core.specs.Balance.{Balance, ask_room, try_room};
+ghost use Rattle.sqlx_pool_core.specs.Balance.{Balance, ask_room, try_room, serve_room};
 ghost use Rattle.sqlx_pool_core.specs.StandsFor.{StandsFor};
 ghost use Rattle.sqlx_log.specs.EventTable.{may_pass};
-ghost use Rattle.sqlx_pool_core.specs.PollSteps.{phase_for, asked_marks, may_cancel, cancel_marks, cancelled, try_lent, try_marks, after_try};
+ghost use Rattle.sqlx_pool_core.specs.PollSteps.{phase_for, asked_marks, may_cancel, cancel_marks, cancelled, try_lent, try_marks, after_try, serve_marks, after_serve};
 ghost use Rattle.sqlx_pool_core.specs.Edits.{at_moment, asked};
 ghost use Rattle.sqlx_pool_core.specs.KeptLine.{Looks};
 
@@ -148,6 +148,25 @@ impl<C> PoolCore<C> {
         line::take_out(&mut self.line, ticket, done, steps);
         line::serve(&self.pool, &mut self.line, steps);
         done
+    }
+
+    /// Asks for a connection and lends the first idle one at once, without a test: what `ask`, `start` and an accepted
+    /// `finish_test` come to where nobody has a ticket, a connection is idle, and the ticket would be in time. Otherwise
+    /// nothing changes.
+    pub fn serve_new(&mut self, now: Moment, client: u32) -> Option<Lent<C>>
+        ensures first { IfSome result (λ lent. Some lent ≡ try_lent true self.old.idle) }
+        ensures open { is_some result ≡ true → self.old.shut ≡ false }
+        ensures none { is_some result ≡ true → length self.old.tickets ≡ 0 }
+        ensures in_time { is_some result ≡ true → 0 < self.old.options.acquire_timeout }
+        ensures makes { Logs self.old (serve_marks client self.old.next_ticket (moment_of self.old now + self.old.options.acquire_timeout) result) self.new }
+        ensures balance { Balance self.old self.new (serve_marks client self.old.next_ticket (moment_of self.old now + self.old.options.acquire_timeout) result) 0 (serve_room result) }
+        ensures becomes { self.new ≡ after_serve client (moment_of self.old now) result self.old }
+    {
+        let moment = self.pool.moment(now);
+        let serves = self.pool.serves_new();
+        let lent = self.pool.serve_new(client, moment, serves);
+        self.pool.sound();
+        lent
     }
 
     /// Lends the first idle connection past the line, without a test: where the pool is open, a connection is

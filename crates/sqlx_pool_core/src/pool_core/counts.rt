@@ -65,6 +65,13 @@ impl<C> PoolCore<C> {
         self.line.moves()
     }
 
+    /// Behind the ticket that was entitled last: each that waits and is below is entitled.
+    pub fn edge(&self) -> u64
+        ensures { result ≤ self.now.next_ticket }
+    {
+        self.line.edge()
+    }
+
     /// The numbers that the next ticket and the next connection get.
     pub fn numbers(&self) -> Numbers
         ensures marks { (marks : List Mark) → StandsFor self.now marks → result ≡ record { next_ticket = next_ticket marks; next_conn = next_conn marks } }

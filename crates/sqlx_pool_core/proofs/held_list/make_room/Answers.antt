@@ -14,3 +14,14 @@ returns-clause-room c =
     let closed = filter_same _ is_some _ (λ x b q k. search (rules, tests)) _ _ c.retain.ensures.filtered in
     let n = ap length closed ∙ (loans-closed c.args.places.now.items).1 in
     omega (arith, n, c.requires.room, c.retain.ensures.capacity)
+
+pub returns-then-not-notes-clause-loans : goal.returns-then-not-notes-clause-loans
+returns-then-not-notes-clause-loans c =
+    let closed = filter_same _ is_some _ (λ x b q k. search (rules, tests)) _ _ c.retain.ensures.filtered in
+    ap loans_at closed ∙ (loans-closed c.args.places.now.items).0
+
+pub returns-then-not-notes-clause-room : goal.returns-then-not-notes-clause-room
+returns-then-not-notes-clause-room c =
+    let closed = filter_same _ is_some _ (λ x b q k. search (rules, tests)) _ _ c.retain.ensures.filtered in
+    let n = ap length closed ∙ (loans-closed c.args.places.now.items).1 in
+    omega (arith, n, c.requires.room, c.retain.ensures.capacity)

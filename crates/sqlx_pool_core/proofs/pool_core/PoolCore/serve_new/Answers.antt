@@ -1,0 +1,20 @@
+use Rattle.std.proofs.Common.{ap, ◌∙◌}
+use Rattle.sqlx_pool_core.specs.PollSteps.{try_lent}
+use Rattle.sqlx_pool_core.proofs.Served.{serve-balance, serve-alone, serve-lone, serve-only, serve-first}
+use Rattle.sqlx_pool_core.proofs.pool_core.PoolCore.serve_new.Goals as goal
+
+pub returns-clause-first : goal.returns-clause-first
+returns-clause-first g c = serve-first _ _ _ (c.serve_new-lent.ensures.answer ∙ ap (λ core. try_lent c.serves_new-serves.result core.idle) c.self.view_is)
+
+pub returns-clause-makes : goal.returns-clause-makes
+returns-clause-makes g c =
+    serve-alone _ _ _ c.self.view_is c.args.client _ _ c.moment-moment.ensures c.serves_new-serves.result _ c.serve_new-lent.ensures.answer c.serve_new-lent.ensures.becomes c.serve_new-lent.ensures.sound c.sound.ensures c.self.invariant.alone
+    c.serves_new-serves.ensures.open c.serves_new-serves.ensures.none c.serves_new-serves.ensures.permit c.serves_new-serves.ensures.few
+
+pub returns-clause-balance : goal.returns-clause-balance
+returns-clause-balance g c = serve-balance _ _ _ c.self.view_is c.args.client _ _ c.moment-moment.ensures c.serves_new-serves.result _ c.serve_new-lent.ensures.answer c.serve_new-lent.ensures.becomes
+
+pub invariant_of-self : goal.invariant_of-self
+invariant_of-self g c =
+    serve-lone _ _ _ c.self.view_is c.args.client _ _ c.moment-moment.ensures c.serves_new-serves.result _ c.serve_new-lent.ensures.answer c.serve_new-lent.ensures.becomes c.serve_new-lent.ensures.sound c.sound.ensures c.self.invariant.alone
+    c.serves_new-serves.ensures.open c.serves_new-serves.ensures.none c.serves_new-serves.ensures.permit c.serves_new-serves.ensures.few _ c.self.invariant.lined
