@@ -1,12 +1,13 @@
 -- A family stays one after each step of a pool, and where permits move.
-use Rattle.std.proofs.Common.{◌≡◌, ℕ, ◌+◌, ◌-◌, ◌<◌, ◌≤◌, ◌^◌, inl, inr, Result, Ok, Err, IfOk, OnErr, [], ◌∷◌, ◌++◌, Bool, true, false, List, length, get_or, All, refl, sym, ap, ◌∙◌, subst, arith, sum_by}
+use Rattle.std.proofs.Common.{◌≡◌, ℕ, ◌+◌, ◌-◌, ◌<◌, ◌≤◌, ◌^◌, inl, inr, Result, Ok, Err, IfOk, OnErr, map, [], ◌∷◌, ◌++◌, Bool, true, false, List, length, get_or, All, refl, sym, ap, ◌∙◌, subst, arith, sum_by}
 use Rattle.std.specs.Prelude.{slice_set}
-use Rattle.std.proofs.lemmas.List.{length-set, length-append, get_or_append_left}
+use Rattle.std.proofs.lemmas.List.{length-set, length-map, length-append, get_or_append_left}
 use Rattle.std.proofs.lemmas.List.Elements.{All-set, All-head, All-tail, All-weaker, All-get_or, All-append, All-cons, All-nil}
 use Rattle.std.proofs.lemmas.List.Sums.{sum_by-set, sum_by-cons, sum_by_push}
 use Rattle.sqlx_log.specs.declared.mark.Mark.{Mark}
 use Rattle.sqlx_pool_core.specs.declared.member.shared.Shared.{Shared}
-use Rattle.sqlx_pool_core.specs.Core.{Core, free, taken, gone}
+use Rattle.sqlx_pool_core.specs.Core.{Core, free, taken, gone, loan}
+use Rattle.sqlx_pool_core.specs.StandsFor.{StandsIn}
 use Rattle.sqlx_pool_core.specs.Numbers.{Draws, Stays, under_way}
 use Rattle.sqlx_pool_core.specs.Sound.{IsSound}
 use Rattle.sqlx_pool_core.specs.MaintenanceSteps.{closed_from}
@@ -221,7 +222,7 @@ family-retiring {C} xs h i old f lt is = record {
 
 -- ---- a new child
 
-pub family-added : {C : Type 0} (xs : List (FamilyPool C)) (h : Shared) (p : FamilyPool C) → IsFamily (pools_of xs h) → length xs < 2 ^ 32 - 1 → p.core.permits ≡ 0 → under_way p.core ≡ 0 → p.core.next_ticket ≡ 1 → p.core.next_conn ≡ 1
+pub family-added : {C : Type 0} (xs : List (FamilyPool C)) (h : Shared) (p : FamilyPool C) → IsFamily (pools_of xs h) → length xs < 2 ^ 32 - 1 → p.core.permits ≡ 0 → taken p.core ≡ 0 → p.core.next_ticket ≡ 1 → p.core.next_conn ≡ 1
     → IsFamily (pools_of (xs ++ p ∷ []) h)
 family-added {C} xs h p f room permits idle tickets conns = record {
   some = omega (arith, longer);
@@ -244,6 +245,6 @@ family-added {C} xs h p f room permits idle tickets conns = record {
     most : max_of (get_or (xs ++ p ∷ []) 0 no_pool) ≡ max_of (get_or xs 0 no_pool)
     most = ap max_of (get_or_append_left xs (p ∷ []) no_pool 0 (let k = f.some in omega (arith, k)))
 
--- nothing is under way in a new pool
-pub new-way : {C : Type 0} (core : Core C) → gone core.tickets ≡ 0 → core.places ≡ 0 → under_way core ≡ 0
-new-way core a b = omega (arith, a, b)
+-- a new pool owes no permit
+pub new-owes : {C : Type 0} (core : Core C) → StandsIn core [] → gone core.tickets ≡ 0 → core.places ≡ 0 → taken core ≡ 0
+new-owes core stands a b = let held : length (map loan core.held) ≡ 0 = ap length stands.loans in let long = length-map core.held loan in let leaked : core.leaked ≡ 0 = stands.leaked in omega (arith, a, b, held, long, leaked)

@@ -3,3 +3,4 @@ pub mod FamilyLemmas
 pub mod LogLemmas
 pub mod RootLineLemmas
 pub mod PollLemmas
+pub mod BalanceLemmas

@@ -23,11 +23,11 @@ use Rattle.sqlx_family.specs.FamilyLogs.{StandTogether, with_marks, FamilyLogs}
 use Rattle.sqlx_family.proofs.Entries.{entry-is, look-set}
 
 -- the log of another pool stays
-other : (i p : ℕ) (made : List Mark) (logs : ℕ → List Mark) → p ≢ i → with_marks i made logs p ≡ logs p
+pub other : (i p : ℕ) (made : List Mark) (logs : ℕ → List Mark) → p ≢ i → with_marks i made logs p ≡ logs p
 other i p made logs ne = ap (λ (b : Bool). cond b (logs p ++ made) (logs p)) (ne_eqb p i ne)
 
 -- the log of the pool grows
-same : (i : ℕ) (made : List Mark) (logs : ℕ → List Mark) → with_marks i made logs i ≡ logs i ++ made
+pub same : (i : ℕ) (made : List Mark) (logs : ℕ → List Mark) → with_marks i made logs i ≡ logs i ++ made
 same i made logs = ap (λ (b : Bool). cond b (logs i ++ made) (logs i)) (same_number i)
 
 module _ {C : Type 0} (f : Pools C) (i : ℕ) (new : Core C) (made : List Mark) (logs : ℕ → List Mark) (lt : i < length f.pools) (s : StandTogether f logs) (own : StandsIn new (logs i ++ made)) (tickets : f.shared.next_ticket ≤ new.next_ticket) (conns : f.shared.next_conn ≤ new.next_conn) where
@@ -158,10 +158,10 @@ module _ {C : Type 0} {W : List Mark → Type 0} (of : Core C → List Mark) (xs
 
 -- ---- a pool that is retired from now on
 
-core-retiring : {C : Type 0} (r q : ℕ) (f : Pools C) → q < length f.pools → (entry_of r (retiring q f)).core ≡ (entry_of r f).core
+pub core-retiring : {C : Type 0} (r q : ℕ) (f : Pools C) → q < length f.pools → (entry_of r (retiring q f)).core ≡ (entry_of r f).core
 core-retiring r q f lt = look-set (λ (p : FamilyPool _). p.core) f.pools q (record { core = (entry_of q f).core; retired = true }) (entry_of q f) lt (get_or_default f.pools q no_pool (entry_of q f) lt) r refl
 
-pool-retiring : {C : Type 0} (r q : ℕ) (f : Pools C) → q < length f.pools → pool_in r (retiring q f) ≡ pool_in r f
+pub pool-retiring : {C : Type 0} (r q : ℕ) (f : Pools C) → q < length f.pools → pool_in r (retiring q f) ≡ pool_in r f
 pool-retiring {C} r q f lt =
     ap (λ (c : Core C). told (c.shut || (entry_of 0 (retiring q f)).core.shut) f.shared c) (core-retiring r q f lt)
     ∙ ap (λ (c : Core C). told ((entry_of r f).core.shut || c.shut) f.shared (entry_of r f).core) (core-retiring 0 q f lt)

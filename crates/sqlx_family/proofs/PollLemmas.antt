@@ -28,7 +28,7 @@ use Rattle.sqlx_family.proofs.LogLemmas.{stand-moved}
 abbrev paying : {C : Type 0} → ℕ → ℕ → Pools C → FamilyPool C
 paying q n f = record { core = with_permits n (entry_of q f).core; retired = (entry_of q f).retired }
 
-entry-owning : {C : Type 0} (r q n : ℕ) (f : Pools C) → q < length f.pools → (m : ℕ) × ((entry_of r (owning q n f)).core ≡ with_permits m (entry_of r f).core)
+pub entry-owning : {C : Type 0} (r q n : ℕ) (f : Pools C) → q < length f.pools → (m : ℕ) × ((entry_of r (owning q n f)).core ≡ with_permits m (entry_of r f).core)
 entry-owning r q n f lt = elim (eqb_tells r q) [
   | inl is ↦ (n, subst (λ (k : ℕ). (entry_of k (owning q n f)).core ≡ with_permits n (entry_of k f).core) (sym is.1) (ap (λ (p : FamilyPool _). p.core) (get_or-set_same f.pools q (paying q n f) no_pool lt)))
   | inr is ↦ ((entry_of r f).core.permits, ap (λ (p : FamilyPool _). p.core) (get_or-set_other f.pools q r (paying q n f) no_pool is.1))
@@ -41,7 +41,7 @@ pool-owning {C} r q n f lt =
     let shut : counts_as_closed r (owning q n f) ≡ counts_as_closed r f = ap (λ (c : Core C). c.shut || (entry_of 0 (owning q n f)).core.shut) own.1 ∙ ap (λ (c : Core C). (entry_of r f).core.shut || c.shut) root.1 in
     (own.0, ap (told (counts_as_closed r (owning q n f)) f.shared) own.1 ∙ ap (λ (b : Bool). told b f.shared (with_permits own.0 (entry_of r f).core)) shut)
 
-pool-moved : {C : Type 0} (r from to n : ℕ) (f : Pools C) → from < length f.pools → to < length f.pools → (m : ℕ) × (pool_in r (moved from to n f) ≡ with_permits m (pool_in r f))
+pub pool-moved : {C : Type 0} (r from to n : ℕ) (f : Pools C) → from < length f.pools → to < length f.pools → (m : ℕ) × (pool_in r (moved from to n f) ≡ with_permits m (pool_in r f))
 pool-moved {C} r from to n f lt lt_to =
     let within : to < length (with_less from n f).pools = (let e = length-set f.pools from (paying from (owned_by from f - n) f) in omega (arith, e, lt_to)) in
     let one = pool-owning r from (owned_by from f - n) f lt in

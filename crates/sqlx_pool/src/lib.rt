@@ -7,7 +7,7 @@
 mod acquire;
 mod acquiring;
 mod begins;
-mod books;
+pub mod books;
 mod checks;
 mod clock;
 mod close_event;
@@ -25,7 +25,7 @@ mod options_connector;
 mod parts;
 mod pool;
 mod pool_connect;
-mod record;
+pub mod record;
 mod seen;
 mod sleepers;
 mod stage;

@@ -14,7 +14,7 @@ pub struct MarkLog {
 
 impl MarkLog {
     // The marks behind a start.
-    pub(crate) fn new(start: Vec<Mark>, lent_before: u64, marks: Vec<Mark>) -> Self
+    pub fn new(start: Vec<Mark>, lent_before: u64, marks: Vec<Mark>) -> Self
         ensures start { result.start ≡ start }
         ensures before { result.lent_before ≡ lent_before }
         ensures marks { result.marks ≡ marks }

@@ -3,6 +3,7 @@
 ghost use Rattle.std.specs.Prelude.{◌≡◌, ℕ, ◌+◌, ◌<◌, ◌^◌, ◌↔◌, List, IfOk, OnOk, OnErr, IfErr, Err, length, true, false, ◌⊎◌};
 ghost use Rattle.sqlx_text.specs.declared.Error.{Error};
 ghost use Rattle.sqlx_log.specs.declared.mark.Mark.{Mark};
+ghost use Rattle.sqlx_pool_core.specs.Balance.{Balance, ask_room, try_room};
 ghost use Rattle.sqlx_pool_core.specs.Logs.{moment_of};
 ghost use Rattle.sqlx_pool_core.specs.PollSteps.{phase_for, asked_marks, may_cancel, cancel_marks, cancelled, try_lent, try_marks, after_try};
 ghost use Rattle.sqlx_pool_core.specs.Edits.{at_moment, asked};
@@ -26,6 +27,7 @@ impl<C> Family<C> {
         ensures exhausted { (result ≡ Err Error.Exhausted) ↔ ((counts_as_closed pool self.old ≡ false) × (2 ^ 63 < self.old.shared.next_ticket)) }
         ensures causes { IfErr result (λ e. (e ≡ Error.PoolClosed) ⊎ ((e ≡ Error.Exhausted) ⊎ (e ≡ Error.OutOfMemory))) }
         ensures makes { IfOk result (λ ticket. FamilyLogs self.old pool (asked_marks (pool_in pool self.old) client (moment_of (pool_in pool self.old) now) ticket) self.new) }
+        ensures balance { let core = pool_in pool self.old in IfOk result (λ ticket. Balance core (pool_in pool self.new) (asked_marks core client (moment_of core now) ticket) 0 (ask_room core.options.idle_tries)) }
         ensures becomes { let core = pool_in pool self.old in OnOk result (self.new ≡ with_pool pool (at_moment (moment_of core now) (asked client (moment_of core now + core.options.acquire_timeout) core)) self.old) }
         ensures names { length self.new.pools ≡ length self.old.pools }
         ensures err { OnErr result (self.new ≡ with_pool pool (pool_in pool self.old) self.old) }
@@ -45,6 +47,7 @@ impl<C> Family<C> {
         requires named { pool < length self.old.pools }
         ensures answer { result ≡ may_cancel (phase_for client ticket (pool_in pool self.old).tickets) }
         ensures makes { FamilyLogs self.old pool (cancel_marks ticket result) self.new }
+        ensures balance { Balance (pool_in pool self.old) (pool_in pool self.new) (cancel_marks ticket result) 0 0 }
         ensures becomes { self.new ≡ stepped pool (cancelled ticket result (pool_in pool self.old)) self.old }
         ensures names { length self.new.pools ≡ length self.old.pools }
     {
@@ -64,6 +67,7 @@ impl<C> Family<C> {
         requires named { pool < length self.old.pools }
         ensures answer { result ≡ try_lent (passes_in pool self.old) (pool_in pool self.old).idle }
         ensures makes { FamilyLogs self.old pool (try_marks client result) self.new }
+        ensures balance { Balance (pool_in pool self.old) (pool_in pool self.new) (try_marks client result) 0 (try_room result) }
         ensures becomes { let core = pool_in pool self.old in self.new ≡ with_pool pool (after_try client (moment_of core now) result core) self.old }
         ensures names { length self.new.pools ≡ length self.old.pools }
     {

@@ -2,6 +2,7 @@
 
 ghost use Rattle.std.specs.Prelude.{◌≡◌, ℕ, ◌<◌, true, length};
 ghost use Rattle.sqlx_log.specs.declared.mark.Mark.{Mark};
+ghost use Rattle.sqlx_pool_core.specs.Balance.{Balance};
 ghost use Rattle.sqlx_pool_core.specs.MaintenanceSteps.{close_marks, close_answer, closed_from, close_state};
 ghost use Rattle.sqlx_family.specs.Pools.{pool_in, with_pool, counts_as_closed, entry_of};
 ghost use Rattle.sqlx_family.specs.Permits.{retiring, settled};
@@ -18,6 +19,7 @@ impl<C> Family<C> {
         requires named { pool < length self.old.pools }
         ensures answer { let core = pool_in pool self.old in result.items ≡ close_answer core.shut core.idle }
         ensures makes { FamilyLogs self.old pool (close_marks (pool_in pool self.old).shut result.items) self.new }
+        ensures balance { Balance (pool_in pool self.old) (pool_in pool self.new) (close_marks (pool_in pool self.old).shut result.items) 0 0 }
         ensures becomes { let core = pool_in pool self.old in self.new ≡ with_pool pool (closed_from core.shut core) self.old }
         ensures names { length self.new.pools ≡ length self.old.pools }
     {
@@ -36,6 +38,7 @@ impl<C> Family<C> {
         requires named { pool < length self.old.pools }
         ensures answer { let core = pool_in pool self.old in result.items ≡ close_answer core.shut core.idle }
         ensures makes { FamilyLogs self.old pool (close_marks (pool_in pool self.old).shut result.items) self.new }
+        ensures balance { Balance (pool_in pool self.old) (pool_in pool self.new) (close_marks (pool_in pool self.old).shut result.items) 0 0 }
         ensures becomes { let core = pool_in pool self.old in self.new ≡ settled pool (retiring pool (with_pool pool (closed_from core.shut core) self.old)) }
         ensures names { length self.new.pools ≡ length self.old.pools }
     {
@@ -75,5 +78,13 @@ impl<C> Family<C> {
         ensures { result ≡ counts_as_closed pool self.now }
     {
         self.counts_as_closed(pool)
+    }
+
+    /// Whether a close came to a pool itself.
+    pub fn is_shut(&self, pool: u32) -> bool
+        requires named { pool < length self.now.pools }
+        ensures { result ≡ (pool_in pool self.now).shut }
+    {
+        self.pools[pool as usize].core.is_shut()
     }
 }

@@ -3,6 +3,7 @@
 ghost use Rattle.std.specs.Prelude.{◌≡◌, ℕ, ◌<◌, length};
 ghost use Rattle.sqlx_log.specs.declared.mark.Mark.{Mark};
 ghost use Rattle.sqlx_pool_core.specs.Core.{ticket_of};
+ghost use Rattle.sqlx_pool_core.specs.Balance.{Balance};
 ghost use Rattle.sqlx_pool_core.specs.Logs.{moment_of};
 ghost use Rattle.sqlx_pool_core.specs.PollSteps.{judged, verdict_answer, test_marks, after_test, connect_answer, connect_marks, after_connect};
 ghost use Rattle.sqlx_family.specs.Pools.{pool_in, with_pool, counts_as_closed, entry_of};
@@ -26,6 +27,7 @@ impl<C> Family<C> {
         requires named { pool < length self.old.pools }
         ensures answer { let core = pool_in pool self.old in result ≡ verdict_answer client ticket core.closed core verdict }
         ensures makes { FamilyLogs self.old pool (test_marks client ticket (judged verdict) result) self.new }
+        ensures balance { Balance (pool_in pool self.old) (pool_in pool self.new) (test_marks client ticket (judged verdict) result) 0 0 }
         ensures becomes { self.new ≡ stepped pool (after_test client ticket result (pool_in pool self.old)) self.old }
         ensures names { length self.new.pools ≡ length self.old.pools }
     {
@@ -52,6 +54,7 @@ impl<C> Family<C> {
         requires named { pool < length self.old.pools }
         ensures answer { let core = pool_in pool self.old in result ≡ connect_answer (ticket_of client ticket core.tickets) core.closed core.next_conn (moment_of core now) tried }
         ensures makes { FamilyLogs self.old pool (connect_marks client ticket (moment_of (pool_in pool self.old) now) result) self.new }
+        ensures balance { Balance (pool_in pool self.old) (pool_in pool self.new) (connect_marks client ticket (moment_of (pool_in pool self.old) now) result) 0 0 }
         ensures becomes { let core = pool_in pool self.old in self.new ≡ stepped pool (after_connect client ticket (moment_of core now) result core) self.old }
         ensures names { length self.new.pools ≡ length self.old.pools }
     {

@@ -5,6 +5,7 @@ ghost use Rattle.sqlx_log.specs.declared.mark.Mark.{Mark};
 ghost use Rattle.sqlx_log.specs.EventTable.{closes};
 ghost use Rattle.sqlx_pool_core.specs.Core.{loan_of};
 ghost use Rattle.sqlx_pool_core.specs.Limits.{limits_of};
+ghost use Rattle.sqlx_pool_core.specs.Balance.{Balance, given_back, one_if};
 ghost use Rattle.sqlx_pool_core.specs.Logs.{moment_of};
 ghost use Rattle.sqlx_pool_core.specs.ReturnSteps.{give_answer, give_marks, core_after_give, end_marks, detach_marks, leak_marks, released, leaked};
 ghost use Rattle.sqlx_family.specs.Pools.{pool_in, with_pool, counts_as_closed, entry_of};
@@ -39,6 +40,7 @@ impl<C> Family<C> {
         requires named { pool < length self.old.pools }
         ensures answer { let core = pool_in pool self.old in result ≡ give_answer core.options core.closed (moment_of core now) accepted (loan_of client lent.id core.held) lent }
         ensures makes { FamilyLogs self.old pool (give_marks lent.id (moment_of (pool_in pool self.old) now) result) self.new }
+        ensures balance { Balance (pool_in pool self.old) (pool_in pool self.new) (give_marks lent.id (moment_of (pool_in pool self.old) now) result) (given_back result) 0 }
         ensures becomes { let core = pool_in pool self.old in self.new ≡ stepped pool (core_after_give (loan_of client lent.id core.held) lent (moment_of core now) result core) self.old }
         ensures names { length self.new.pools ≡ length self.old.pools }
     {
@@ -58,6 +60,7 @@ impl<C> Family<C> {
         requires named { pool < length self.old.pools }
         ensures answer { result ≡ is_some (loan_of client id (pool_in pool self.old).held) }
         ensures makes { FamilyLogs self.old pool (end_marks id result) self.new }
+        ensures balance { Balance (pool_in pool self.old) (pool_in pool self.new) (end_marks id result) (one_if result) 0 }
         ensures becomes { self.new ≡ stepped pool (released id result (pool_in pool self.old)) self.old }
         ensures names { length self.new.pools ≡ length self.old.pools }
     {
@@ -76,6 +79,7 @@ impl<C> Family<C> {
         requires named { pool < length self.old.pools }
         ensures answer { result ≡ is_some (loan_of client id (pool_in pool self.old).held) }
         ensures makes { FamilyLogs self.old pool (detach_marks id result) self.new }
+        ensures balance { Balance (pool_in pool self.old) (pool_in pool self.new) (detach_marks id result) (one_if result) 0 }
         ensures becomes { self.new ≡ stepped pool (released id result (pool_in pool self.old)) self.old }
         ensures names { length self.new.pools ≡ length self.old.pools }
     {
@@ -94,6 +98,7 @@ impl<C> Family<C> {
         requires named { pool < length self.old.pools }
         ensures answer { result ≡ is_some (loan_of client id (pool_in pool self.old).held) }
         ensures makes { FamilyLogs self.old pool (leak_marks id result) self.new }
+        ensures balance { Balance (pool_in pool self.old) (pool_in pool self.new) (leak_marks id result) (one_if result) 0 }
         ensures becomes { self.new ≡ with_pool pool (leaked id result (pool_in pool self.old)) self.old }
         ensures names { length self.new.pools ≡ length self.old.pools }
     {

@@ -2,6 +2,7 @@
 
 ghost use Rattle.std.specs.Prelude.{◌≡◌, ℕ, ◌<◌, ◌≤◌, max, [], Option, length};
 ghost use Rattle.sqlx_log.specs.declared.mark.Mark.{Mark};
+ghost use Rattle.sqlx_pool_core.specs.Balance.{Balance, place_room};
 ghost use Rattle.sqlx_pool_core.specs.Logs.{moment_of};
 ghost use Rattle.sqlx_pool_core.specs.MaintenanceSteps.{reap_answer, reap_marks, reaped, has_place_if, placed, handed_back, done_marks, done};
 ghost use Rattle.sqlx_family.specs.RootLine.{passes_in};
@@ -20,6 +21,7 @@ impl<C> Family<C> {
         requires named { pool < length self.old.pools }
         ensures answer { let core = pool_in pool self.old in result ≡ reap_answer (passes_in pool self.old) core.options (moment_of core now) core.idle }
         ensures makes { FamilyLogs self.old pool (reap_marks result) self.new }
+        ensures balance { Balance (pool_in pool self.old) (pool_in pool self.new) (reap_marks result) 0 0 }
         ensures becomes { let core = pool_in pool self.old in self.new ≡ with_pool pool (reaped (moment_of core now) result core) self.old }
         ensures names { length self.new.pools ≡ length self.old.pools }
     {
@@ -40,6 +42,7 @@ impl<C> Family<C> {
         requires named { pool < length self.old.pools }
         ensures answer { let core = pool_in pool self.old in result ≡ has_place_if (passes_in pool self.old) (max core.options.min_connections 1) core }
         ensures makes { FamilyLogs self.old pool [] self.new }
+        ensures balance { Balance (pool_in pool self.old) (pool_in pool self.new) [] 0 (place_room result) }
         ensures becomes { self.new ≡ with_pool pool (placed result (pool_in pool self.old)) self.old }
         ensures names { length self.new.pools ≡ length self.old.pools }
     {
@@ -56,6 +59,7 @@ impl<C> Family<C> {
         requires named { pool < length self.old.pools }
         ensures answer { let core = pool_in pool self.old in result ≡ has_place_if (passes_in pool self.old) core.options.min_connections core }
         ensures makes { FamilyLogs self.old pool [] self.new }
+        ensures balance { Balance (pool_in pool self.old) (pool_in pool self.new) [] 0 (place_room result) }
         ensures becomes { self.new ≡ with_pool pool (placed result (pool_in pool self.old)) self.old }
         ensures names { length self.new.pools ≡ length self.old.pools }
     {
@@ -71,6 +75,7 @@ impl<C> Family<C> {
         requires named { pool < length self.old.pools }
         ensures answer { result ≡ has_place_if (passes_in pool self.old) minimum (pool_in pool self.old) }
         ensures makes { FamilyLogs self.old pool [] self.new }
+        ensures balance { Balance (pool_in pool self.old) (pool_in pool self.new) [] 0 (place_room result) }
         ensures becomes { self.new ≡ with_pool pool (placed result (pool_in pool self.old)) self.old }
         ensures names { length self.new.pools ≡ length self.old.pools }
     {
@@ -91,6 +96,7 @@ impl<C> Family<C> {
         requires place { 1 ≤ (pool_in pool self.old).places }
         ensures answer { result ≡ handed_back (counts_as_closed pool self.old) raw }
         ensures makes { let core = pool_in pool self.old in FamilyLogs self.old pool (done_marks core.closed core.next_conn (moment_of core now) raw) self.new }
+        ensures balance { let core = pool_in pool self.old in Balance core (pool_in pool self.new) (done_marks core.closed core.next_conn (moment_of core now) raw) 0 0 }
         ensures becomes { let core = pool_in pool self.old in self.new ≡ stepped pool (done core.closed (moment_of core now) raw core) self.old }
         ensures names { length self.new.pools ≡ length self.old.pools }
     {

@@ -4,6 +4,7 @@ ghost use Rattle.std.specs.Prelude.{◌≡◌, ℕ, ◌+◌, ◌<◌, ◌≤◌,
 ghost use Rattle.sqlx_log.specs.declared.mark.Mark.{Mark};
 ghost use Rattle.sqlx_pool_core.specs.Core.{ticket_of, free};
 ghost use Rattle.sqlx_pool_core.specs.CoreTurn.{turn_of};
+ghost use Rattle.sqlx_pool_core.specs.Balance.{Balance};
 ghost use Rattle.sqlx_pool_core.specs.Logs.{moment_of};
 ghost use Rattle.sqlx_pool_core.specs.PollSteps.{start_answer, start_marks, started, phase_for};
 ghost use Rattle.sqlx_family.specs.Pools.{pool_in, entry_of};
@@ -88,6 +89,7 @@ impl<C> Family<C> {
         requires permit { entitled ≡ true → 0 < free (entry_of pool self.old).core }
         ensures answer { let core = pool_in pool self.old in result ≡ start_answer (turn_of entitled core.closed moment.0 core (ticket_of client ticket core.tickets)) core.idle }
         ensures makes { FamilyLogs self.old pool (start_marks ticket (phase_for client ticket (pool_in pool self.old).tickets) result) self.new }
+        ensures balance { Balance (pool_in pool self.old) (pool_in pool self.new) (start_marks ticket (phase_for client ticket (pool_in pool self.old).tickets) result) 0 0 }
         ensures becomes { self.new ≡ stepped pool (started ticket moment.0 result (pool_in pool self.old)) self.old }
         ensures names { length self.new.pools ≡ length self.old.pools }
     {
@@ -107,6 +109,7 @@ impl<C> Family<C> {
         requires named { pool < length self.old.pools }
         ensures answer { let core = pool_in pool self.old in result ≡ start_answer (turn_of (is_entitled pool ticket self.old) core.closed (moment_of core now) core (ticket_of client ticket core.tickets)) core.idle }
         ensures makes { FamilyLogs self.old pool (start_marks ticket (phase_for client ticket (pool_in pool self.old).tickets) result) self.new }
+        ensures balance { Balance (pool_in pool self.old) (pool_in pool self.new) (start_marks ticket (phase_for client ticket (pool_in pool self.old).tickets) result) 0 0 }
         ensures becomes { let m = moment_of (pool_in pool self.old) now in let f = granting pool client ticket m self.old in self.new ≡ stepped pool (started ticket m result (pool_in pool f)) f }
         ensures names { length self.new.pools ≡ length self.old.pools }
     {

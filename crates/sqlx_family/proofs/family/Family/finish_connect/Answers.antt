@@ -1,6 +1,9 @@
 use Rattle.std.proofs.Common.{◌<◌, length}
+use Rattle.sqlx_pool_core.specs.Core.{Core}
+use Rattle.sqlx_pool_core.specs.PollSteps.{connect_marks}
 use Rattle.sqlx_family.proofs.FamilyLemmas.{family-steps}
 use Rattle.sqlx_family.proofs.LogLemmas.{logs-stepped}
+use Rattle.sqlx_family.proofs.BalanceLemmas.{balance-stepped}
 use Rattle.sqlx_family.proofs.family.Family.finish_connect.Goals as goal
 
 pub returns-clause-makes : goal.returns-clause-makes
@@ -15,3 +18,10 @@ invariant_of-self g c =
     let here : c.args.pool < length c.self.inside.pools.items = rw (← c.self.view_is) at c.requires.named in
     family-steps c.self.inside.pools.items c.self.inside.shared c.args.pool c.index_mut.result.now c.hear.new.self c.finish_connect-answer.new.self c.self.invariant here c.index_mut.ensures.value c.counts_as_closed-closed.result
     _ c.hear.ensures c.finish_connect-answer.ensures.stays c.finish_connect-answer.ensures.draws c.sound.ensures c.shared-self-inside.ensures
+
+pub returns-clause-balance : goal.returns-clause-balance
+returns-clause-balance g c =
+    let here : c.args.pool < length c.self.inside.pools.items = rw (← c.self.view_is) at c.requires.named in
+    rw (← c.moment-moment.ensures)
+    (balance-stepped c.self.inside.pools.items c.self.inside.shared _ c.args.pool c.index_mut.result.now c.hear.new.self c.finish_connect-answer.new.self c.self.view_is here c.index_mut.ensures.value c.counts_as_closed-closed.result c.counts_as_closed-closed.ensures c.hear.ensures
+    (λ (core : Core _). connect_marks c.args.client c.args.ticket c.moment-moment.result.0 c.finish_connect-answer.result) c.finish_connect-answer.ensures.balance c.settle.new.self (rw c.shared-self-inside.ensures at c.settle.ensures.becomes))

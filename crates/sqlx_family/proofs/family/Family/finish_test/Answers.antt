@@ -1,6 +1,9 @@
 use Rattle.std.proofs.Common.{◌<◌, length}
+use Rattle.sqlx_pool_core.specs.Core.{Core}
+use Rattle.sqlx_pool_core.specs.PollSteps.{judged, test_marks}
 use Rattle.sqlx_family.proofs.FamilyLemmas.{family-steps}
 use Rattle.sqlx_family.proofs.LogLemmas.{logs-stepped}
+use Rattle.sqlx_family.proofs.BalanceLemmas.{balance-stepped}
 use Rattle.sqlx_family.proofs.family.Family.finish_test.Goals as goal
 
 pub returns-clause-makes : goal.returns-clause-makes
@@ -14,3 +17,9 @@ invariant_of-self g c =
     let here : c.args.pool < length c.self.inside.pools.items = rw (← c.self.view_is) at c.requires.named in
     family-steps c.self.inside.pools.items c.self.inside.shared c.args.pool c.index_mut.result.now c.hear.new.self c.finish_test-answer.new.self c.self.invariant here c.index_mut.ensures.value c.counts_as_closed-closed.result
     _ c.hear.ensures c.finish_test-answer.ensures.stays c.finish_test-answer.ensures.draws c.sound.ensures c.shared-self-inside.ensures
+
+pub returns-clause-balance : goal.returns-clause-balance
+returns-clause-balance g c =
+    let here : c.args.pool < length c.self.inside.pools.items = rw (← c.self.view_is) at c.requires.named in
+    (balance-stepped c.self.inside.pools.items c.self.inside.shared _ c.args.pool c.index_mut.result.now c.hear.new.self c.finish_test-answer.new.self c.self.view_is here c.index_mut.ensures.value c.counts_as_closed-closed.result c.counts_as_closed-closed.ensures c.hear.ensures
+    (λ (core : Core _). test_marks c.args.client c.args.ticket (judged c.args.verdict) c.finish_test-answer.result) c.finish_test-answer.ensures.balance c.settle.new.self (rw c.shared-self-inside.ensures at c.settle.ensures.becomes))

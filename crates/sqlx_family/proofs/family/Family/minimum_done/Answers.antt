@@ -3,6 +3,7 @@ use Rattle.sqlx_pool_core.specs.Core.{Core}
 use Rattle.sqlx_pool_core.specs.MaintenanceSteps.{done_marks}
 use Rattle.sqlx_family.proofs.FamilyLemmas.{family-steps}
 use Rattle.sqlx_family.proofs.LogLemmas.{logs-stepped-of}
+use Rattle.sqlx_family.proofs.BalanceLemmas.{balance-stepped}
 use Rattle.sqlx_family.proofs.family.Family.minimum_done.Goals as goal
 
 pub returns-clause-makes : goal.returns-clause-makes
@@ -17,3 +18,10 @@ invariant_of-self g c =
     let here : c.args.pool < length c.self.inside.pools.items = rw (← c.self.view_is) at c.requires.named in
     family-steps c.self.inside.pools.items c.self.inside.shared c.args.pool c.index_mut.result.now c.hear.new.self c.minimum_done-answer.new.self c.self.invariant here c.index_mut.ensures.value c.counts_as_closed-closed.result
     _ c.hear.ensures c.minimum_done-answer.ensures.stays c.minimum_done-answer.ensures.draws c.sound.ensures c.shared-self-inside.ensures
+
+pub returns-clause-balance : goal.returns-clause-balance
+returns-clause-balance g c =
+    let here : c.args.pool < length c.self.inside.pools.items = rw (← c.self.view_is) at c.requires.named in
+    rw (← c.moment-moment.ensures)
+    (balance-stepped c.self.inside.pools.items c.self.inside.shared _ c.args.pool c.index_mut.result.now c.hear.new.self c.minimum_done-answer.new.self c.self.view_is here c.index_mut.ensures.value c.counts_as_closed-closed.result c.counts_as_closed-closed.ensures c.hear.ensures
+    (λ (core : Core _). done_marks core.closed core.next_conn c.moment-moment.result.0 c.args.raw) c.minimum_done-answer.ensures.balance c.settle.new.self (rw c.shared-self-inside.ensures at c.settle.ensures.becomes))

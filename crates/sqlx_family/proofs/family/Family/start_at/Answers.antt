@@ -3,6 +3,7 @@ use Rattle.sqlx_pool_core.specs.Core.{Core}
 use Rattle.sqlx_pool_core.specs.PollSteps.{phase_for, start_marks}
 use Rattle.sqlx_family.proofs.FamilyLemmas.{family-steps}
 use Rattle.sqlx_family.proofs.LogLemmas.{logs-stepped-of}
+use Rattle.sqlx_family.proofs.BalanceLemmas.{balance-stepped}
 use Rattle.sqlx_family.proofs.family.Family.start_at.Goals as goal
 
 pub returns-clause-makes : goal.returns-clause-makes
@@ -16,3 +17,9 @@ invariant_of-self g c =
     let here : c.args.pool < length c.self.inside.pools.items = rw (← c.self.view_is) at c.requires.named in
     family-steps c.self.inside.pools.items c.self.inside.shared c.args.pool c.index_mut.result.now c.hear.new.self c.start-answer.new.self c.self.invariant here c.index_mut.ensures.value c.counts_as_closed-closed.result
     _ c.hear.ensures c.start-answer.ensures.stays c.start-answer.ensures.draws c.sound.ensures c.shared-self-inside.ensures
+
+pub returns-clause-balance : goal.returns-clause-balance
+returns-clause-balance g c =
+    let here : c.args.pool < length c.self.inside.pools.items = rw (← c.self.view_is) at c.requires.named in
+    (balance-stepped c.self.inside.pools.items c.self.inside.shared _ c.args.pool c.index_mut.result.now c.hear.new.self c.start-answer.new.self c.self.view_is here c.index_mut.ensures.value c.counts_as_closed-closed.result c.counts_as_closed-closed.ensures c.hear.ensures
+    (λ (core : Core _). start_marks c.args.ticket (phase_for c.args.client c.args.ticket core.tickets) c.start-answer.result) c.start-answer.ensures.balance c.settle.new.self (rw c.shared-self-inside.ensures at c.settle.ensures.becomes))

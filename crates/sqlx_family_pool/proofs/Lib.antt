@@ -1,0 +1,3 @@
+pub mod Replaces
+pub mod StepLemmas
+pub mod PoolLemmas

@@ -1,0 +1,224 @@
+-- The value under the lock stands after a step of one pool whose marks were written behind that pool's log.
+use Rattle.std.proofs.Common.{◌≡◌, ◌≢◌, ℕ, ◌+◌, ◌^◌, ◌<◌, ◌≤◌, ◌⊎◌, inl, inr, Bool, true, false, cond, Option, Some, None, List, [], ◌∷◌, ◌++◌, map, length, get_or, sum_by, All, refl, sym, ap, ◌∙◌, subst, arith, Vec, vec_items, vec_capacity}
+use Rattle.std.specs.Prelude.{slice_set}
+use Rattle.std.proofs.lemmas.Bool.Decides.{eqb_tells}
+use Rattle.std.proofs.lemmas.List.{get_or-set_same, get_or-set_other, get_or-map, map-set, length-set, length-map, length-append}
+use Rattle.std.proofs.lemmas.List.Elements.{All-head, All-tail}
+use Rattle.std.proofs.lemmas.List.Sums.{sum_by-set, sum_by-cons}
+use Rattle.sqlx_log.specs.declared.mark.Mark.{Mark}
+use Rattle.sqlx_log.specs.FairLog.{IsSafe}
+use Rattle.sqlx_log.proofs.Counting.{count-append}
+use Rattle.sqlx_log.proofs.FairLaws.{safe-append}
+use Rattle.sqlx_pool_core.specs.declared.member.shared.Shared.{Shared}
+use Rattle.sqlx_pool_core.specs.declared.options.PoolOptions.{PoolOptions}
+use Rattle.sqlx_pool_core.specs.Core.{Core}
+use Rattle.sqlx_pool_core.specs.StandsFor.{StandsIn}
+use Rattle.sqlx_text.specs.declared.Moment.{Moment}
+use Rattle.sqlx_pool_core.specs.declared.steps.Idle.{Idle}
+use Rattle.sqlx_pool_core.specs.declared.steps.Verdict.{Verdict}
+use Rattle.sqlx_pool_core.specs.declared.steps.Verdict.TheVariants as verdict
+use Rattle.sqlx_pool_core.specs.Balance.{Balance, is_lent, lents, ends, marks_due, one_if}
+use Rattle.sqlx_pool_core.specs.PollSteps.{test_answer, after_refusal}
+use Rattle.sqlx_pool_core.specs.PollParts.{IfAccepted}
+use Rattle.sqlx_pool.specs.Answers.{IfTestLends}
+use Rattle.sqlx_family.specs.declared.family.FamilyPool.{FamilyPool}
+use Rattle.sqlx_family.specs.NoPool.{no_pool}
+use Rattle.sqlx_family.specs.Pools.{Pools, entry_of, pool_in}
+use Rattle.sqlx_family.specs.IsFamily.{permits_of, Joins, IsFamily, maximum_of}
+use Rattle.sqlx_family.specs.FamilyLogs.{with_marks, MakesTogether, FamilyLogs}
+use Rattle.sqlx_family.proofs.LogLemmas.{same, other}
+use Rattle.sqlx_pool.specs.Booked.{Booked}
+use Rattle.sqlx_pool.specs.State.{RestFlat}
+use Rattle.sqlx_pool.proofs.LeavesLemmas.{Leaves}
+use Rattle.sqlx_pool.proofs.StepLemmas.{Books}
+use Rattle.sqlx_family_pool.specs.FamilyState.{family_state, log_of, with_made, held_in, tickets_in, IsKept}
+use Rattle.sqlx_family_pool.proofs.Replaces.{Replaces, sum-but}
+
+-- ---- the permits pay for the connections that have an owner
+
+held-paid : {C : Type 0} (h : Shared) (ps : List (FamilyPool C)) → All (Joins h) ps → sum_by held_in ps ≤ sum_by permits_of ps
+held-paid h [] all = omega arith
+held-paid h (p ∷ ps) all =
+    let head = (All-head (Joins h) p ps all).paid in
+    let rest = held-paid h ps (All-tail (Joins h) p ps all) in
+    let a = sum_by-cons held_in p ps in
+    let b = sum_by-cons permits_of p ps in
+    omega (arith, head, rest, a, b)
+
+pub few-held : {C : Type 0} (f : Pools C) → IsFamily f → sum_by held_in f.pools < 2 ^ 32
+few-held f is =
+    let paid = held-paid f.shared f.pools is.joins in
+    let permits = is.permits in
+    let small = is.small in
+    omega (arith, paid, permits, small)
+
+-- ---- logs by their pools' names
+
+module _ {Z : Type 0} (logs : List (Vec Mark Z)) (q : ℕ) (log : Vec Mark Z) (lt : q < length logs) (is : log ≡ get_or logs q log) where
+  pub items-at : get_or (map vec_items logs) q [] ≡ vec_items log
+  items-at = get_or-map vec_items logs q log [] lt ∙ ap vec_items (sym is)
+
+  pub capacity-at : get_or (map vec_capacity logs) q 0 ≡ vec_capacity log
+  capacity-at = get_or-map vec_capacity logs q log 0 lt ∙ ap vec_capacity (sym is)
+
+  module _ (now : Vec Mark Z) (made : List Mark) (grew : vec_items now ≡ vec_items log ++ made) where
+    -- the log of this pool has the marks behind it, and the others are as they were
+    pub logs-grow : map vec_items (slice_set logs q now) ≡ with_made q made (map vec_items logs)
+    logs-grow =
+        map-set vec_items logs q now
+        ∙ ap (slice_set (map vec_items logs) q) (grew ∙ ap (λ (l : List Mark). l ++ made) (sym items-at))
+
+-- the same log by log
+pub grows-at : (q : ℕ) (made : List Mark) (logs : List (List Mark)) → q < length logs → (p : ℕ) → get_or (with_made q made logs) p [] ≡ with_marks q made (λ r. get_or logs r []) p
+grows-at q made logs lt p = elim (eqb_tells p q) [
+  | inl is ↦ subst (λ (n : ℕ). get_or (with_made q made logs) n [] ≡ with_marks q made (λ r. get_or logs r []) n) (sym is.1)
+      (get_or-set_same logs q (get_or logs q [] ++ made) [] lt ∙ sym (same q made (λ r. get_or logs r [])))
+  | inr is ↦ get_or-set_other logs q p (get_or logs q [] ++ made) [] is.1 ∙ sym (other q p made (λ r. get_or logs r []) is.1)
+]
+
+-- ---- a step
+
+module _ {C O : Type 0} {levels : C → ℕ} {max : ℕ} {f : Pools C} {logs : List (List Mark)} {connect : O} {booked : Booked} {capacities : List ℕ} (kept : IsKept levels max (family_state f logs connect booked) capacities) where
+  -- One pool's core becomes this one but for its permits, and its marks are written behind its log.
+  module _ (q : ℕ) (lt : q < length f.pools) (core : Core C) (g : Pools C) (made : List Mark) (backs room : ℕ) (replaces : Replaces q f core g) (makes : FamilyLogs f q made g) (balance : Balance (pool_in q f) (pool_in q g) made backs room)
+      (leaves : Leaves levels (pool_in q f) core) (now_connect : O) (now_booked : Booked) (books : Books booked now_booked made backs) (now_capacities : List ℕ)
+      (others : (p : ℕ) → p ≢ q → get_or now_capacities p 0 ≡ get_or capacities p 0) (enough : length (get_or logs q []) + marks_due (pool_in q f) + room ≤ get_or now_capacities q 0) where
+    abbrev of : ℕ → List Mark
+    of r = get_or logs r []
+
+    together : MakesTogether (pool_in q f).options.max_connections q of made g
+    together = makes of kept.standing.stand
+
+    lt_logs : q < length logs
+    lt_logs = let e = kept.standing.each in omega (arith, lt, e)
+
+    grown : (p : ℕ) → get_or (with_made q made logs) p [] ≡ with_marks q made of p
+    grown p = grows-at q made logs lt_logs p
+
+    here : get_or (with_made q made logs) q [] ≡ of q ++ made
+    here = grown q ∙ same q made of
+
+    there : (p : ℕ) → p ≢ q → get_or (with_made q made logs) p [] ≡ of p
+    there p ne = grown p ∙ other q p made of ne
+
+    was_named : (p : ℕ) → p < length g.pools → p < length f.pools
+    was_named p below = let e = replaces.names in omega (arith, e, below)
+
+    -- what is said of each pool and its log
+    each-pool : (P : Core C → List Mark → Type 0) → P (pool_in q g) (of q ++ made) → ((p : ℕ) → p ≢ q → p < length f.pools → P (pool_in p g) (of p)) → (p : ℕ) → p < length g.pools → P (pool_in p g) (get_or (with_made q made logs) p [])
+    each-pool P own rest p below = elim (eqb_tells p q) [
+      | inl is ↦ subst (λ (n : ℕ). P (pool_in n g) (get_or (with_made q made logs) n [])) (sym is.1) (subst (P (pool_in q g)) (sym here) own)
+      | inr is ↦ subst (P (pool_in p g)) (sym (there p is.1)) (rest p is.1 (was_named p below))
+    ]
+
+    own_options : (pool_in q g).options ≡ (pool_in q f).options
+    own_options = ap (λ (c : Core C). c.options) replaces.here.1 ∙ leaves.options
+
+    own_idle : (pool_in q g).idle ≡ core.idle
+    own_idle = ap (λ (c : Core C). c.idle) replaces.here.1
+
+    other_options : (p : ℕ) → p ≢ q → (pool_in p g).options ≡ (pool_in p f).options
+    other_options p ne = ap (λ (c : Core C). c.options) (replaces.others p ne).1
+
+    other_idle : (p : ℕ) → p ≢ q → (pool_in p g).idle ≡ (pool_in p f).idle
+    other_idle p ne = ap (λ (c : Core C). c.idle) (replaces.others p ne).1
+
+    other_due : (p : ℕ) → p ≢ q → marks_due (pool_in p g) ≡ marks_due (pool_in p f)
+    other_due p ne = ap (λ (c : Core C). marks_due c) (replaces.others p ne).1
+
+    safe : (p : ℕ) → p < length g.pools → IsSafe (pool_in p g).options.max_connections [] (get_or (with_made q made logs) p [])
+    safe = each-pool (λ (c : Core C) l. IsSafe c.options.max_connections [] l)
+        (subst (λ (o : PoolOptions). IsSafe o.max_connections [] (of q ++ made)) (sym own_options) (safe-append (pool_in q f).options.max_connections [] (of q) made (kept.standing.safe q lt) together.safe))
+        (λ p ne below. subst (λ (o : PoolOptions). IsSafe o.max_connections [] (of p)) (sym (other_options p ne)) (kept.standing.safe p below))
+
+    rest : (p : ℕ) → p < length g.pools → RestFlat levels (pool_in p g).idle
+    rest = each-pool (λ (c : Core C) l. RestFlat levels c.idle)
+        (subst (RestFlat levels) (sym own_idle) (leaves.rest (kept.standing.rest q lt)))
+        (λ p ne below. subst (RestFlat levels) (sym (other_idle p ne)) (kept.standing.rest p below))
+
+    room_at : (p : ℕ) → p < length g.pools → length (get_or (with_made q made logs) p []) + marks_due (pool_in p g) ≤ get_or now_capacities p 0
+    room_at p below = elim (eqb_tells p q) [
+      | inl is ↦ subst (λ (n : ℕ). length (get_or (with_made q made logs) n []) + marks_due (pool_in n g) ≤ get_or now_capacities n 0) (sym is.1)
+          (let a = ap length here in let b = length-append (of q) made in let c = balance.paid in omega (arith, a, b, c, enough))
+      | inr is ↦ let a = ap length (there p is.1) in let b = other_due p is.1 in let c = others p is.1 in let d = kept.room p (was_named p below) in omega (arith, a, b, c, d)
+    ]
+
+    most : maximum_of g ≡ max
+    most = elim (eqb_tells 0 q) [
+      | inl is ↦ subst (λ (n : ℕ). (pool_in n g).options.max_connections ≡ (pool_in n f).options.max_connections) (sym is.1) (ap (λ (o : PoolOptions). o.max_connections) own_options) ∙ kept.standing.most
+      | inr is ↦ ap (λ (o : PoolOptions). o.max_connections) (other_options 0 is.1) ∙ kept.standing.most
+    ]
+
+    held : sum_by held_in g.pools + held_in (entry_of q f) ≡ sum_by held_in f.pools + held_in (entry_of q g)
+    held = sum-but held_in no_pool f.pools g.pools q lt replaces.names (λ p ne. ap (λ (c : Core C). length c.held) (replaces.others p ne).1)
+
+    tickets : sum_by tickets_in g.pools + tickets_in (entry_of q f) ≡ sum_by tickets_in f.pools + tickets_in (entry_of q g)
+    tickets = sum-but tickets_in no_pool f.pools g.pools q lt replaces.names (λ p ne. ap (λ (c : Core C). length c.tickets) (replaces.others p ne).1)
+
+    loans : sum_by lents (with_made q made logs) + lents (of q) ≡ sum_by lents logs + lents (of q ++ made)
+    loans = sum_by-set lents logs q (of q ++ made) [] lt_logs
+
+    asked_now : sum_by tickets_in g.pools + 1 ≤ g.shared.next_ticket
+    asked_now = let a = balance.tickets in let b = balance.numbers in let c = kept.asked in let d = tickets in omega (arith, a, b, c, d)
+
+    few_now : (lents made ≤ ends made) ⊎ (now_booked.made ≤ 2 ^ 62) → now_booked.made + sum_by tickets_in g.pools + 1 ≤ 2 ^ 62 + g.shared.next_ticket
+    few_now (inl le) = let a = balance.tickets in let b = balance.numbers in let c = kept.few in let d = tickets in let e = books.made_is in omega (arith, a, b, c, d, e, le)
+    few_now (inr le) = let a = asked_now in omega (arith, a, le)
+
+    pub stepped : IsKept levels max (family_state g (with_made q made logs) now_connect now_booked) now_capacities
+    stepped = record {
+      standing = record {
+        each = let a = length-set logs q (of q ++ made) in let b = kept.standing.each in let c = replaces.names in omega (arith, a, b, c);
+        stand = λ p below. subst (StandsIn (pool_in p g)) (sym (grown p)) (together.stand p below);
+        safe = safe;
+        rest = rest;
+        most = most;
+        owned = let a = books.owned in let b = kept.standing.owned in let c = balance.held in let d = held in omega (arith, a, b, c, d);
+        made = let a = books.made_is in let b = kept.standing.made in let c = loans in let d = count-append is_lent (of q) made in omega (arith, a, b, c, d);
+      };
+      asked = asked_now;
+      few = few_now books.few;
+      room = room_at;
+    }
+
+-- The same, where the logs are vectors: a step of the pool whose log was written to.
+module _ {C O Z : Type 0} {levels : C → ℕ} {max : ℕ} {f : Pools C} {connect : O} {booked : Booked} (logs : List (Vec Mark Z)) (kept : IsKept levels max (family_state f (map vec_items logs) connect booked) (map vec_capacity logs))
+    (q : ℕ) (lt : q < length f.pools) (log : Vec Mark Z) (is : log ≡ get_or logs q log) where
+  pub in-logs : q < length logs
+  in-logs = let a = kept.standing.each in let b = length-map logs vec_items in omega (arith, lt, a, b)
+
+  -- the pool's log has room for what is due
+  pub room-there : length (vec_items log) + marks_due (pool_in q f) ≤ vec_capacity log
+  room-there = let a = kept.room q lt in let b = ap length (items-at logs q log in-logs is) in let c = capacity-at logs q log in-logs is in omega (arith, a, b, c)
+
+  pub room-made : (g : Pools C) (made : List Mark) {backs : ℕ} → Balance (pool_in q f) (pool_in q g) made backs 0 → length (vec_items log) + length made ≤ vec_capacity log
+  room-made g made balance = let a = room-there in let b = balance.paid in omega (arith, a, b)
+
+  pub written : {core : Core C} {g : Pools C} {made : List Mark} {backs room : ℕ} → Replaces q f core g → FamilyLogs f q made g → Balance (pool_in q f) (pool_in q g) made backs room → Leaves levels (pool_in q f) core
+      → (connect : O) {now_booked : Booked} → Books booked now_booked made backs → (now : Vec Mark Z) → vec_items now ≡ vec_items log ++ made → length (vec_items log) + marks_due (pool_in q f) + room ≤ vec_capacity now
+      → IsKept levels max (family_state g (map vec_items (slice_set logs q now)) connect now_booked) (map vec_capacity (slice_set logs q now))
+  written {core} {g} {made} {backs} {room} replaces makes balance leaves connect {now_booked} books now grew enough =
+      subst (λ (l : List (List Mark)). IsKept levels max (family_state g l connect now_booked) (map vec_capacity (slice_set logs q now))) (sym (logs-grow logs q log in-logs is now made grew))
+      (stepped kept q lt core g made backs room replaces makes balance leaves connect now_booked books (map vec_capacity (slice_set logs q now))
+      (λ p ne. ap (λ (l : List ℕ). get_or l p 0) (map-set vec_capacity logs q now) ∙ get_or-set_other (map vec_capacity logs) q p (vec_capacity now) 0 ne)
+      (let a = ap length (items-at logs q log in-logs is) in
+      let within : q < length (map vec_capacity logs) = (let b = length-map logs vec_capacity in let c = in-logs in omega (arith, b, c)) in
+      let here : get_or (map vec_capacity (slice_set logs q now)) q 0 ≡ vec_capacity now = ap (λ (l : List ℕ). get_or l q 0) (map-set vec_capacity logs q now) ∙ get_or-set_same (map vec_capacity logs) q (vec_capacity now) 0 within in
+      omega (arith, a, here, enough)))
+
+-- a mark that may not be made takes as much room as it says
+pub one-long : (so : Bool) (m : Mark) → length (cond so (m ∷ []) []) ≡ one_if so
+one-long true m = refl
+one-long false m = refl
+
+-- what a test lends was accepted
+after-flat : {C : Type 0} (levels : C → ℕ) (next : Bool) (idle : List (Idle C)) → IfTestLends (after_refusal next idle) (λ lent. levels lent.raw ≡ 0)
+after-flat levels true (i ∷ rest) = tt
+after-flat levels true [] = tt
+after-flat levels false idle = tt
+
+pub test-flat : {C : Type 0} (levels : C → ℕ) (created : Option Moment) (closed next : Bool) (idle : List (Idle C)) (verdict : Verdict C) → IfAccepted verdict (λ raw. levels raw ≡ 0) → IfTestLends (test_answer created closed next idle verdict) (λ lent. levels lent.raw ≡ 0)
+test-flat levels None closed next idle verdict flat = tt
+test-flat levels (Some created) true next idle verdict flat = tt
+test-flat levels (Some created) false next idle (verdict.Accepted lent) flat = flat
+test-flat levels (Some created) false next idle (verdict.Refused c) flat = after-flat levels next idle

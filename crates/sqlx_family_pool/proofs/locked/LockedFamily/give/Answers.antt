@@ -1,0 +1,39 @@
+use Rattle.std.proofs.Common.{ℕ, ◌<◌, ◌++◌, length, ap, ◌∙◌, sym, inl, arith, vec_items}
+use Rattle.sqlx_family.specs.Pools.{pool_in}
+use Rattle.sqlx_family_pool.proofs.StepLemmas.{in-logs, room-there, room-made, logs-grow, written}
+use Rattle.sqlx_pool_core.specs.Logs.{moment_of}
+use Rattle.sqlx_pool_core.specs.ReturnSteps.{give_marks}
+use Rattle.sqlx_pool_core.specs.Core.{loan_of}
+use Rattle.sqlx_pool_core.specs.Answers.{is_kept}
+use Rattle.sqlx_pool_core.specs.Balance.{one_if}
+use Rattle.sqlx_pool.proofs.LeavesLemmas.{give-leaves}
+use Rattle.sqlx_pool.proofs.StepLemmas.{give-lends, given-back, refused-give}
+use Rattle.sqlx_family_pool.proofs.Replaces.{replaces-step}
+use Rattle.sqlx_family_pool.proofs.locked.LockedFamily.give.Goals as goal
+
+pub give-requires : goal.give-requires
+give-requires g c =
+    let here : c.args.pool < length c.self.inside.family.pools = grind arith in
+    (let r = room-made c.self.inside.logs.items c.self.invariant c.args.pool here c.index_mut.result.now c.index_mut.ensures.value c.give-given.new.self (give_marks c.args.lent.id (moment_of (pool_in c.args.pool c.self.inside.family) c.args.now) c.give-given.result) c.give-given.ensures.balance in let e = ap length (ap (λ (n : ℕ). give_marks c.args.lent.id n c.give-given.result) c.moment-moment.ensures) in omega (arith, r, e))
+
+pub invariant_of-self : goal.invariant_of-self
+invariant_of-self g c =
+    let here : c.args.pool < length c.self.inside.family.pools = grind arith in
+    let room = room-there c.self.inside.logs.items c.self.invariant c.args.pool here c.index_mut.result.now c.index_mut.ensures.value in
+    let capacity = c.give.ensures.capacity in
+    written c.self.inside.logs.items c.self.invariant c.args.pool here c.index_mut.result.now c.index_mut.ensures.value
+    (replaces-step c.args.pool c.self.inside.family here c.give-given.ensures.becomes) c.give-given.ensures.makes c.give-given.ensures.balance
+    (give-leaves g.C.Depth.levels (pool_in c.args.pool c.self.inside.family).options (pool_in c.args.pool c.self.inside.family).closed (moment_of (pool_in c.args.pool c.self.inside.family) c.args.now) c.args.accepted (loan_of c.args.client c.args.lent.id (pool_in c.args.pool c.self.inside.family).held) c.args.lent c.give-given.result (pool_in c.args.pool c.self.inside.family) c.give-given.ensures.answer c.requires.flat)
+    c.self.inside.connect (let none = give-lends c.args.lent.id (moment_of (pool_in c.args.pool c.self.inside.family) c.args.now) c.give-given.result in let same = ap one_if c.is_held.ensures in let back = given-back c.give-given.result in let owned = c.take_back_if-left.ensures.owned in let made = c.take_back_if-left.ensures.made in record { owned = omega (arith, none, same, back, owned); made_is = omega (arith, none, made); few = inl (omega (arith, none)) }) c.give.new.log (c.give.ensures.marks ∙ ap (λ l. vec_items c.index_mut.result.now ++ l) (ap (λ (n : ℕ). give_marks c.args.lent.id n c.give-given.result) c.moment-moment.ensures)) (omega (arith, room, capacity))
+
+pub returns-clause-marks : goal.returns-clause-marks
+returns-clause-marks g c =
+    let here : c.args.pool < length c.self.inside.family.pools = grind arith in
+    rw (← c.self.view_is)
+    (λ named. logs-grow c.self.inside.logs.items c.args.pool c.index_mut.result.now (in-logs c.self.inside.logs.items c.self.invariant c.args.pool here c.index_mut.result.now c.index_mut.ensures.value) c.index_mut.ensures.value c.give.new.log (give_marks c.args.lent.id (moment_of (pool_in c.args.pool c.self.inside.family) c.args.now) c.give-given.result) (c.give.ensures.marks ∙ ap (λ l. vec_items c.index_mut.result.now ++ l) (ap (λ (n : ℕ). give_marks c.args.lent.id n c.give-given.result) c.moment-moment.ensures)))
+
+pub returns-clause-refused : goal.returns-clause-refused
+returns-clause-refused g c = λ e. ap is_kept c.give-given.ensures.answer ∙ refused-give (pool_in c.args.pool c.self.inside.family).options (pool_in c.args.pool c.self.inside.family).closed (moment_of (pool_in c.args.pool c.self.inside.family) c.args.now) c.args.accepted e (loan_of c.args.client c.args.lent.id (pool_in c.args.pool c.self.inside.family).held) c.args.lent
+
+pub returns-clause-becomes : goal.returns-clause-becomes
+returns-clause-becomes g c = rw (← c.self.view_is) (λ named. c.give-given.ensures.becomes)

@@ -1,0 +1,30 @@
+-- What some steps come to in a family.
+use Rattle.std.specs.Prelude.{ℕ, ◌+◌}
+use Rattle.sqlx_pool_core.specs.declared.steps.Given.{Given}
+use Rattle.sqlx_pool_core.specs.declared.steps.Lent.{Lent}
+use Rattle.sqlx_pool_core.specs.declared.steps.Start.{Start}
+use Rattle.sqlx_pool_core.specs.Core.{Core, ticket_of, loan_of}
+use Rattle.sqlx_pool_core.specs.CoreTurn.{turn_of}
+use Rattle.sqlx_pool_core.specs.Edits.{at_moment, asked}
+use Rattle.sqlx_pool_core.specs.PollSteps.{start_answer, started}
+use Rattle.sqlx_pool_core.specs.ReturnSteps.{core_after_give}
+use Rattle.sqlx_family.specs.Pools.{Pools, pool_in}
+use Rattle.sqlx_family.specs.RootLine.{is_entitled, granting}
+use Rattle.sqlx_family.specs.Permits.{stepped}
+
+module _ {C : Type 0} where
+  -- what the start of a client's ticket answers in a pool, at a moment
+  abbrev pub start_answer_in : ℕ → ℕ → ℕ → ℕ → Pools C → Start C
+  start_answer_in q k t m f = start_answer (turn_of (is_entitled q t f) (pool_in q f).closed m (pool_in q f) (ticket_of k t (pool_in q f).tickets)) (pool_in q f).idle
+
+  -- the family behind a start that answered so: a child whose ticket takes a permit from the root has it
+  abbrev pub family_after_start : ℕ → ℕ → ℕ → ℕ → Start C → Pools C → Pools C
+  family_after_start q k t m answer f = stepped q (started t m answer (pool_in q (granting q k t m f))) (granting q k t m f)
+
+  -- the pool behind an ask of this client at a moment
+  abbrev pub core_after_ask : ℕ → ℕ → Core C → Core C
+  core_after_ask k m core = at_moment m (asked k (m + core.options.acquire_timeout) core)
+
+  -- the pool behind the return of a connection by this client, where it is answered so
+  abbrev pub core_after_return : ℕ → Lent C → ℕ → Given C → Core C → Core C
+  core_after_return k lent m answer core = core_after_give (loan_of k lent.id core.held) lent m answer core

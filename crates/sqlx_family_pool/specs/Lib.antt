@@ -1,0 +1,2 @@
+pub mod FamilyState
+pub mod FamilySteps

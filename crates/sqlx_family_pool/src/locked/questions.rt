@@ -1,0 +1,99 @@
+//! What the value under the lock is asked without a change, and its connect options.
+
+ghost use Rattle.std.specs.Prelude.{◌≡◌, ◌<◌, ◌≤◌, Bool, true, false, List, [], IfOk, length, nat_lt};
+ghost use Rattle.sqlx_log.specs.FairLog.{IsSafe};
+ghost use Rattle.sqlx_family.specs.Pools.{pool_in, counts_as_closed};
+ghost use Rattle.sqlx_family.specs.Permits.{owned_by};
+ghost use Rattle.sqlx_pool.specs.MarkLog.{IsUncut};
+ghost use Rattle.sqlx_family_pool.specs.FamilyState.{IsStanding, IsNamed, log_of};
+
+use super::LockedFamily;
+use sqlx_pool::{Loans, MarkLog};
+use sqlx_pool_core::Mark;
+use sqlx_text::{Depth, Moment, OutOfMemory};
+use std::alloc::Global;
+use std::sync::ledger::Ledger;
+
+// A copy of these marks.
+fn copied(alloc: Global, marks: &[Mark]) -> Result<Vec<Mark>, OutOfMemory>
+    ensures { IfOk result (λ copy. copy.items ≡ marks.now) }
+{
+    let mut copy = Vec::new(alloc);
+    match copy.extend_from_slice(marks) {
+        Ok(()) => Ok(copy),
+        Err(_) => Err(OutOfMemory),
+    }
+}
+
+impl<C: Depth, O, H: Ledger, L: Loans> LockedFamily<C, O, H, L> {
+    /// What holds of the value whenever its lock is free.
+    pub fn facts(&self)
+        ensures { IsStanding C.levels L.max self.now }
+    {
+        let _ = &self.family;
+    }
+
+    /// Whether a pool has this name.
+    pub fn is_named(&self, pool: u32) -> bool
+        ensures { result ≡ nat_lt pool (length self.now.family.pools) }
+    {
+        (pool as usize) < self.family.num_pools()
+    }
+
+    /// Whether a pool is closed: a close came to it, or to the root. So is one that nobody added.
+    pub fn is_closed(&self, pool: u32) -> bool
+        ensures answer { result ≡ counts_as_closed pool self.now.family }
+        ensures named { result ≡ false → IsNamed pool self.now }
+    {
+        if self.is_named(pool) {
+            self.family.is_closed(pool)
+        } else {
+            true
+        }
+    }
+
+    /// How many permits a pool owns.
+    pub fn owned(&self, pool: u32) -> u32
+        ensures { IsNamed pool self.now → result ≡ owned_by pool self.now.family }
+    {
+        if self.is_named(pool) {
+            self.family.owned(pool)
+        } else {
+            0
+        }
+    }
+
+    /// The options by which connections are opened.
+    pub fn connect_options(&self) -> &O
+        ensures { result.now ≡ self.now.connect }
+    {
+        &self.connect
+    }
+
+    /// The moment that a step goes by: one below the last moment counts as the last one.
+    pub fn moment(&self, now: Moment) -> Moment {
+        self.family.moment(now)
+    }
+
+    /// Whether a connection of this opening would be closed rather than kept: its pool or the root is closed, or its age is
+    /// above the lifetime.
+    pub fn must_close(&self, pool: u32, created: Moment, now: Moment) -> bool {
+        !self.is_named(pool) || self.family.must_close(pool, created, now)
+    }
+
+    /// The maximum of a pool, and a copy of its log, which is safe for that maximum.
+    pub fn read_log(&self, pool: u32, alloc: Global) -> Result<(u32, MarkLog), OutOfMemory>
+        ensures uncut { IfOk result (λ read. IsUncut read.1) }
+        ensures marks { IfOk result (λ read. IsNamed pool self.now → read.1.marks.items ≡ log_of self.now pool) }
+        ensures safe { IfOk result (λ read. IsSafe read.0 [] read.1.marks.items) }
+    {
+        let start = Vec::new(alloc);
+        if self.is_named(pool) {
+            let max = self.family.options(pool).get_max_connections();
+            let marks = copied(alloc, self.logs[pool as usize].as_slice())?;
+            Ok((max, MarkLog::new(start, 0, marks)))
+        } else {
+            Ok((0, MarkLog::new(start, 0, Vec::new(alloc))))
+        }
+    }
+}
