@@ -1,11 +1,12 @@
 -- What the calls of a connection to a shared store give, and its session after them: what a session does over the store that the lock held.
-use Rattle.std.specs.Prelude.{◌≡◌, ℕ, Bool, List, Option}
+use Rattle.std.specs.Prelude.{◌≡◌, ℕ, ◌+◌, Bool, List, Option}
 use Rattle.sqlx_traits.specs.Calls.{Call, Outcome, begin, commit, rollback, start_rollback}
 use Rattle.sqlx_any.specs.declared.arguments.AnyArguments.{AnyArguments}
-use Rattle.mem_store.specs.Store.{Store}
+use Rattle.mem_store.specs.Store.{Store, new_link, new_store}
+use Rattle.mem_store.specs.declared.answer.Answer.TheVariants.{Accept}
 use Rattle.mem_driver.specs.Answers.{Answers}
 use Rattle.mem_driver.specs.Backend as alone
-use Rattle.mem_driver.specs.Session.{Session}
+use Rattle.mem_driver.specs.Session.{Session, new_cache}
 
 -- the session with this store in the place of its own
 abbrev pub over : Store → Session → Session
@@ -26,3 +27,7 @@ Does commit before outcome after = OnHeld (λ session left. alone.Does commit se
 Does rollback before outcome after = OnHeld (λ session left. alone.Does rollback session outcome left) before after
 Does start_rollback before outcome after = OnHeld (λ session left. alone.Does start_rollback session outcome left) before after
 Does call before outcome after = alone.Does call before outcome after
+
+-- a new connection to the store that the lock held: no level open, no text cached, nothing handed in and no refusal counted, and a store of its own that is empty
+abbrev pub IsOpened : Session → Type 0
+IsOpened session = (held : Store) × (session ≡ record { work = record { store = new_store; link = new_link (held.given + 1); answer = Accept }; cache = new_cache; faults = 0 })

@@ -1,4 +1,8 @@
 //! What opens connections to a shared store.
+ghost use Rattle.std.specs.Prelude.{◌≡◌, IfErr, IfOk};
+ghost use Rattle.sqlx_traits.specs.Faults.{ConnectCause};
+ghost use Rattle.mem_driver.specs.Session.{depth};
+ghost use Rattle.shared_mem_driver.specs.Shared.{IsOpened};
 
 use crate::SharedMem;
 use crate::connection::SharedMemConnection;
@@ -17,7 +21,9 @@ pub struct SharedMemConnector<R> {
 
 impl<R: Copy> SharedMemConnector<R> {
     /// A connector to the store. The handle is that by which its connections wait for the lock.
-    pub fn new(alloc: Global, rt: R, store: MemStore) -> Result<Self, OutOfMemory> {
+    pub fn new(alloc: Global, rt: R, store: MemStore) -> Result<Self, OutOfMemory>
+        ensures { IfOk result (λ made. made.rt ≡ rt) }
+    {
         match Arc::new(alloc, Mutex::new(store)) {
             Ok(store) => Ok(SharedMemConnector { rt, store }),
             Err(_) => Err(OutOfMemory),
@@ -25,7 +31,9 @@ impl<R: Copy> SharedMemConnector<R> {
     }
 
     /// A connector to the same store. In sqlx: `clone`.
-    pub fn try_clone(&self) -> Result<Self, OutOfMemory> {
+    pub fn try_clone(&self) -> Result<Self, OutOfMemory>
+        ensures { IfOk result (λ copy. copy.rt ≡ self.now.rt) }
+    {
         match Arc::try_clone(&self.store) {
             Ok(store) => Ok(SharedMemConnector { rt: self.rt, store }),
             Err(_) => Err(OutOfMemory),
@@ -43,7 +51,12 @@ impl<R: Wait + Copy + Drop> Connector<SharedMem<R>> for SharedMemConnector<R> {
         &mut self,
         alloc: Global,
         _options: &AnyConnectOptions,
-    ) -> Result<AnyConnection<SharedMemConnection<R>>, Error> {
+    ) -> Result<AnyConnection<SharedMemConnection<R>>, Error>
+        ensures depth { IfOk result (λ conn. depth conn.backend.session ≡ 0) }
+        ensures cause { IfErr result (ConnectCause 0 0) }
+        ensures memory { IfErr result (λ e. e ≡ Error.OutOfMemory) }
+        ensures opened { IfOk result (λ conn. IsOpened conn.backend.session) }
+    {
         let shared = self.try_clone()?;
         let link = MemLink::connect(alloc, &mut shared.store.lock(&shared.rt))?;
         let session = MemSession::new(MemStore::new(alloc), link, Answer::Accept);

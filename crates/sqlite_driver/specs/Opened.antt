@@ -1,12 +1,20 @@
 -- What opening a database by a URL may give.
-use Rattle.std.specs.Prelude.{◌≡◌, ◌⊎◌, Bool, true, false, Result, Ok, Err, codes}
+use Rattle.std.specs.Prelude.{◌≡◌, ◌⊎◌, ℕ, Bool, true, false, List, None, Result, Ok, Err, codes}
 use Rattle.std.specs.Str.{bytes_eq}
+use Rattle.sqlite.specs.Files.{IsOpened, file_state}
+use Rattle.sqlite.specs.Held.{state}
+use Rattle.sqlite.specs.State.{HasCleanDisk, State}
+use Rattle.sqlite.specs.Steps.{IsEmpty, over_memory}
 use Rattle.sqlx_text.specs.declared.error.Error.{Error}
 use Rattle.sqlx_text.specs.declared.error.Error.TheVariants as error
 use Rattle.sqlx_text.specs.declared.fault.Fault.TheVariants as fault
 use Rattle.sqlx_any.specs.Drivers.{of_scheme}
 use Rattle.sqlx_any.specs.declared.options.AnyConnectOptions.{AnyConnectOptions}
+use Rattle.sqlite_driver.specs.Ran.{Ran}
 use Rattle.sqlite_driver.specs.Refusals.{IsRefusal}
+use Rattle.sqlite_driver.specs.declared.base.Base.{Base}
+use Rattle.sqlite_driver.specs.declared.base.Base.TheVariants.{Memory, File}
+use Rattle.sqlite_driver.specs.declared.connection.SqliteConnection.{SqliteConnection}
 
 -- a URL of the scheme `sqlite`; another is refused as one that no driver has
 abbrev pub own_scheme : AnyConnectOptions → Result (Unit {0}) Error
@@ -30,12 +38,39 @@ abbrev pub RefusedBy : (Error → Type 0) → Result (Unit {0}) Error → Error 
 RefusedBy causes (Ok done) e = causes e
 RefusedBy causes (Err due) e = e ≡ due
 
--- another scheme than `sqlite` and a file are refused, and else it is a statement's refusal; or there is no memory
-abbrev pub Opens : {C : Type 0} → AnyConnectOptions → Result C Error → Type 0
-Opens options (Ok conn) = own_scheme options ≡ Ok tt
+-- the text that makes the table of a database in memory
+abbrev pub table_text : List ℕ
+table_text = codes "CREATE TABLE kv(k INTEGER PRIMARY KEY, v INTEGER NOT NULL)"
+
+-- no level is open, nothing is to be rolled back, and no refusal was counted
+abbrev pub IsFresh : SqliteConnection → Type 0
+IsFresh conn = (conn.depth ≡ 0) × (conn.goes_back_to ≡ None) × (conn.faults ≡ 0)
+
+-- by what a connection shows, its database was empty when the text that makes the table ran
+abbrev pub HasTable : {C : Type 0} → (C → State) → C → Type 0
+HasTable {C = C} state conn = (blank : C) × IsEmpty (state blank) × Ran table_text (state blank) (state conn)
+
+-- a database in memory, with the table alone
+abbrev pub IsInMemory : Base → Type 0
+IsInMemory (Memory conn) = HasTable (state over_memory) conn
+IsInMemory (File conn) = ⊥
+
+-- a file that was opened
+abbrev pub IsFile : Base → Type 0
+IsFile (Memory conn) = ⊥
+IsFile (File conn) = HasCleanDisk (file_state conn) → IsOpened conn
+
+-- a database in memory, where the URL names one, and else a file
+abbrev pub IsNamed : Bool → Base → Type 0
+IsNamed true base = IsInMemory base
+IsNamed false base = IsFile base
+
+-- a new database in memory; another scheme than `sqlite` and a file are refused, and else it is a statement's refusal; or there is no memory
+abbrev pub Opens : AnyConnectOptions → Result SqliteConnection Error → Type 0
+Opens options (Ok conn) = (own_scheme options ≡ Ok tt) × (names_memory options ≡ true) × IsFresh conn × IsInMemory conn.base
 Opens options (Err e) = (e ≡ error.OutOfMemory) ⊎ RefusedBy (MemoryRefusal (names_memory options)) (own_scheme options) e
 
--- another scheme than `sqlite` is refused, and else it is the database's refusal; or there is no memory
-abbrev pub OpensFile : {C : Type 0} → AnyConnectOptions → Result C Error → Type 0
-OpensFile options (Ok conn) = own_scheme options ≡ Ok tt
-OpensFile options (Err e) = (e ≡ error.OutOfMemory) ⊎ RefusedBy IsRefusal (own_scheme options) e
+-- a new database in memory or a file, as the URL names it; another scheme than `sqlite` is refused, and else it is the database's refusal; or there is no memory
+abbrev pub OpensFile : {C : Type 0} → (C → SqliteConnection) → AnyConnectOptions → Result C Error → Type 0
+OpensFile under options (Ok conn) = (own_scheme options ≡ Ok tt) × IsFresh (under conn) × IsNamed (names_memory options) (under conn).base
+OpensFile under options (Err e) = (e ≡ error.OutOfMemory) ⊎ RefusedBy IsRefusal (own_scheme options) e

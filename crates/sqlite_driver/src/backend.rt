@@ -1,5 +1,5 @@
 //! A connection as a backend of `Any`.
-ghost use Rattle.std.specs.Prelude.{◌≡◌, ℕ, None, Ok, Option};
+ghost use Rattle.std.specs.Prelude.{◌≡◌, ℕ, None, Ok, Option, map};
 ghost use Rattle.sqlx_traits.specs.StepList.{StepCauses};
 ghost use Rattle.sqlx_any.specs.declared.arguments.AnyArguments.{AnyArguments as Given};
 
@@ -17,7 +17,8 @@ use std::alloc::Global;
 
 /// The list of these items, which has no error.
 fn handed_out(items: Items) -> StepList<AnyQueryResult, AnyRow>
-    ensures { (before now : ℕ) (arguments : Option Given) → StepCauses before now (Ok arguments) result }
+    ensures items { result ≡ map Ok items.items }
+    ensures causes { (before now : ℕ) (arguments : Option Given) → StepCauses before now (Ok arguments) result }
 {
     StepList::new(items, None)
 }
@@ -27,8 +28,9 @@ impl Faults for SqliteConnection {
 }
 
 impl AnyConnectionBackend for SqliteConnection {
-    ghost use Rattle.std.specs.Prelude.{⊤, [], false, codes};
+    ghost use Rattle.std.specs.Prelude.{[], false, codes};
     ghost use Rattle.sqlite_driver.specs.Does.{Closes, Does};
+    ghost use Rattle.sqlite_driver.specs.Runs.{Runs};
 
     ghost called = { λ _. codes "SQLite" };
 
@@ -36,7 +38,7 @@ impl AnyConnectionBackend for SqliteConnection {
 
     ghost closes = { λ _. false };
 
-    ghost runs = { λ _ _ _ _ _ _. ⊤ };
+    ghost runs = { Runs };
 
     ghost does = { Does };
 

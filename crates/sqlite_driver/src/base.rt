@@ -1,6 +1,7 @@
 //! The database under a connection, in memory or in a file.
-ghost use Rattle.std.specs.Prelude.{◌≡◌, OnOk, not};
+ghost use Rattle.std.specs.Prelude.{◌≡◌, IfOk, OnOk, not};
 ghost use Rattle.sqlite_driver.specs.Ran.{RanOn, RolledBackTo, in_transaction};
+ghost use Rattle.sqlite_driver.specs.Runs.{GivesOn, all_taken};
 
 use crate::refusal::{Refusal, refused};
 use crate::statements::{self, Items};
@@ -22,7 +23,9 @@ impl Base {
         alloc: Global,
         text: &str,
         arguments: &Option<AnyArguments>,
-    ) -> Result<Items, Refusal> {
+    ) -> Result<Items, Refusal>
+        ensures { IfOk result (λ items. GivesOn text.now (all_taken arguments.now) self.old self.new items.items) }
+    {
         match self {
             Base::Memory(conn) => statements::run(conn, alloc, text, arguments),
             Base::File(conn) => statements::run(conn, alloc, text, arguments),

@@ -5,6 +5,8 @@ ghost use Rattle.sqlx_traits.specs.Faults.{BeginCause, FaultCause, HasRisen};
 ghost use Rattle.sqlite_driver.specs.Refusals.{IsRefusal};
 ghost use Rattle.sqlite_driver.specs.Ran.{RanOn, in_transaction};
 ghost use Rattle.sqlite_driver.specs.Does.{Begins, BeginsBy, Ends, IsNoted, Pings, RunsText, given_up};
+ghost use Rattle.sqlite_driver.specs.Opened.{IsFresh};
+ghost use Rattle.sqlite_driver.specs.Runs.{GivesItems, all_taken};
 
 use crate::base::Base;
 use crate::refusal::Refusal;
@@ -27,8 +29,8 @@ pub struct SqliteConnection {
 impl SqliteConnection {
     /// A connection over the database's own, which has no level open.
     pub(crate) fn new(alloc: Global, base: Base) -> Self
-        ensures depth { result.depth ≡ 0 }
-        ensures faults { result.faults ≡ 0 }
+        ensures fresh { IsFresh result }
+        ensures base { result.base ≡ base }
     {
         SqliteConnection {
             base,
@@ -88,6 +90,7 @@ impl SqliteConnection {
         text: &str,
         arguments: &Option<AnyArguments>,
     ) -> Result<Items, Error>
+        ensures gave { IfOk result (λ items. GivesItems text.now (all_taken arguments.now) self.old items.items self.new) }
         ensures depth { self.new.depth ≡ self.old.depth }
         ensures told { IfErr result IsRefusal }
         ensures rises { self.old.faults ≤ self.new.faults }

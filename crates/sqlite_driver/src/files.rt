@@ -44,7 +44,7 @@ impl Connector<Sqlite> for SqliteFiles {
         ensures depth { IfOk result (λ conn. conn.backend.depth ≡ 0) }
         ensures rises { self.old.faults ≤ self.new.faults }
         ensures cause { IfErr result (ConnectCause self.old.faults self.new.faults) }
-        ensures opened { OpensFile options.now result }
+        ensures opened { OpensFile (λ conn. conn.backend) options.now result }
     {
         match opened(alloc, &self.rt, options) {
             Ok(conn) => Ok(AnyConnection::new(conn)),
@@ -62,7 +62,7 @@ fn opened(
     options: &AnyConnectOptions,
 ) -> Result<SqliteConnection, Error>
     ensures depth { IfOk result (λ conn. conn.depth ≡ 0) }
-    ensures opened { OpensFile options.now result }
+    ensures opened { OpensFile (λ conn. conn) options.now result }
 {
     expect_scheme(alloc, &options.database_url, "sqlite")?;
     let path = options.database_url.path();

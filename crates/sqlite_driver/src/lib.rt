@@ -1,5 +1,5 @@
 //! SQLite as a driver: a connection to a database of the crate `sqlite` is a backend of `Any`, so
-//! that queries and transactions run on it. What its rows are no clause of this crate says.
+//! that queries and transactions run on it. What its texts do is said in the words of that crate.
 #![tactic(auto)]
 
 mod backend;

@@ -1,10 +1,14 @@
 //! A database in memory, opened by a URL.
-ghost use Rattle.std.specs.Prelude.{◌≡◌, IfErr, IfOk};
+ghost use Rattle.std.specs.Prelude.{IfErr, IfOk};
+ghost use Rattle.sqlite.specs.Held.{state};
+ghost use Rattle.sqlite.specs.Steps.{IsEmpty, over_memory};
+ghost use Rattle.sqlite_driver.specs.Opened.{IsFresh, IsInMemory};
 ghost use Rattle.sqlite_driver.specs.Refusals.{IsRefusal};
 
 use crate::base::Base;
 use crate::connection::SqliteConnection;
-use sqlite::Connection;
+use crate::statements::perform;
+use sqlite::{Connection, MemStore};
 use sqlx_any::{AnyConnectOptions, AnyOpen, expect_scheme};
 use sqlx_text::{Error, Fault, UStr};
 use std::alloc::Global;
@@ -27,25 +31,27 @@ impl AnyOpen for SqliteConnection {
 }
 
 pub(crate) fn in_memory(alloc: Global) -> Result<SqliteConnection, Error>
-    ensures depth { IfOk result (λ conn. conn.depth ≡ 0) }
+    ensures opened { IfOk result (λ conn. IsFresh conn × IsInMemory conn.base) }
     ensures told { IfErr result IsRefusal }
 {
     match Connection::open_in_memory(alloc) {
-        Ok(conn) => with_table(alloc, Base::Memory(conn)),
+        Ok(conn) => with_table(alloc, conn),
         Err(_) => Err(Error::OutOfMemory),
     }
 }
 
-fn with_table(alloc: Global, base: Base) -> Result<SqliteConnection, Error>
-    ensures depth { IfOk result (λ conn. conn.depth ≡ 0) }
+fn with_table(alloc: Global, conn: Connection<MemStore>) -> Result<SqliteConnection, Error>
+    requires { IsEmpty (state over_memory conn) }
+    ensures opened { IfOk result (λ conn. IsFresh conn × IsInMemory conn.base) }
     ensures told { IfErr result IsRefusal }
 {
-    let mut base = base;
-    match base.perform(
+    let mut conn = conn;
+    match perform(
+        &mut conn,
         alloc,
         "CREATE TABLE kv(k INTEGER PRIMARY KEY, v INTEGER NOT NULL)",
     ) {
-        Ok(()) => Ok(SqliteConnection::new(alloc, base)),
+        Ok(()) => Ok(SqliteConnection::new(alloc, Base::Memory(conn))),
         Err(refusal) => Err(refusal.error()),
     }
 }

@@ -1,10 +1,12 @@
 //! Statements on the database's own connection.
-ghost use Rattle.std.specs.Prelude.{◌≡◌, ◌⊎◌, ◌+◌, Bool, IfOk, Ok, OnOk};
-ghost use Rattle.sqlite.specs.State.{Executes, HasCleanDisk};
+ghost use Rattle.std.specs.Prelude.{◌≡◌, ◌⊎◌, ◌+◌, ◌∷◌, ◌++◌, [], Bool, IfOk, Ok, OnOk};
+ghost use Rattle.either.specs.declared.Either.TheVariants.{Left};
+ghost use Rattle.sqlite.specs.State.{Executes, HasCleanDisk, Shown};
 ghost use Rattle.sqlite.specs.Held.{state};
 ghost use Rattle.sqlite.specs.Values.{bound};
 ghost use Rattle.sqlx_savepoints.specs.Texts.{rollback_at, text_of};
 ghost use Rattle.sqlite_driver.specs.Ran.{Ran};
+ghost use Rattle.sqlite_driver.specs.Runs.{GainsRows, Gives, IsPrepared, all_taken, is_select};
 
 use crate::refusal::{Refusal, refused};
 use crate::values::{lent_all, row};
@@ -37,7 +39,9 @@ fn prepared<S: Alter>(
     conn: &mut Connection<S>,
     alloc: Global,
     text: &str,
-) -> Result<Statement, Refusal> {
+) -> Result<Statement, Refusal>
+    ensures { IfOk result (λ statement. IsPrepared text.now (state S.Store conn.old) (state S.Store conn.new) statement) }
+{
     match conn.prepare(text) {
         Ok(statement) => Ok(statement),
         Err(error) => Err(refused(alloc, error)),
@@ -49,7 +53,9 @@ fn shown<S: Alter>(
     alloc: Global,
     text: &str,
     values: &[ValueRef<'_>],
-) -> Result<Vec<Row>, Refusal> {
+) -> Result<Vec<Row>, Refusal>
+    ensures { IfOk result (λ rows. HasCleanDisk (state S.Store conn.new) → Shown text.now (bound values.now) (state S.Store conn.old) (state S.Store conn.new) rows.items) }
+{
     match conn.query_all(text, values) {
         Ok(rows) => Ok(rows),
         Err(error) => Err(refused(alloc, error)),
@@ -57,7 +63,9 @@ fn shown<S: Alter>(
 }
 
 /// These rows under the names of the statement's columns.
-fn listed(alloc: Global, statement: &Statement, rows: &[Row]) -> Result<Items, Refusal> {
+fn listed(alloc: Global, statement: &Statement, rows: &[Row]) -> Result<Items, Refusal>
+    ensures { IfOk result (λ items. GainsRows statement.now.columns rows.now [] items.items) }
+{
     let mut items = VecDeque::new(alloc);
     for shown in rows {
         let row = row(alloc, statement.column_names(), shown)?;
@@ -69,7 +77,9 @@ fn listed(alloc: Global, statement: &Statement, rows: &[Row]) -> Result<Items, R
 }
 
 /// These rows, and then a result.
-fn finished(items: Items, rows_affected: u64, id: Option<i64>) -> Result<Items, Refusal> {
+fn finished(items: Items, rows_affected: u64, id: Option<i64>) -> Result<Items, Refusal>
+    ensures { IfOk result (λ all. all.items ≡ items.items ++ Left (record { rows_affected = rows_affected; last_insert_id = id }) ∷ []) }
+{
     let mut items = items;
     let result = AnyQueryResult {
         rows_affected,
@@ -87,14 +97,41 @@ pub(crate) fn run<S: Alter>(
     alloc: Global,
     text: &str,
     arguments: &Option<AnyArguments>,
-) -> Result<Items, Refusal> {
+) -> Result<Items, Refusal>
+    ensures { IfOk result (λ items. Gives (state S.Store) (is_select text.now) text.now (all_taken arguments.now) conn.old conn.new items.items) }
+{
     let values = lent_all(alloc, arguments)?;
-    if text.starts_with("SELECT ") {
-        let statement = prepared(conn, alloc, text)?;
-        let rows = shown(conn, alloc, text, values.as_slice())?;
-        return finished(listed(alloc, &statement, rows.as_slice())?, 0, None);
+    if text.as_bytes().starts_with(b"SELECT ") {
+        select(conn, alloc, text, values.as_slice())
+    } else {
+        execute(conn, alloc, text, values.as_slice())
     }
-    let rows = changed(conn, alloc, text, values.as_slice())?;
+}
+
+/// Runs a text whose rows are asked for.
+fn select<S: Alter>(
+    conn: &mut Connection<S>,
+    alloc: Global,
+    text: &str,
+    values: &[ValueRef<'_>],
+) -> Result<Items, Refusal>
+    ensures { IfOk result (λ items. Gives (state S.Store) Bool.true text.now (bound values.now) conn.old conn.new items.items) }
+{
+    let statement = prepared(conn, alloc, text)?;
+    let rows = shown(conn, alloc, text, values)?;
+    finished(listed(alloc, &statement, rows.as_slice())?, 0, None)
+}
+
+/// Runs any other text.
+fn execute<S: Alter>(
+    conn: &mut Connection<S>,
+    alloc: Global,
+    text: &str,
+    values: &[ValueRef<'_>],
+) -> Result<Items, Refusal>
+    ensures { IfOk result (λ items. Gives (state S.Store) Bool.false text.now (bound values.now) conn.old conn.new items.items) }
+{
+    let rows = changed(conn, alloc, text, values)?;
     finished(VecDeque::new(alloc), rows, Some(conn.last_insert_rowid()))
 }
 

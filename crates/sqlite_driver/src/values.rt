@@ -1,4 +1,9 @@
 //! Arguments as the database takes them, and its rows as those of `Any`.
+ghost use Rattle.std.specs.Prelude.{◌≡◌, IfOk, OnOk, Some, map};
+ghost use Rattle.sqlite.specs.Values.{bound, bound_value};
+ghost use Rattle.sqlite_value.specs.Order.{column};
+ghost use Rattle.sqlite_value.specs.Value.{owned};
+ghost use Rattle.sqlite_driver.specs.Runs.{GainsCell, GainsCells, all_taken, given, no_cells, taken, with_cell};
 
 use crate::refusal::Refusal;
 use sqlite::Row;
@@ -8,9 +13,12 @@ use sqlx_any::{
 };
 use sqlx_text::{AnyTypeInfoKind, OutOfMemory, UStr};
 use std::alloc::Global;
+use std::marker::Model;
 
 /// A value, lent to the database.
-fn lent(value: &AnyValueKind) -> ValueRef<'_> {
+fn lent(value: &AnyValueKind) -> ValueRef<'_>
+    ensures { bound_value (owned result) ≡ taken value.now }
+{
     match value {
         AnyValueKind::Null(_) => ValueRef::Null,
         AnyValueKind::Bool(yes) => ValueRef::Int(if *yes { 1 } else { 0 }),
@@ -24,24 +32,36 @@ fn lent(value: &AnyValueKind) -> ValueRef<'_> {
     }
 }
 
+/// Values, lent to the database.
+fn lent_each(alloc: Global, values: &[AnyValueKind]) -> Result<Vec<ValueRef<'_>>, OutOfMemory>
+    ensures { IfOk result (λ lent. bound lent.items ≡ map taken values.now) }
+{
+    let mut all = Vec::new(alloc);
+    for value in values {
+        if all.push(lent(value)).is_err() {
+            return Err(OutOfMemory);
+        }
+    }
+    Ok(all)
+}
+
 /// The values of arguments, lent to the database.
 pub(crate) fn lent_all(
     alloc: Global,
     arguments: &Option<AnyArguments>,
-) -> Result<Vec<ValueRef<'_>>, OutOfMemory> {
-    let mut values = Vec::new(alloc);
-    if let Some(arguments) = arguments {
-        for value in arguments.values.as_slice() {
-            if values.push(lent(value)).is_err() {
-                return Err(OutOfMemory);
-            }
-        }
+) -> Result<Vec<ValueRef<'_>>, OutOfMemory>
+    ensures { IfOk result (λ lent. bound lent.items ≡ all_taken arguments.now) }
+{
+    match arguments {
+        Some(arguments) => lent_each(alloc, arguments.values.as_slice()),
+        None => Ok(Vec::new(alloc)),
     }
-    Ok(values)
 }
 
 /// A text of the database, whose bytes needn't be one.
-fn text(alloc: Global, bytes: &[u8]) -> Result<UStr, Refusal> {
+fn text(alloc: Global, bytes: &[u8]) -> Result<UStr, Refusal>
+    ensures { IfOk result (λ text. text ≡ bytes.now) }
+{
     match std::str::from_utf8(bytes) {
         Ok(text) => Ok(UStr::new(alloc, text)?),
         Err(_) => Err(Refusal::NoKind),
@@ -49,7 +69,9 @@ fn text(alloc: Global, bytes: &[u8]) -> Result<UStr, Refusal> {
 }
 
 /// A value of the database as one of `Any`.
-fn read(alloc: Global, value: ValueRef<'_>) -> Result<AnyValueKind, Refusal> {
+fn read(alloc: Global, value: ValueRef<'_>) -> Result<AnyValueKind, Refusal>
+    ensures { IfOk result (λ cell. given (owned value.entry) ≡ Some cell) }
+{
     match value {
         ValueRef::Null => Ok(AnyValueKind::Null(AnyTypeInfoKind::Null)),
         ValueRef::Int(n) => Ok(AnyValueKind::BigInt(n)),
@@ -60,7 +82,9 @@ fn read(alloc: Global, value: ValueRef<'_>) -> Result<AnyValueKind, Refusal> {
 }
 
 /// The value at a place, null where the row has none there.
-fn read_at(alloc: Global, row: &Row, at: usize) -> Result<AnyValueKind, Refusal> {
+fn read_at(alloc: Global, row: &Row, at: usize) -> Result<AnyValueKind, Refusal>
+    ensures { IfOk result (λ cell. given (column row.now at) ≡ Some cell) }
+{
     match row.get_ref(at) {
         Ok(value) => read(alloc, value),
         Err(_) => Ok(AnyValueKind::Null(AnyTypeInfoKind::Null)),
@@ -75,8 +99,18 @@ struct Cells {
     values: Vec<AnyValue>,
 }
 
+impl Model for Cells {
+    ghost use Rattle.sqlx_any.specs.Rows.{RowParts};
+
+    ghost Value = { RowParts };
+
+    ghost view = { λ cells. record { names = cells.names; columns = cells.columns.items; values = cells.values.items } };
+}
+
 impl Cells {
-    fn new(alloc: Global) -> Cells {
+    fn new(alloc: Global) -> Cells
+        ensures { result ≡ no_cells }
+    {
         Cells {
             names: ColumnNames::new(alloc),
             columns: Vec::new(alloc),
@@ -84,8 +118,20 @@ impl Cells {
         }
     }
 
+    /// One more cell under this name, of the next of the row's values.
+    fn read_next(&mut self, alloc: Global, name: &[u8], row: &Row) -> Result<(), Refusal>
+        ensures { OnOk result (GainsCell row.now name.now self.old self.new) }
+    {
+        let name = text(alloc, name)?;
+        let cell = read_at(alloc, row, self.values.len())?;
+        self.add(alloc, name, cell)?;
+        Ok(())
+    }
+
     /// One more cell, whose column has the kind of its value.
-    fn add(&mut self, alloc: Global, name: UStr, kind: AnyValueKind) -> Result<(), OutOfMemory> {
+    fn add(&mut self, alloc: Global, name: UStr, kind: AnyValueKind) -> Result<(), OutOfMemory>
+        ensures { OnOk result (self.new ≡ with_cell self.old name kind) }
+    {
         let ordinal = self.values.len();
         let type_info = AnyTypeInfo { kind: kind.kind() };
         self.names.insert(alloc, name.try_clone(alloc)?, ordinal)?;
@@ -100,7 +146,9 @@ impl Cells {
         Ok(())
     }
 
-    fn into_row(self) -> Result<AnyRow, Refusal> {
+    fn into_row(self) -> Result<AnyRow, Refusal>
+        ensures { IfOk result (λ row. row ≡ self) }
+    {
         let Cells {
             names,
             columns,
@@ -117,12 +165,12 @@ impl Cells {
 }
 
 /// A row of the database under these names of columns.
-pub(crate) fn row(alloc: Global, names: &[Bytes], row: &Row) -> Result<AnyRow, Refusal> {
+pub(crate) fn row(alloc: Global, names: &[Bytes], row: &Row) -> Result<AnyRow, Refusal>
+    ensures { IfOk result (λ shown. GainsCells row.now names.now no_cells shown) }
+{
     let mut cells = Cells::new(alloc);
-    for (at, name) in names.iter().enumerate() {
-        let name = text(alloc, name.as_slice())?;
-        let value = read_at(alloc, row, at)?;
-        cells.add(alloc, name, value)?;
+    for name in names {
+        cells.read_next(alloc, name.as_slice(), row)?;
     }
     cells.into_row()
 }

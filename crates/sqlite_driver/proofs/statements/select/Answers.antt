@@ -1,0 +1,12 @@
+use Rattle.std.proofs.Common.{rules, [], subst}
+use Rattle.sqlite.specs.Held.{state}
+use Rattle.sqlite.specs.Values.{bound}
+use Rattle.sqlite_driver.specs.Runs.{GainsRows}
+use Rattle.sqlite_driver.proofs.RunsLemmas.{gives_rows}
+use Rattle.sqlite_driver.proofs.statements.select.Goals as goal
+
+pub returns : goal.returns
+returns g c =
+    let listed : _ = subst (λ rows. GainsRows c.in_ok-statement.statement.columns rows [] c.in_ok-listed.field-0.items) c.as_slice.ensures.value c.in_ok-listed.ensures in
+    let gives : _ = gives_rows (state g.S.Store) c.args.text.now (bound c.args.values.now) c.args.conn.now c.prepared.new.conn c.shown.new.conn c.in_ok-statement.statement c.in_ok-rows.rows.items c.in_ok-listed.field-0.items (λ all. all.items) c.finished.result c.in_ok-statement.ensures c.in_ok-rows.ensures listed c.finished.ensures in
+    search rules

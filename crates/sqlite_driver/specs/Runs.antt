@@ -1,0 +1,126 @@
+-- What a query gives, and the connection after it: in the words of the crate `sqlite`, where the disk has returned what was written.
+use Rattle.std.specs.Prelude.{◌≡◌, ◌⊎◌, ℕ, ◌==◌, ℤ, pos, Bool, true, false, if◌then◌else◌, List, [], ◌∷◌, ◌++◌, length, map, codes, Option, Some, None, Ok, Err}
+use Rattle.std.specs.List.{starts_with}
+use Rattle.either.specs.declared.Either.{Either}
+use Rattle.either.specs.declared.Either.TheVariants.{Left, Right}
+use Rattle.sqlite_value.specs.declared.value.Value.{Value}
+use Rattle.sqlite_value.specs.declared.value.Value.TheVariants as value
+use Rattle.sqlite_value.specs.Order.{Row, column}
+use Rattle.sqlite.specs.Files.{file_state}
+use Rattle.sqlite.specs.Held.{state}
+use Rattle.sqlite.specs.Listing.{understood}
+use Rattle.sqlite.specs.Outline.{Outline}
+use Rattle.sqlite.specs.State.{Executes, HasCleanDisk, IsUnchanged, Shown, State}
+use Rattle.sqlite.specs.Steps.{Outlines, over_memory}
+use Rattle.sqlx_text.specs.declared.error.Error.{Error}
+use Rattle.sqlx_text.specs.declared.kind.AnyTypeInfoKind.TheVariants as null
+use Rattle.sqlx_traits.specs.StepList.{Steps}
+use Rattle.sqlx_any.specs.Kinds.{kind_of}
+use Rattle.sqlx_any.specs.Names.{with_position}
+use Rattle.sqlx_any.specs.Rows.{RowParts}
+use Rattle.sqlx_any.specs.declared.arguments.AnyArguments.{AnyArguments}
+use Rattle.sqlx_any.specs.declared.query_result.AnyQueryResult.{AnyQueryResult}
+use Rattle.sqlx_any.specs.declared.value.AnyValueKind.{AnyValueKind}
+use Rattle.sqlx_any.specs.declared.value.AnyValueKind.TheVariants as kind
+use Rattle.sqlite_driver.specs.Refusals.{IsRefusal}
+use Rattle.sqlite_driver.specs.Ran.{Settled}
+use Rattle.sqlite_driver.specs.declared.base.Base.{Base}
+use Rattle.sqlite_driver.specs.declared.base.Base.TheVariants.{Memory, File}
+use Rattle.sqlite_driver.specs.declared.connection.SqliteConnection.{SqliteConnection}
+
+-- ---- values
+
+-- a value as the database takes it: a truth value as a number
+abbrev pub taken : AnyValueKind → Value
+taken (kind.Null _) = value.Null
+taken (kind.Bool b) = value.Int (if b then pos 1 else pos 0)
+taken (kind.SmallInt n) = value.Int n
+taken (kind.Integer n) = value.Int n
+taken (kind.BigInt n) = value.Int n
+taken (kind.Text text) = value.Text text
+taken (kind.TextSlice text) = value.Text text
+taken (kind.Blob bytes) = value.Blob bytes
+
+-- the values of arguments as the database takes them, none where there is no list of them
+abbrev pub all_taken : Option AnyArguments → Row
+all_taken None = []
+all_taken (Some arguments) = map taken arguments.values
+
+-- a value of the database as one of `Any`, where it is one
+abbrev pub given : Value → Option AnyValueKind
+given value.Null = Some (kind.Null null.Null)
+given (value.Int n) = Some (kind.BigInt n)
+given (value.Real x) = None
+given (value.Text text) = Some (kind.Text text)
+given (value.Blob bytes) = Some (kind.Blob bytes)
+
+-- ---- rows
+
+-- an item of a step list: a result or a row
+abbrev pub Item : Type 0
+Item = Either AnyQueryResult RowParts
+
+-- a row without cells
+abbrev pub no_cells : RowParts
+no_cells = record { names = []; columns = []; values = [] }
+
+-- the row with one more cell, in a column of this name and of the value's kind
+abbrev pub with_cell : RowParts → List ℕ → AnyValueKind → RowParts
+with_cell row name cell = record {
+  names = with_position row.names name (length row.values);
+  columns = row.columns ++ record { ordinal = length row.values; name = name; type_info = record { kind = kind_of cell } } ∷ [];
+  values = row.values ++ record { kind = cell } ∷ [];
+}
+
+-- the second row is the first with the next of the database's values under a name, null where there is none
+abbrev pub GainsCell : Row → List ℕ → RowParts → RowParts → Type 0
+GainsCell values name before after = (cell : AnyValueKind) × (given (column values (length before.values)) ≡ Some cell) × (after ≡ with_cell before name cell)
+
+-- the same under each of the names, one after the other
+abbrev pub GainsCells : Row → List (List ℕ) → RowParts → RowParts → Type 0
+GainsCells values [] before after = after ≡ before
+GainsCells values (name ∷ names) before after = (next : RowParts) × GainsCell values name before next × GainsCells values names next after
+
+-- these are the first items with each of the database's rows behind them, its values under the names
+abbrev pub GainsRows : List (List ℕ) → List Row → List Item → List Item → Type 0
+GainsRows names [] before after = after ≡ before
+GainsRows names (values ∷ later) before after = (row : RowParts) × GainsCells values names no_cells row × GainsRows names later (before ++ Right row ∷ []) after
+
+-- ---- queries
+
+-- a text whose rows are asked for
+abbrev pub is_select : List ℕ → Bool
+is_select text = starts_with ◌==◌ text (codes "SELECT ")
+
+-- a statement that gives rows gives no count
+abbrev pub no_count : AnyQueryResult
+no_count = record { rows_affected = 0; last_insert_id = None }
+
+-- the text was prepared, which changed nothing, and this is told of it
+abbrev pub IsPrepared : List ℕ → State → State → Outline → Type 0
+IsPrepared text before after outline = HasCleanDisk after → (IsUnchanged before after × (outline.text ≡ text)) × Outlines (understood before.now.schema text) outline
+
+-- by what a connection shows, these items are what a text with these values gives: of a text whose rows are asked for its rows under its columns' names, and a result without a count; of any other how many rows it changed, and the number of the last row that was inserted
+abbrev pub Gives : {C : Type 0} → (C → State) → Bool → List ℕ → Row → C → C → List Item → Type 0
+Gives {C = C} state true text values before after items = (outline : Outline) × (prepared : C) × (rows : List Row) × (shown : List Item)
+    × IsPrepared text (state before) (state prepared) outline × (HasCleanDisk (state after) → Shown text values (state prepared) (state after) rows)
+    × GainsRows outline.columns rows [] shown × (items ≡ shown ++ Left no_count ∷ [])
+Gives state false text values before after items = (count : ℕ) × (HasCleanDisk (state after) → Executes text values (state before) (state after) (Ok count))
+    × (items ≡ Left (record { rows_affected = count; last_insert_id = Some (state after).last_rowid }) ∷ [])
+
+-- the same of a database in memory or in a file
+abbrev pub GivesOn : List ℕ → Row → Base → Base → List Item → Type 0
+GivesOn text values (Memory before) (Memory after) items = Gives (state over_memory) (is_select text) text values before after items
+GivesOn text values (File before) (File after) items = Gives file_state (is_select text) text values before after items
+GivesOn text values _ _ items = ⊥
+
+-- what was noted is rolled back, and then the text gave these items
+abbrev pub GivesItems : List ℕ → Row → SqliteConnection → List Item → SqliteConnection → Type 0
+GivesItems text values before items after = (settled : Base) × Settled before.goes_back_to before.base settled × GivesOn text values settled after.base items × (after.goes_back_to ≡ None)
+
+-- the text gave the list, or the list is its refusal alone; the depth stays
+abbrev pub Runs : SqliteConnection → List ℕ → Bool → Option AnyArguments → Steps AnyQueryResult RowParts Error → SqliteConnection → Type 0
+Runs before text kept arguments list after =
+    (((items : List Item) × GivesItems text (all_taken arguments) before items after × (list ≡ map Ok items))
+    ⊎ ((e : Error) × IsRefusal e × (list ≡ Err e ∷ [])))
+    × (after.depth ≡ before.depth)
