@@ -19,7 +19,8 @@ use sqlx_savepoints::LevelText;
 use sqlx_text::{Error, OutOfMemory, SqlStr};
 use std::sync::ledger::Ledger;
 
-pub(crate) fn begin_at(depth: usize) -> LevelText
+/// The text that begins a level at this depth.
+pub fn begin_at(depth: usize) -> LevelText
     ensures { result ≡ texts.begin_at depth }
 {
     if depth == 0 {
@@ -29,7 +30,8 @@ pub(crate) fn begin_at(depth: usize) -> LevelText
     }
 }
 
-pub(crate) fn commit_at(depth: usize) -> LevelText
+/// The text that commits the innermost level.
+pub fn commit_at(depth: usize) -> LevelText
     requires { 1 ≤ depth }
     ensures { result ≡ texts.commit_at depth }
 {
@@ -40,7 +42,8 @@ pub(crate) fn commit_at(depth: usize) -> LevelText
     }
 }
 
-pub(crate) fn rollback_at(depth: usize) -> LevelText
+/// The text that rolls the innermost level back.
+pub fn rollback_at(depth: usize) -> LevelText
     requires { 1 ≤ depth }
     ensures { result ≡ texts.rollback_at depth }
 {

@@ -55,13 +55,15 @@ impl MemLink {
         self.side.depth()
     }
 
-    pub(crate) fn of(side: StoreLink, cache: StatementCache<()>) -> MemLink
+    /// The connection of a store's link and a cache of statements.
+    pub fn of(side: StoreLink, cache: StatementCache<()>) -> MemLink
         ensures { result ≡ record { side = side; cache = cache } }
     {
         MemLink { side, cache }
     }
 
-    pub(crate) fn into_parts(self) -> (StoreLink, StatementCache<()>)
+    /// The link and the cache.
+    pub fn into_parts(self) -> (StoreLink, StatementCache<()>)
         ensures { (result.0 ≡ self.side) × (result.1 ≡ self.cache) }
     {
         let MemLink { side, cache } = self;
