@@ -5,7 +5,9 @@ ghost use Rattle.std.specs.Prelude.{◌≡◌, ◌^◌, ◌<◌, ◌≤◌};
 use crate::rows::row;
 use mem_driver::{GET, MemStore, PUT};
 use shared_mem_driver::{SharedMem, SharedMemConnection, SharedMemConnector};
-use sqlx_any::{Any, AnyConnectOptions, AnyConnection, AnyConnectionBackend, ConnectOptions};
+use sqlx_any::{
+    Any, AnyConnectOptions, AnyConnection, AnyConnectionBackend, ConnectOptions, Executor,
+};
 use sqlx_pool::*;
 use sqlx_query::{query, query_scalar};
 use sqlx_text::{Error, Moment};
@@ -17,11 +19,11 @@ use std::sync::Wait;
 use std::sync::ledger::{Blank, Ledger};
 use std::test::*;
 
-type Conn<R> = AnyConnection<SharedMemConnection<R>>;
+pub type Conn<R> = AnyConnection<SharedMemConnection<R>>;
 
-type Store<'a, R> = Parts<'a, SharedMem<R>, SharedMemConnector<R>, NoHooks>;
+pub type Store<'a, R> = Parts<'a, SharedMem<R>, SharedMemConnector<R>, NoHooks>;
 
-type Connections<R, H, L> = Pool<SharedMem<R>, H, L>;
+pub type Connections<R, H, L> = Pool<SharedMem<R>, H, L>;
 
 // The row, by connections to a store.
 fn shared_row<H: Ledger, L: Loans, R: Wait + Abort + Copy + Drop>(
@@ -54,46 +56,46 @@ fn a_pool_of_one_over_a_store(rt: HostRuntime) -> Result<(), Fail> {
 }
 
 // Writes a key by a bound query.
-fn puts<B: AnyConnectionBackend>(
+fn puts<B: AnyConnectionBackend, E: Executor<Any<B>>>(
     alloc: Global,
-    conn: &mut AnyConnection<B>,
+    on: &mut E,
     key: i64,
     value: i64,
 ) -> Result<u64, Error> {
     let query = query::<Any<B>, &'static str>(alloc, PUT)?;
     let bound = query.bind(alloc, key).bind(alloc, value);
-    Ok(bound.execute(alloc, conn)?.rows_affected)
+    Ok(bound.execute(alloc, on)?.rows_affected)
 }
 
 // Reads a key by a bound query.
-fn gets<B: AnyConnectionBackend>(
+fn gets<B: AnyConnectionBackend, E: Executor<Any<B>>>(
     alloc: Global,
-    conn: &mut AnyConnection<B>,
+    on: &mut E,
     key: i64,
 ) -> Result<Option<i64>, Error> {
     let query = query_scalar::<Any<B>, i64, &'static str>(alloc, GET)?;
-    query.bind(alloc, key).fetch_optional(alloc, conn)
+    query.bind(alloc, key).fetch_optional(alloc, on)
 }
 
-// What is done with a connection: a key is written, or read.
+/// What is done with a connection: a key is written, or read.
 #[derive(Clone, Copy)]
-enum Work {
+pub enum Work {
     Put(i64, i64),
     Get(i64),
 }
 
-// Works on a connection: the number that is read, or how many rows were written.
-fn worked<B: AnyConnectionBackend>(
+/// Works on what runs queries, as a connection: the number that is read, or None where a key was written.
+pub fn worked<B: AnyConnectionBackend, E: Executor<Any<B>>>(
     alloc: Global,
-    conn: &mut AnyConnection<B>,
+    on: &mut E,
     work: Work,
 ) -> Result<Option<i64>, Error> {
     match work {
         Work::Put(key, value) => {
-            puts(alloc, conn, key, value)?;
+            puts::<B, E>(alloc, on, key, value)?;
             Ok(None)
         }
-        Work::Get(key) => gets(alloc, conn, key),
+        Work::Get(key) => gets::<B, E>(alloc, on, key),
     }
 }
 
@@ -113,7 +115,8 @@ fn lent_for<H: Ledger, L: Loans, R: Wait + Copy + Drop>(
     match asked.poll::<R, Store<'_, R>>(rt, alloc, Moment(0), out, tally) {
         Polling::Ready(conn) => {
             let mut conn = conn;
-            let done = worked(alloc, Hold::<SharedMem<R>>::conn_mut(&mut conn), work);
+            let raw = Hold::<SharedMem<R>>::conn_mut(&mut conn);
+            let done = worked::<SharedMemConnection<R>, Conn<R>>(alloc, raw, work);
             conn.return_to_pool::<R, Store<'_, R>>(rt, alloc, Moment(0), out);
             done
         }
