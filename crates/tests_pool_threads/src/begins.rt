@@ -299,10 +299,50 @@ fn levels<H: Ledger, L: Loans, R: Wait + Abort + Copy + Drop>(
 {
     let text = Some(Text::Begins);
     let (put, other, get) = (Work::Put(1, 5), Work::Put(1, 6), Work::Get(1));
-    gives(rt, alloc, pool, By::Waiting(None), put, true, None, out, tally)?;
-    gives(rt, alloc, pool, By::Trying(None), get, true, Some(5), out, tally)?;
-    gives(rt, alloc, pool, By::Trying(text), other, false, None, out, tally)?;
-    gives(rt, alloc, pool, By::Waiting(text), get, false, Some(5), out, tally)
+    gives(
+        rt,
+        alloc,
+        pool,
+        By::Waiting(None),
+        put,
+        true,
+        None,
+        out,
+        tally,
+    )?;
+    gives(
+        rt,
+        alloc,
+        pool,
+        By::Trying(None),
+        get,
+        true,
+        Some(5),
+        out,
+        tally,
+    )?;
+    gives(
+        rt,
+        alloc,
+        pool,
+        By::Trying(text),
+        other,
+        false,
+        None,
+        out,
+        tally,
+    )?;
+    gives(
+        rt,
+        alloc,
+        pool,
+        By::Waiting(text),
+        get,
+        false,
+        Some(5),
+        out,
+        tally,
+    )
 }
 
 // A begin by a text that begins nothing is refused, and its connection comes back and can be returned.
