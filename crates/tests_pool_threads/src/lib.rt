@@ -1,9 +1,11 @@
 //! Tests of the threaded pool: a pool of one on one thread, call by call with the length of its log; a close while a
 //! ticket waits, while a poll connects and while it pings; the first connections; loans by two threads; calls that
-//! wait; a log that is cut, and one that the pool cuts by itself; queries over one store, also by the pool as an
-//! executor; and what goes between threads.
+//! wait; a log that is cut, and one that the pool cuts by itself; transactions and queries over one store, also by the
+//! pool as an executor; and what goes between threads.
 #![tactic(auto)]
 
+#[cfg(test)]
+mod begins;
 #[cfg(test)]
 mod closes;
 #[cfg(test)]
