@@ -1,5 +1,5 @@
 -- Idle connections in turn, and bounds of their moments.
-use Rattle.std.proofs.Common.{◌≡◌, ℕ, suc, ◌-◌, ◌≤◌, List, [], ◌∷◌, ◌++◌, length, map, refl, ap, ◌∙◌, arith, find, get_or, Bool, true, false, cond, Option, Some, None, ◌||◌, min}
+use Rattle.std.proofs.Common.{◌≡◌, ℕ, suc, ◌-◌, ◌≤◌, List, [], ◌∷◌, ◌++◌, length, map, refl, ap, ◌∙◌, arith, find, get_or, Bool, true, false, cond, Option, Some, None, ◌||◌, ◌<◌, sym, ◌+◌, append_assoc, length-append}
 use Rattle.std.specs.Prelude.{option_to_list}
 use Rattle.std.specs.List.{AllByRecursion}
 use Rattle.sqlx_log.specs.EventTable.{is_beyond}
@@ -19,17 +19,14 @@ module _ {X : Type 0} where
   all-push P [] x h k = (k, tt)
   all-push P (y ∷ ys) x h k = (h.0, all-push P ys x h.1 k)
 
-  pub all-map : {Y : Type 0} (P : Y → Type 0) (v : X → Y) (xs : List X) → AllByRecursion (λ x. P (v x)) xs → AllByRecursion P (map v xs)
-  all-map P v [] h = tt
-  all-map P v (x ∷ xs) h = (h.0, all-map P v xs h.1)
+  -- ---- two rows
 
-  pub all-without : (P : X → Type 0) (p : X → Bool) (xs : List X) → AllByRecursion P xs → AllByRecursion P (without_first p xs)
-  all-without P p [] h = tt
-  all-without P p (x ∷ xs) h = by (all-without P p xs h.1) (p x)
-    where
-      by : AllByRecursion P (without_first p xs) → (b : Bool) → AllByRecursion P (cond b xs (x ∷ without_first p xs))
-      by rest true = h.1
-      by rest false = (h.0, rest)
+  -- where all fit into a room, one more fits into it with those before it
+  pub fits-one : (front back back' a b : List X) (x : X) (room : ℕ) → length a + length b ≤ room → front ++ back ≡ a ++ b → back ≡ x ∷ back' → length front < room
+  fits-one front back back' a b x room all same taken =
+      let n = sym (length-append front back) ∙ ap length same ∙ length-append a b in
+      let m = ap length taken in
+      omega (arith, n, m, all)
 
 module _ {C : Type 0} where
   -- ---- in turn
@@ -37,14 +34,6 @@ module _ {C : Type 0} where
   pub in-turn-push : (xs : List (Idle C)) (i : Idle C) → AreInTurn xs → AreRestingBy i.since.0 xs → AreInTurn (xs ++ i ∷ [])
   in-turn-push [] i h k = (tt, tt)
   in-turn-push (x ∷ xs) i h k = (all-push _ xs i h.0 k.0, in-turn-push xs i h.1 k.1)
-
-  pub in-turn-without : (p : Idle C → Bool) (xs : List (Idle C)) → AreInTurn xs → AreInTurn (without_first p xs)
-  in-turn-without p [] h = tt
-  in-turn-without p (x ∷ xs) h = by (in-turn-without p xs h.1) (p x)
-    where
-      by : AreInTurn (without_first p xs) → (b : Bool) → AreInTurn (cond b xs (x ∷ without_first p xs))
-      by rest true = h.1
-      by rest false = (all-without _ p xs h.0, rest)
 
   -- all rested when the last came
   pub by-last : (xs : List (Idle C)) (y : Idle C) → AreInTurn xs → y ≡ get_or xs (length xs - 1) y → AreRestingBy y.since.0 xs
@@ -76,15 +65,12 @@ module _ {C : Type 0} where
   pub rests-by-later : (by since : ℕ) → by ≤ since → (xs : List (Idle C)) → AreRestingBy by xs → AreRestingBy since xs
   rests-by-later by since le xs h = all-each (λ x k. omega (arith, k, le)) xs h
 
-  pub bounded-pushed : (old : List (Idle C)) (i : Idle C) (new : List (Idle C)) (from : ℕ) (was in_turn : Bool) → AreBounded old from was
-      → (in_turn ≡ true → AreInTurn old × AreRestingBy i.since.0 old) → new ≡ old ++ i ∷ [] → AreBounded new (min from i.lent.created.0) in_turn
-  bounded-pushed old i new from was in_turn h turned e = rw e (record {
-    opened = all-push _ old i (all-each (λ x k. omega (arith, k)) old h.opened) (omega arith);
+  pub bounded-pushed : (old : List (Idle C)) (i : Idle C) (new : List (Idle C)) (from : ℕ) (in_turn : Bool) → AreOpenedFrom from old → from ≤ i.lent.created.0
+      → (in_turn ≡ true → AreInTurn old × AreRestingBy i.since.0 old) → new ≡ old ++ i ∷ [] → AreBounded new from in_turn
+  bounded-pushed old i new from in_turn opened one turned e = rw e (record {
+    opened = all-push _ old i opened one;
     resting = λ t. let both = turned t in in-turn-push old i both.0 both.1;
   })
-
-  pub bounded-without : (p : Idle C → Bool) (old new : List (Idle C)) (from : ℕ) (in_turn : Bool) → AreBounded old from in_turn → new ≡ without_first p old → AreBounded new from in_turn
-  bounded-without p old new from in_turn h e = rw e (record { opened = all-without _ p old h.opened; resting = λ t. in-turn-without p old (h.resting t) })
 
 -- ---- beyond a limit
 
@@ -107,6 +93,25 @@ none-beyond options m since from (x ∷ xs) rests opened e =
     let a = beyond-less options.max_lifetime (m - from) (m - x.lent.created.0) (omega (arith, up)) both.1 in
     let here : is_reaped_at options m x ≡ false = rw (r, a) refl in
     rw here (none-beyond options m since from xs rests.1 opened.1 e)
+
+-- where none is found in front, what stands in front changes nothing
+pub found-behind : {X : Type 0} (p : X → Bool) (xs ys : List X) → find p xs ≡ None → (find p (xs ++ ys) ≡ find p ys) × (without_first p (xs ++ ys) ≡ xs ++ without_first p ys)
+found-behind p [] ys e = (refl, refl)
+found-behind {X} p (x ∷ xs) ys e = by (found-behind p xs ys) (p x) e
+  where
+    by : (find p xs ≡ None → (find p (xs ++ ys) ≡ find p ys) × (without_first p (xs ++ ys) ≡ xs ++ without_first p ys)) → (b : Bool) → cond b (Some x) (find p xs) ≡ None
+        → (cond b (Some x) (find p (xs ++ ys)) ≡ find p ys) × (cond b (xs ++ ys) (x ∷ without_first p (xs ++ ys)) ≡ x ∷ (xs ++ without_first p ys))
+    by rest true k = absurd cc
+    by rest false k = let both = rest k in (both.0, ap (λ l. x ∷ l) both.1)
+
+-- the list is no longer without an element than with it
+pub no-longer : {X : Type 0} (p : X → Bool) (xs : List X) → length (without_first p xs) ≤ length xs
+no-longer p [] = omega arith
+no-longer {X} p (x ∷ xs) = by (no-longer p xs) (p x)
+  where
+    by : length (without_first p xs) ≤ length xs → (b : Bool) → length (cond b xs (x ∷ without_first p xs)) ≤ length (x ∷ xs)
+    by rest true = omega arith
+    by rest false = omega (arith, rest)
 
 -- where none is found, none is left out
 pub all-left : {X : Type 0} (p : X → Bool) (xs : List X) → find p xs ≡ None → without_first p xs ≡ xs
