@@ -1,4 +1,4 @@
-use Rattle.sqlx_pool_core.proofs.IdleQueues.{moved, fits-one}
+use Rattle.sqlx_pool_core.proofs.IdleQueues.{fits-one}
 use Rattle.sqlx_pool_core.proofs.idle_list.append.Goals as goal
 
 pub push-requires : goal.push-requires
