@@ -1,5 +1,5 @@
 -- Idle connections in turn, and bounds of their moments.
-use Rattle.std.proofs.Common.{◌≡◌, ℕ, suc, ◌-◌, ◌≤◌, List, [], ◌∷◌, ◌++◌, length, map, refl, ap, ◌∙◌, arith, find, get_or, Bool, true, false, cond, Option, Some, None, ◌||◌, ◌<◌, sym, ◌+◌, append_assoc, length-append}
+use Rattle.std.proofs.Common.{◌≡◌, ℕ, suc, ◌-◌, ◌≤◌, List, [], ◌∷◌, ◌++◌, length, refl, ap, ◌∙◌, arith, find, get_or, Bool, true, false, cond, Option, Some, None, ◌||◌, ◌<◌, sym, ◌+◌, length-append}
 use Rattle.std.specs.Prelude.{option_to_list}
 use Rattle.std.specs.List.{AllByRecursion}
 use Rattle.sqlx_log.specs.EventTable.{is_beyond}

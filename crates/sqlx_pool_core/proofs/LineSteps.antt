@@ -1,5 +1,5 @@
 -- What each step of a lone pool leaves of its line.
-use Rattle.std.proofs.Common.{◌≡◌, ℕ, ◌+◌, ◌^◌, ◌<◌, ◌≤◌, ◌⊎◌, min, max, inl, inr, ◌==◌, ◌&&◌, Bool, true, false, not, cond, List, [], ◌∷◌, ◌++◌, length, map, Option, Some, None, option_map, refl, sym, ap, subst, ◌∙◌, arith, length-append}
+use Rattle.std.proofs.Common.{◌≡◌, ℕ, ◌+◌, ◌^◌, ◌<◌, ◌≤◌, ◌⊎◌, min, max, inl, inr, ◌==◌, ◌&&◌, Bool, true, false, not, cond, List, [], ◌∷◌, ◌++◌, length, map, Option, Some, None, option_map, refl, sym, ap, subst, ◌∙◌, arith}
 use Rattle.std.specs.Prelude.{nat_lt, if◌then◌else◌, count_by}
 use Rattle.std.proofs.lemmas.Bool.{ltb-true, and_parts}
 use Rattle.sqlx_log.specs.declared.mark.Mark.{Mark}
@@ -12,8 +12,8 @@ use Rattle.sqlx_pool_core.specs.PollTable.{is_at_rest, backs_off_until}
 use Rattle.sqlx_pool_core.specs.CoreTurn.{before, is_first_in_line, turn_of, core_turn}
 use Rattle.sqlx_pool_core.proofs.Counting.{count-ended}
 use Rattle.sqlx_pool_core.proofs.TurnCases.{turn-test, turn-connect}
-use Rattle.sqlx_line.specs.Line.{TicketLine, is_waiting, is_below_edge, entitled, beyond, pushed, without}
-use Rattle.sqlx_line.proofs.Edge.{left_out, below, below-joined, edge_tells}
+use Rattle.sqlx_line.specs.Line.{TicketLine, is_waiting, is_below_edge, entitled, pushed, without}
+use Rattle.sqlx_line.proofs.Edge.{left_out, below, edge_tells}
 use Rattle.sqlx_pool_core.specs.declared.ticket.Ticket.{Ticket}
 use Rattle.sqlx_pool_core.specs.declared.ticket.OwnedConn.{OwnedConn}
 use Rattle.sqlx_pool_core.specs.declared.ticket.Phase.{Phase}

@@ -1,6 +1,5 @@
 -- What holds of every core's value holds after a reap, after the minimum and after a close.
-use Rattle.std.proofs.Common.{◌≡◌, ℕ, suc, ◌+◌, ◌-◌, ◌<◌, ◌≤◌, List, [], ◌∷◌, ◌++◌, length, refl, ap, sym, ◌∙◌, arith, find, get_or, slice_index_or, Bool, true, false, not, cond, ltb, count_by, Option, Some, None, IfSome, OnSome, IsSome, inl, inr, length-append}
-use Rattle.std.specs.List.{position_or_len, remove}
+use Rattle.std.proofs.Common.{◌≡◌, ℕ, ◌+◌, ◌-◌, ◌≤◌, List, [], ◌∷◌, ◌++◌, length, refl, ap, sym, ◌∙◌, arith, find, Bool, true, false, not, cond, count_by, Some, None, inl, inr, length-append}
 use Rattle.std.proofs.lemmas.Bool.Decides.{eqb_tells}
 use Rattle.sqlx_pool_core.specs.declared.steps.Idle.{Idle}
 use Rattle.sqlx_pool_core.specs.Core.{Core}

@@ -1,4 +1,4 @@
-use Rattle.std.proofs.Common.{◌∙◌, sym, ap, arith, length, length-append, ◌++◌, find}
+use Rattle.std.proofs.Common.{◌∙◌, sym, ap, arith, length, length-append, find}
 use Rattle.sqlx_pool_core.specs.MaintenanceSteps.{is_reaped_at, without_first}
 use Rattle.sqlx_pool_core.proofs.IdleQueues.{found-behind, no-longer}
 use Rattle.sqlx_pool_core.proofs.idle_list.IdleList.take_reaped.Goals as goal

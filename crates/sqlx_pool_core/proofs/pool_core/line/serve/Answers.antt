@@ -1,4 +1,4 @@
-use Rattle.std.proofs.Common.{arith, inl, inr}
+use Rattle.std.proofs.Common.{arith, inr}
 use Rattle.sqlx_pool_core.proofs.KeptLine.{nearly-moved}
 use Rattle.sqlx_pool_core.proofs.Looks.{entitles-passed}
 use Rattle.sqlx_pool_core.proofs.pool_core.line.serve.Goals as goal
