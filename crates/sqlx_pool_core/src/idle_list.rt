@@ -1,22 +1,21 @@
-//! The idle connections, those that rest longest first. A reap looks at each one once a moment, as long as none of those
-//! it looked at comes beyond a limit, and where none of them can be beyond one it looks at none.
-ghost use Rattle.std.specs.Prelude.{◌≡◌, ◌≤◌, ◌<◌, ◌==◌, ◌+◌, ◌∷◌, ◌++◌, [], ℕ, Option, None, IfOk, drop, find, length, option_to_list, IsSome, ◌↔◌};
+//! The idle connections, those that rest longest first. The reaps of one moment look at each one about once and remove none
+//! from the middle, and where none of them can be beyond a limit a reap looks at none.
+ghost use Rattle.std.specs.Prelude.{◌≡◌, ◌≤◌, ◌<◌, ◌==◌, ◌+◌, ◌∷◌, ◌++◌, [], ℕ, Option, None, IfOk, take, drop, find, length, option_to_list, IsSome, ◌↔◌};
 ghost use Rattle.sqlx_pool_core.specs.MaintenanceSteps.{is_reaped_at, without_first};
 ghost use Rattle.sqlx_pool_core.specs.IdleList.{FitsInEach};
 
-use crate::idle_row::{IdleRow, beyond};
+use crate::idle_row::IdleRow;
 use crate::options::PoolOptions;
 use crate::steps::{Idle, Lent};
 use sqlx_text::{Moment, OutOfMemory};
 use std::alloc::Global;
 use std::collections::VecDeque;
 use std::marker::Model;
-use std::mem;
 
 /// Idle connections, in the order of their coming back.
 #[derive(Drop)]
 pub struct IdleList<C> {
-    // The first ones, at which a reap looked already: none of them was beyond a limit.
+    // The first ones, among which the last reap found none beyond a limit.
     fresh: IdleRow<C>,
     // Those behind them.
     rest: IdleRow<C>,
@@ -35,43 +34,55 @@ impl<C> Model for IdleList<C> {
     ghost invariant = { λ s. FitsInEach s.room s.fresh s.rest };
 }
 
-// An idle connection is beyond the idle limit or the lifetime.
-fn is_reaped<C>(options: &PoolOptions, idle: &Idle<C>, moment: Moment) -> bool
-    ensures { result ≡ is_reaped_at options.now moment.0 idle.now }
-{
-    let rest = moment.0.saturating_sub(idle.since.0);
-    let age = moment.0.saturating_sub(idle.lent.created.0);
-    beyond(options.get_idle_timeout(), rest) || beyond(options.get_max_lifetime(), age)
-}
-
-// Puts all of a row behind another.
-fn append<C>(front: &mut IdleRow<C>, back: &mut IdleRow<C>)
+// Puts so many of the first of a row behind another.
+fn append<C>(front: &mut IdleRow<C>, back: &mut IdleRow<C>, count: usize)
     requires { length front.old.items + length back.old.items ≤ front.old.room }
-    ensures items { front.new.items ≡ front.old.items ++ back.old.items }
-    ensures none { back.new.items ≡ [] }
+    ensures put { front.new.items ≡ front.old.items ++ take count back.old.items }
+    ensures left { back.new.items ≡ drop count back.old.items }
     ensures front { front.new.room ≡ front.old.room }
     ensures back { back.new.room ≡ back.old.room }
 {
-    while let Some(idle) = back.pop_front() {
+    let mut more = count;
+    while more > 0 {
+        let Some(idle) = back.pop_front() else {
+            return;
+        };
         front.push(idle);
+        more -= 1;
     }
 }
 
-// Counts none as looked at, where one of those that were may have come beyond a limit.
+// Puts the last of a row in front of another, until so many are left.
+fn put_back<C>(front: &mut IdleRow<C>, back: &mut IdleRow<C>, left: usize)
+    requires { length front.old.items + length back.old.items ≤ back.old.room }
+    ensures items { front.new.items ++ back.new.items ≡ front.old.items ++ back.old.items }
+    ensures left { front.new.items ≡ take left front.old.items }
+    ensures front { front.new.room ≡ front.old.room }
+    ensures back { back.new.room ≡ back.old.room }
+{
+    while front.len() > left {
+        let Some(idle) = front.pop_back() else {
+            return;
+        };
+        back.push_front(idle);
+    }
+}
+
+// Where one of those that were fresh is beyond a limit now, only those before it are fresh.
 fn look_anew<C>(
     fresh: &mut IdleRow<C>,
     rest: &mut IdleRow<C>,
     options: &PoolOptions,
     moment: Moment,
 )
-    requires { length fresh.old.items + length rest.old.items ≤ fresh.old.room }
+    requires { length fresh.old.items + length rest.old.items ≤ rest.old.room }
     ensures items { fresh.new.items ++ rest.new.items ≡ fresh.old.items ++ rest.old.items }
     ensures none { find (is_reaped_at options.now moment.0) fresh.new.items ≡ None }
-    ensures fits { (room : ℕ) → FitsInEach room fresh.old rest.old → FitsInEach room fresh.new rest.new }
+    ensures fresh { fresh.new.room ≡ fresh.old.room }
+    ensures capacity { rest.new.room ≡ rest.old.room }
 {
-    if fresh.may_be_reaped(options, moment) {
-        append(fresh, rest);
-        mem::swap(fresh, rest);
+    if let Some(at) = fresh.first_beyond(options, moment) {
+        put_back(fresh, rest, at);
     }
 }
 
@@ -88,14 +99,9 @@ fn next_beyond<C>(
     ensures fresh { fresh.new.room ≡ fresh.old.room }
     ensures capacity { rest.new.room ≡ rest.old.room }
 {
-    while rest.may_be_reaped(options, moment) {
-        let idle = rest.pop_front()?;
-        if is_reaped(options, &idle, moment) {
-            return Some(idle);
-        }
-        fresh.push(idle);
-    }
-    None
+    let at = rest.first_beyond(options, moment)?;
+    append(fresh, rest, at);
+    rest.pop_front()
 }
 
 impl<C> IdleList<C> {
@@ -155,7 +161,8 @@ impl<C> IdleList<C> {
         ensures all { result.items ≡ self.old.items }
         ensures items { self.new.items ≡ [] }
     {
-        append(&mut self.fresh, &mut self.rest);
+        let all = self.rest.len();
+        append(&mut self.fresh, &mut self.rest, all);
         self.room = 0;
         self.fresh.take_all()
     }

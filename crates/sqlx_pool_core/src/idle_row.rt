@@ -1,5 +1,6 @@
 //! Idle connections in a row, with bounds of their moments: where by these none can be beyond a limit, none is looked at.
-ghost use Rattle.std.specs.Prelude.{◌≡◌, ◌≤◌, ◌<◌, ◌==◌, ◌||◌, ◌∷◌, ◌++◌, [], Option, Some, None, IfOk, drop, find, length, true, false, option_to_list, IsSome, ◌↔◌};
+ghost use Rattle.std.specs.Prelude.{◌≡◌, ◌≤◌, ◌<◌, ◌==◌, ◌||◌, ◌∷◌, ◌++◌, [], Option, Some, None, IfOk, drop, find, length, true, false, option_to_list, IfSome, IfNone, IsSome, ◌↔◌};
+ghost use Rattle.std.specs.List.{position_or_len};
 ghost use Rattle.sqlx_log.specs.EventTable.{is_beyond};
 ghost use Rattle.sqlx_pool_core.specs.MaintenanceSteps.{is_reaped_at};
 ghost use Rattle.sqlx_pool_core.specs.IdleList.{AreOpenedFrom, AreRestingFrom, AreRestingBy, AreInTurn};
@@ -41,6 +42,26 @@ pub fn beyond(limit: Option<u64>, duration: u64) -> bool
         Some(limit) => limit < duration,
         None => false,
     }
+}
+
+// An idle connection is beyond the idle limit or the lifetime.
+fn is_reaped<C>(options: &PoolOptions, idle: &Idle<C>, moment: Moment) -> bool
+    ensures { result ≡ is_reaped_at options.now moment.0 idle.now }
+{
+    let rest = moment.0.saturating_sub(idle.since.0);
+    let age = moment.0.saturating_sub(idle.lent.created.0);
+    beyond(options.get_idle_timeout(), rest) || beyond(options.get_max_lifetime(), age)
+}
+
+// When the oldest of them was opened.
+fn first_opening<C>(list: &VecDeque<Idle<C>>) -> u64
+    ensures { AreOpenedFrom result list.now.items }
+{
+    let mut first = u64::MAX;
+    for idle in list.iter() {
+        first = first.min(idle.lent.created.0);
+    }
+    first
 }
 
 impl<C> IdleRow<C> {
@@ -92,6 +113,27 @@ impl<C> IdleRow<C> {
         self.list.push_back_reserved(idle);
     }
 
+    /// Puts a connection first. The bounds begin anew with one that is alone.
+    pub fn push_front(&mut self, idle: Idle<C>)
+        requires { length self.old.items < self.old.room }
+        ensures items { self.new.items ≡ idle ∷ self.old.items }
+        ensures capacity { self.new.room ≡ self.old.room }
+    {
+        let in_turn = self.leads_in_turn(idle.since);
+        self.opened_from = self.opened_before(idle.lent.created);
+        self.in_turn = in_turn;
+        self.list.push_front_reserved(idle);
+    }
+
+    /// Takes the last.
+    pub fn pop_back(&mut self) -> Option<Idle<C>>
+        ensures items { self.old.items ≡ self.new.items ++ option_to_list result }
+        ensures variant { IsSome result ↔ (0 < length self.old.items) }
+        ensures capacity { self.new.room ≡ self.old.room }
+    {
+        self.list.pop_back()
+    }
+
     /// Takes the first.
     pub fn pop_front(&mut self) -> Option<Idle<C>>
         ensures items { self.old.items ≡ option_to_list result ++ self.new.items }
@@ -128,11 +170,18 @@ impl<C> IdleRow<C> {
         }
     }
 
-    // They are in turn, and so they are with one that comes back at this moment.
+    // They are in turn, and so they are before one that comes back at this moment.
     fn stays_in_turn(&self, since: Moment) -> bool
         ensures { result ≡ true → AreInTurn self.now.items × AreRestingBy since.0 self.now.items }
     {
         self.list.is_empty() || self.in_turn && self.last_since() <= since.0
+    }
+
+    // They are in turn, and so they are behind one that came back at this moment.
+    fn leads_in_turn(&self, since: Moment) -> bool
+        ensures { result ≡ true → AreRestingFrom since.0 self.now.items × AreInTurn self.now.items }
+    {
+        self.list.is_empty() || self.in_turn && since.0 <= self.first_since()
     }
 
     // A moment before which none of them was opened, nor one that was opened at this moment.
@@ -157,8 +206,8 @@ impl<C> IdleRow<C> {
         }
     }
 
-    /// One of them may be beyond a limit.
-    pub fn may_be_reaped(&self, options: &PoolOptions, moment: Moment) -> bool
+    // One of them may be beyond a limit.
+    fn may_be_reaped(&self, options: &PoolOptions, moment: Moment) -> bool
         ensures { result ≡ false → find (is_reaped_at options.now moment.0) self.now.items ≡ None }
     {
         if self.list.is_empty() {
@@ -167,5 +216,22 @@ impl<C> IdleRow<C> {
         let rest = moment.0.saturating_sub(self.first_since());
         let age = moment.0.saturating_sub(self.opened_from);
         beyond(options.get_idle_timeout(), rest) || beyond(options.get_max_lifetime(), age)
+    }
+
+    /// Where the first stands that is beyond a limit. A look that finds none makes the bound of the openings exact.
+    pub fn first_beyond(&mut self, options: &PoolOptions, moment: Moment) -> Option<usize>
+        ensures items { self.new.items ≡ self.old.items }
+        ensures capacity { self.new.room ≡ self.old.room }
+        ensures some { IfSome result (λ at. (at ≡ position_or_len (is_reaped_at options.now moment.0) self.old.items) × (at < length self.old.items)) }
+        ensures none { IfNone result (find (is_reaped_at options.now moment.0) self.old.items ≡ None) }
+    {
+        if !self.may_be_reaped(options, moment) {
+            return None;
+        }
+        let found = self.list.iter().position(|i| is_reaped(options, i, moment));
+        if found.is_none() {
+            self.opened_from = first_opening(&self.list);
+        }
+        found
     }
 }

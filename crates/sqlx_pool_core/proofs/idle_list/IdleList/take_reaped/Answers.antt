@@ -5,15 +5,16 @@ use Rattle.sqlx_pool_core.proofs.idle_list.IdleList.take_reaped.Goals as goal
 
 pub invariant_of-self : goal.invariant_of-self
 invariant_of-self g c =
-    let fits = c.look_anew.ensures.fits c.self.inside.room c.self.invariant in
+    let all = ap length c.look_anew.ensures.items in
     let e = ap length c.next_beyond.ensures.rest ∙ length-append c.look_anew.new.fresh.items _ in
     let n = length-append c.look_anew.new.fresh.items c.look_anew.new.rest.items in
     let less = no-longer (is_reaped_at c.args.options.now c.args.moment.0) c.look_anew.new.rest.items in
+    let fits = c.self.invariant.all in
     record {
-      all = let all = fits.all in omega (arith, e, n, less, all);
-      in_front = let room = fits.in_front in let same = c.next_beyond.ensures.fresh in omega (arith, room, same);
-      in_back = let room = fits.in_back in let same = c.next_beyond.ensures.capacity in omega (arith, room, same);
-      small = fits.small;
+      all = omega (arith, all, e, n, less, fits);
+      in_front = let room = c.self.invariant.in_front in let same = c.next_beyond.ensures.fresh ∙ c.look_anew.ensures.fresh in omega (arith, room, same);
+      in_back = let room = c.self.invariant.in_back in let same = c.next_beyond.ensures.capacity ∙ c.look_anew.ensures.capacity in omega (arith, room, same);
+      small = c.self.invariant.small;
     }
 
 pub returns-clause-first : goal.returns-clause-first
