@@ -1,5 +1,5 @@
 -- Idle connections in turn, and bounds of their moments.
-use Rattle.std.proofs.Common.{zero, ◌≡◌, ℕ, suc, ◌-◌, ◌≤◌, List, [], ◌∷◌, ◌++◌, length, refl, ap, ◌∙◌, arith, find, get_or, Bool, true, false, cond, Option, Some, None, ◌||◌, ◌<◌, sym, ◌+◌, length-append, map, take, drop, not, ltb, IfSome, IfNone, IsSome, append_assoc}
+use Rattle.std.proofs.Common.{zero, ◌≡◌, ℕ, suc, ◌-◌, ◌≤◌, List, [], ◌∷◌, ◌++◌, length, refl, ap, ◌∙◌, arith, find, get_or, Bool, true, false, cond, Option, Some, None, ◌||◌, ◌<◌, ◌+◌, map, take, drop, not, ltb, IfSome, IfNone, IsSome, append_assoc}
 use Rattle.std.specs.Prelude.{option_to_list}
 use Rattle.std.specs.List.{AllByRecursion, position_or_len}
 use Rattle.sqlx_log.specs.EventTable.{is_beyond}

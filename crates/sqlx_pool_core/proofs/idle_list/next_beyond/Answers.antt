@@ -1,5 +1,4 @@
-use Rattle.std.proofs.Common.{◌≡◌, ◌∙◌, ◌<◌, ◌++◌, sym, ap, subst, length, take, drop, append_assoc}
-use Rattle.std.specs.Prelude.{option_to_list}
+use Rattle.std.proofs.Common.{◌∙◌, ◌<◌, ◌++◌, sym, ap, subst, length, take, drop, append_assoc}
 use Rattle.sqlx_pool_core.specs.MaintenanceSteps.{is_reaped_at}
 use Rattle.sqlx_pool_core.proofs.IdleQueues.{all-left, some-left, first-there}
 use Rattle.sqlx_pool_core.proofs.idle_list.next_beyond.Goals as goal
