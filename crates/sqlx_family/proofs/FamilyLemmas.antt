@@ -6,14 +6,15 @@ use Rattle.std.proofs.lemmas.List.Elements.{All-set, All-head, All-tail, All-wea
 use Rattle.std.proofs.lemmas.List.Sums.{sum_by-set, sum_by-cons, sum_by_push}
 use Rattle.sqlx_log.specs.declared.mark.Mark.{Mark}
 use Rattle.sqlx_pool_core.specs.declared.member.shared.Shared.{Shared}
-use Rattle.sqlx_pool_core.specs.Core.{Core, free, taken, gone, loan}
+use Rattle.sqlx_pool_core.specs.declared.options.PoolOptions.{PoolOptions}
+use Rattle.sqlx_pool_core.specs.Core.{Core, core_of, free, taken, gone, asking, loan, resting}
 use Rattle.sqlx_pool_core.specs.StandsFor.{StandsIn}
 use Rattle.sqlx_pool_core.specs.Numbers.{Draws, Stays, under_way}
 use Rattle.sqlx_pool_core.specs.Sound.{IsSound}
 use Rattle.sqlx_pool_core.specs.MaintenanceSteps.{closed_from}
 use Rattle.sqlx_pool_core.specs.Shared.{told, shared_of, with_permits}
 use Rattle.sqlx_family.specs.declared.family.FamilyPool.{FamilyPool}
-use Rattle.sqlx_family.specs.Pools.{Pools, pools_of, entry_of}
+use Rattle.sqlx_family.specs.Pools.{Pools, pools_of, entry_of, new_pool, new_family}
 use Rattle.sqlx_family.specs.NoPool.{no_pool}
 use Rattle.sqlx_family.specs.IsFamily.{permits_of, under_way_in, Joins, IsFamily}
 use Rattle.sqlx_family.proofs.Entries.{entry-is, look-set}
@@ -248,3 +249,38 @@ family-added {C} xs h p f room permits idle tickets conns = record {
 -- a new pool owes no permit
 pub new-owes : {C : Type 0} (core : Core C) → StandsIn core [] → gone core.tickets ≡ 0 → core.places ≡ 0 → taken core ≡ 0
 new-owes core stands a b = let held : length (map loan core.held) ≡ 0 = ap length stands.loans in let long = length-map core.held loan in let leaked : core.leaked ≡ 0 = stands.leaked in omega (arith, a, b, held, long, leaked)
+
+none_mapped : {X Y : Type 0} (f : X → Y) (xs : List X) → map f xs ≡ [] → xs ≡ []
+none_mapped f [] e = refl
+none_mapped f (x ∷ xs) e = absurd cc
+
+-- a new pool by its fields
+pub new-value : {C : Type 0} (core : Core C) (options : PoolOptions) (n : ℕ) → StandsIn core [] → core.options ≡ options → core.permits ≡ n → core.closed ≡ core.shut → core.shut ≡ false → core.next_ticket ≡ 1 → core.next_conn ≡ 1 → core.places ≡ 0 → core.last ≡ 0
+    → ◌≡◌ {A = FamilyPool C} (record { core = core; retired = false }) (new_pool options n)
+new-value core options n s is permits closed shut ticket conn places last = λ i. record {
+  core = core_of (is i) (none_mapped asking core.tickets s.tickets i) (none_mapped loan core.held s.loans i) (none_mapped resting core.idle s.idle i) (s.leaked i) (shut i) ((closed ∙ shut) i) (places i) (permits i) (ticket i) (conn i) (last i);
+  retired = false;
+}
+
+-- a family of a root alone
+pub family-new : {C : Type 0} (options : PoolOptions) → options.max_connections < 2 ^ 32 → IsFamily {C = C} (new_family options)
+family-new {C} options small = record {
+  some = omega arith;
+  few = omega arith;
+  small = small;
+  permits = let e = sum_by-cons permits_of root [] in omega (arith, e);
+  first_ticket = omega arith;
+  first_conn = omega arith;
+  few_tickets = omega arith;
+  few_conns = let e = sum_by-cons under_way_in root [] in omega (arith, e);
+  joins = All-cons (Joins shared) root [] joins (All-nil (Joins shared));
+}
+  where
+    root : FamilyPool C
+    root = new_pool options options.max_connections
+
+    shared : Shared
+    shared = record { next_ticket = 1; next_conn = 1; last = record { 0 = 0 } }
+
+    joins : Joins shared root
+    joins = record { tickets = omega arith; conns = omega arith; paid = omega arith }

@@ -9,7 +9,7 @@ use Rattle.sqlx_line.specs.Laws.{IsServed}
 use Rattle.sqlx_line.proofs.Edge.{left_out, below-joined, below-left_out, length-left_out, not-all-below, numbered_found}
 use Rattle.sqlx_pool_core.specs.Core.{Core, waiting, free}
 use Rattle.sqlx_pool_core.specs.Sound.{IsSound, IsRising}
-use Rattle.sqlx_pool_core.specs.KeptLine.{waiting_numbers, IsLined, IsNearlyLined, Looks, let_in}
+use Rattle.sqlx_pool_core.specs.KeptLine.{waiting_numbers, IsLined, IsNearlyLined, let_in}
 use Rattle.sqlx_pool_core.proofs.Counting.{rising-filter}
 use Rattle.sqlx_pool_core.specs.Core.{waits}
 use Rattle.sqlx_pool_core.proofs.WaitingNumbers.{length-numbers, numbers-below, numbers-sorted}
@@ -204,21 +204,10 @@ lined-past old new line l few same takes next =
       few_moves = omega (arith, l.few_moves, next);
     }
 
--- ---- how often a step looks
+-- ---- how many are let in
 
 pub beyond-counts : {C : Type 0} (core : Core C) (line : TicketLine) → IsLined core line → beyond line ≡ waiting core.tickets - free core
 beyond-counts core line l = let n : length line.waiting ≡ waiting core.tickets = ap length l.numbers ∙ length-numbers core.tickets in omega (arith, l.served, n)
-
-pub looks : {C : Type 0} (old new : Core C) (line mid next : TicketLine) (before first after : ℕ) → IsLined old line → IsLined new next → first ≤ before + 1 → beyond mid + old.next_ticket ≤ beyond line + new.next_ticket
-    → after + beyond next ≡ first + beyond mid → after ≤ first + 1 → Looks old new before after
-looks old new line mid next before first after l m once fewer moved twice = record {
-  few = omega (arith, once, twice);
-  let_in = omega (arith, beyond-counts old line l, beyond-counts new next m, l.few_moves, m.few_moves, once, fewer, moved);
-}
-
--- a step that looks only where the edge moves
-pub looks-beside : {C : Type 0} (core now new : Core C) (line next : TicketLine) (before after : ℕ) → core ≡ now → IsLined core line → IsLined new next → core.next_ticket ≤ new.next_ticket → after + beyond next ≡ before + beyond line → after ≤ before + 1 → Looks now new before after
-looks-beside {C} core now new line next before after view l m more moved once = subst (λ (c : Core C). Looks c new before after) view (looks core new line line next before before after l m (omega arith) (omega (arith, more)) moved once)
 
 -- the edge moved at most once for each ticket that was let in
 pub moves-few : {C : Type 0} (core now : Core C) (line : TicketLine) (moves : ℕ) → core ≡ now → IsLined core line → moves ≡ line.moves → moves < now.next_ticket

@@ -18,6 +18,7 @@ pub mod ReturnMakes
 pub mod Answered
 pub mod PollCode
 pub mod LineSteps
+pub mod Looks
 pub mod FinishCode
 pub mod AskSoundness
 pub mod GiveCode

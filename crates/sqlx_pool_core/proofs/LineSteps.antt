@@ -1,5 +1,5 @@
 -- What each step of a lone pool leaves of its line.
-use Rattle.std.proofs.Common.{◌≡◌, ℕ, ◌+◌, ◌^◌, ◌<◌, ◌≤◌, ◌⊎◌, min, max, inl, inr, ◌==◌, ◌&&◌, Bool, true, false, not, cond, List, [], ◌∷◌, ◌++◌, length, map, Option, Some, None, option_map, refl, sym, ap, subst, ◌∙◌, arith, length-append}
+use Rattle.std.proofs.Common.{◌≡◌, ℕ, ◌+◌, ◌^◌, ◌<◌, ◌≤◌, ◌⊎◌, min, max, inl, inr, ◌==◌, ◌&&◌, Bool, true, false, not, cond, List, [], ◌∷◌, ◌++◌, length, map, Option, Some, None, option_map, refl, sym, ap, subst, ◌∙◌, arith}
 use Rattle.std.specs.Prelude.{nat_lt, if◌then◌else◌, count_by}
 use Rattle.std.proofs.lemmas.Bool.{ltb-true, and_parts}
 use Rattle.sqlx_log.specs.declared.mark.Mark.{Mark}
@@ -12,8 +12,8 @@ use Rattle.sqlx_pool_core.specs.PollTable.{is_at_rest, backs_off_until}
 use Rattle.sqlx_pool_core.specs.CoreTurn.{before, is_first_in_line, turn_of, core_turn}
 use Rattle.sqlx_pool_core.proofs.Counting.{count-ended}
 use Rattle.sqlx_pool_core.proofs.TurnCases.{turn-test, turn-connect}
-use Rattle.sqlx_line.specs.Line.{TicketLine, is_waiting, is_below_edge, entitled, beyond, pushed, without}
-use Rattle.sqlx_line.proofs.Edge.{left_out, below, below-joined, edge_tells}
+use Rattle.sqlx_line.specs.Line.{TicketLine, is_waiting, is_below_edge, entitled, pushed, without}
+use Rattle.sqlx_line.proofs.Edge.{left_out, below, edge_tells}
 use Rattle.sqlx_pool_core.specs.declared.ticket.Ticket.{Ticket}
 use Rattle.sqlx_pool_core.specs.declared.ticket.OwnedConn.{OwnedConn}
 use Rattle.sqlx_pool_core.specs.declared.ticket.Phase.{Phase}
@@ -40,11 +40,11 @@ use Rattle.std.proofs.lemmas.Bool.Decides.{nat_tests}
 use Rattle.sqlx_pool_core.specs.Balance.{Balance, is_asked, is_ended, is_lent, asks, ends, lents, given_back, one_if, try_room}
 use Rattle.sqlx_pool_core.specs.ReturnSteps.{give_marks, core_after_give, end_marks, released, detach_marks, leak_marks, leaked}
 use Rattle.sqlx_pool_core.specs.MaintenanceSteps.{done, has_place_if, placed, closed_from, reaped}
-use Rattle.sqlx_pool_core.specs.KeptLine.{waiting_numbers, IsLined, IsNearlyLined, IsLone, Looks, leaves, taken_out}
+use Rattle.sqlx_pool_core.specs.KeptLine.{waiting_numbers, IsLined, IsNearlyLined, IsLone, leaves, taken_out}
 use Rattle.sqlx_pool_core.proofs.ByNumber.{all-counted}
 use Rattle.sqlx_pool_core.proofs.PollCode.{among}
 use Rattle.sqlx_pool_core.proofs.WaitingNumbers.{length-numbers, numbers-asked, numbers-ended, numbers-left, numbers-without, numbers-with, before-numbers}
-use Rattle.sqlx_pool_core.proofs.KeptLine.{nearly-beside, nearly-ended, nearly-left, nearly-asked, lined-beside, lined-past, one_if_waiting, Fewer, fewer, line-rises, looks}
+use Rattle.sqlx_pool_core.proofs.KeptLine.{nearly-beside, nearly-ended, nearly-left, nearly-asked, lined-beside, lined-past, one_if_waiting, Fewer, fewer, line-rises}
 
 -- ---- a step that leaves the waiting tickets
 
@@ -435,25 +435,6 @@ start-told {C} core now line q k t m n r view closed s l told at is =
     (is ∙ ap (λ (u : Turn). start_answer u core.idle) (turn-told core line q k t m s l told)
     ∙ (λ i. start_answer (turn_of (is_first_in_line t core) (closed i) (at i) core (ticket_of k t core.tickets)) core.idle))
 
--- ---- how often a step looks that takes a ticket out
-
-fewer-beyond : {C : Type 0} (core : Core C) (line : TicketLine) (t : ℕ) (b : Bool) → IsSound core → IsLined core line → beyond (taken_out b t line) ≤ beyond line
-fewer-beyond core line t false s l = omega arith
-fewer-beyond core line t true s l = by f.either
-  where
-    f : Fewer t line
-    f = fewer t 1 core.next_ticket line (line-rises core line s l)
-
-    by : (f.left ≡ f.one) ⊎ ((f.left ≡ 0) × (f.one ≡ 1) × (entitled line < length line.waiting)) → beyond (without t line) ≤ beyond line
-    by (inl too) = omega (arith, too, f.waiting, f.entitled_too)
-    by (inr other) = omega (arith, other.0, other.1, f.waiting, f.entitled_too)
-
-pub looks-without : {C : Type 0} (core now new : Core C) (line mid next : TicketLine) (t : ℕ) (b : Bool) (before first after : ℕ) → core ≡ now → IsSound core → IsLined core line → mid ≡ taken_out b t line → IsLined new next → core.next_ticket ≤ new.next_ticket → first ≤ before + 1
-    → after + beyond next ≡ first + beyond mid → after ≤ first + 1 → Looks now new before after
-looks-without {C} core now new line mid next t b before first after view s l is m more once moved twice =
-    let less : beyond mid ≤ beyond line = subst (λ (x : TicketLine). beyond x ≤ beyond line) (sym is) (fewer-beyond core line t b s l) in
-    subst (λ (c : Core C). Looks c new before after) view (looks core new line mid next before first after l m once (omega (arith, more, less)) moved twice)
-
 -- ---- an ask
 
 pub without_last : (n low : ℕ) (xs : List Ticket) (x : Ticket) → IsRising low (map number_of xs) n → x.number ≡ n → without_ticket n (xs ++ x ∷ []) ≡ xs
@@ -482,23 +463,11 @@ asked-nearly {C} core new line k d m l is =
     let g : gone (core.tickets ++ x ∷ []) ≡ gone core.tickets + 0 = count-push has_gone core.tickets x in
     subst (λ (n : Core C). IsNearlyLined n (pushed core.next_ticket line)) (sym is) (nearly-asked core (at_moment m (asked k d core)) line l (numbers-asked core.tickets x refl) (omega (arith, g)) refl)
 
-pub looks-asked : {C : Type 0} (core now new : Core C) (line mid next : TicketLine) (k d m before first after : ℕ) → core ≡ now → IsLined core line → new ≡ at_moment m (asked k d core) → mid ≡ pushed core.next_ticket line → IsLined new next → first ≡ before + 1
-    → after + beyond next ≡ first + beyond mid → after ≤ first + 1 → Looks now new before after
-looks-asked {C} core now new line mid next k d m before first after view l is joins n once moved twice =
-    let more : new.next_ticket ≡ core.next_ticket + 1 = ap (λ (c : Core C). c.next_ticket) is in
-    let e : entitled (pushed core.next_ticket line) ≡ entitled line = below-joined core.next_ticket line.edge line.waiting l.edge in
-    let long : length (pushed core.next_ticket line).waiting ≡ length line.waiting + 1 = length-append line.waiting (core.next_ticket ∷ []) in
-    let beyond_more : beyond mid ≤ beyond line + 1 = subst (λ (x : TicketLine). beyond x ≤ beyond line + 1) (sym joins) (omega (arith, e, long)) in
-    subst (λ (c : Core C). Looks c new before after) view (looks core new line mid next before first after l n (omega (arith, once)) (omega (arith, more, beyond_more)) moved twice)
-
 -- an ask that wants memory leaves the pool and its line
 pub lone-back : {C : Type 0} (core new : Core C) (line mid : TicketLine) (t : ℕ) (joined : Bool) → IsLone core line → new ≡ core → mid ≡ cond joined (pushed t line) line → joined ≡ false → IsLone new mid
 lone-back {C} core new line mid t joined lone back is none =
     let same : mid ≡ line = is ∙ ap (λ b. cond b (pushed t line) line) none in
     subst (λ (c : Core C). IsLone c mid) (sym back) (subst (IsLone core) (sym same) lone)
-
-pub looks-once : {C : Type 0} (now new : Core C) (before after : ℕ) → new ≡ now → after ≡ before + 1 → Looks now new before after
-looks-once {C} now new before after is once = subst (λ (c : Core C). Looks now c before after) (sym is) (record { few = omega (arith, once); let_in = omega (arith, once) })
 
 pub has-joined : (line mid : TicketLine) (t n : ℕ) (joined : Bool) → mid ≡ cond joined (pushed t line) line → joined ≡ true → t ≡ n → mid ≡ pushed n line
 has-joined line mid t n joined is done same = is ∙ ap (λ b. cond b (pushed t line) line) done ∙ ap (λ (k : ℕ). pushed k line) same

@@ -1,6 +1,5 @@
 -- What holds of every core's value holds after a reap, after the minimum and after a close.
-use Rattle.std.proofs.Common.{◌≡◌, ℕ, suc, ◌+◌, ◌-◌, ◌<◌, ◌≤◌, List, [], ◌∷◌, ◌++◌, length, refl, ap, sym, ◌∙◌, arith, find, get_or, slice_index_or, Bool, true, false, not, cond, ltb, count_by, Option, Some, None, IfSome, OnSome, IsSome, inl, inr, length-append}
-use Rattle.std.specs.List.{position_or_len, remove}
+use Rattle.std.proofs.Common.{◌≡◌, ℕ, ◌+◌, ◌-◌, ◌≤◌, List, [], ◌∷◌, ◌++◌, length, refl, ap, sym, ◌∙◌, arith, find, Bool, true, false, not, cond, count_by, Some, None, inl, inr, length-append}
 use Rattle.std.proofs.lemmas.Bool.Decides.{eqb_tells}
 use Rattle.sqlx_pool_core.specs.declared.steps.Idle.{Idle}
 use Rattle.sqlx_pool_core.specs.Core.{Core}
@@ -11,61 +10,6 @@ use Rattle.sqlx_log.proofs.ListFacts.{found_counts, filter_none, length-filter_n
 use Rattle.sqlx_log.proofs.Counting.{one, count-filter, count-push}
 use Rattle.sqlx_pool_core.proofs.Soundness.{one-le}
 use Rattle.sqlx_pool_core.proofs.IdleQueues.{all-left}
-
--- ---- the first that passes a test
-
-module _ {X : Type 0} (p : X → Bool) where
-  pub first-removed : (xs : List X) → remove xs (position_or_len p xs) ≡ without_first p xs
-  first-removed [] = refl
-  first-removed (x ∷ xs) = by (first-removed xs) (p x)
-    where
-      by : remove xs (position_or_len p xs) ≡ without_first p xs → (b : Bool) → remove (x ∷ xs) (cond (not b) (1 + position_or_len p xs) 0) ≡ cond b xs (x ∷ without_first p xs)
-      by rest true = refl
-      by rest false = let e : 1 + position_or_len p xs ≡ suc (position_or_len p xs) = omega arith in ap (remove (x ∷ xs)) e ∙ ap (λ l. x ∷ l) rest
-
-  pub first-found : (xs : List X) (d : X) → position_or_len p xs < length xs → find p xs ≡ Some (get_or xs (position_or_len p xs) d)
-  first-found [] d h = absurd (omega (arith, h))
-  first-found (x ∷ xs) d h = by (first-found xs d) (p x) h
-    where
-      by : (position_or_len p xs < length xs → find p xs ≡ Some (get_or xs (position_or_len p xs) d)) → (b : Bool) → cond (not b) (1 + position_or_len p xs) 0 < suc (length xs) → cond b (Some x) (find p xs) ≡ Some (get_or (x ∷ xs) (cond (not b) (1 + position_or_len p xs) 0) d)
-      by rest true k = refl
-      by rest false k =
-          let e : 1 + position_or_len p xs ≡ suc (position_or_len p xs) = omega arith in
-          rest (omega (arith, k)) ∙ sym (ap (λ n. Some (get_or (x ∷ xs) n d)) e)
-
-  pub none-found : (xs : List X) → length xs ≤ position_or_len p xs → (find p xs ≡ None) × (without_first p xs ≡ xs)
-  none-found [] h = (refl, refl)
-  none-found (x ∷ xs) h = by (none-found xs) (p x) h
-    where
-      by : (length xs ≤ position_or_len p xs → (find p xs ≡ None) × (without_first p xs ≡ xs)) → (b : Bool) → suc (length xs) ≤ cond (not b) (1 + position_or_len p xs) 0 → (cond b (Some x) (find p xs) ≡ None) × (cond b xs (x ∷ without_first p xs) ≡ x ∷ xs)
-      by further true k = absurd (omega (arith, k))
-      by further false k = let rest = further (omega (arith, k)) in (rest.0, ap (λ l. x ∷ l) rest.1)
-
-  place_at : (xs : List X) (o : Option ℕ) (b : Bool) → ltb (position_or_len p xs) (length xs) ≡ b → o ≡ cond b (Some (position_or_len p xs)) None
-      → (i : ℕ) → o ≡ Some i → (i ≡ position_or_len p xs) × (position_or_len p xs < length xs)
-  place_at xs o true e is i some = (let s : Some i ≡ Some (position_or_len p xs) = sym some ∙ is in cc, grind (arith, e))
-  place_at xs o false e is i some = absurd (let s : ◌≡◌ {A = Option ℕ} (Some i) None = sym some ∙ is in cc)
-
-  none_at : (xs : List X) (b : Bool) → ltb (position_or_len p xs) (length xs) ≡ b → None ≡ cond b (Some (position_or_len p xs)) None → length xs ≤ position_or_len p xs
-  none_at xs true e is = absurd cc
-  none_at xs false e is = grind (arith, e)
-
-  -- no element passes
-  pub none-taken : (xs : List X) → None ≡ cond (ltb (position_or_len p xs) (length xs)) (Some (position_or_len p xs)) None → (find p xs ≡ None) × (without_first p xs ≡ xs)
-  none-taken xs is = none-found xs (none_at xs (ltb (position_or_len p xs) (length xs)) refl is)
-
-  taken_some : (xs : List X) (i : ℕ) (o : Option X) (new : List X) → i ≡ position_or_len p xs → position_or_len p xs < length xs
-      → IfSome o (λ y. y ≡ slice_index_or xs i y) → OnSome o (new ≡ remove xs i) → IsSome o → (o ≡ find p xs) × (new ≡ without_first p xs)
-  taken_some xs i None new e h value items some = absurd cc
-  taken_some xs i (Some y) new e h value items some =
-      (ap Some (value ∙ ap (λ n. get_or xs n y) e) ∙ sym (first-found xs y h), items ∙ ap (remove xs) e ∙ first-removed xs)
-
-  -- what is taken from the first place at which the test passes
-  pub first-taken : (xs : List X) (i : ℕ) (o : Option X) (new : List X) → Some i ≡ cond (ltb (position_or_len p xs) (length xs)) (Some (position_or_len p xs)) None
-      → IfSome o (λ y. y ≡ slice_index_or xs i y) → OnSome o (new ≡ remove xs i) → (i < length xs → IsSome o) → (o ≡ find p xs) × (new ≡ without_first p xs)
-  first-taken xs i o new is value items some =
-      let at = place_at xs (Some i) (ltb (position_or_len p xs) (length xs)) refl is i refl in
-      taken_some xs i o new at.0 at.1 value items (some (let e = at.0 in let h = at.1 in omega (arith, e, h)))
 
 -- ---- reaped
 

@@ -1,5 +1,5 @@
 -- An ask that is served at once makes what an ask, a start and an accepted test make, one behind another.
-use Rattle.std.proofs.Common.{◌≡◌, ℕ, suc, ◌+◌, ◌^◌, ◌<◌, ◌≤◌, Bool, true, false, cond, not, ◌&&◌, ◌==◌, nat_lt, List, [], ◌∷◌, ◌++◌, map, take, drop, count_by, length, All, Option, Some, None, is_some, max, inl, refl, sym, ap, ap₂, ◌∙◌, subst, append_assoc, arith}
+use Rattle.std.proofs.Common.{◌≡◌, ℕ, suc, ◌+◌, ◌^◌, ◌<◌, ◌≤◌, Bool, true, false, cond, not, ◌&&◌, ◌==◌, List, [], ◌∷◌, ◌++◌, take, drop, count_by, length, Option, Some, None, is_some, max, inl, refl, sym, ap, ap₂, ◌∙◌, subst, append_assoc, arith}
 use Rattle.std.specs.Prelude.{IfSome}
 use Rattle.sqlx_log.specs.declared.mark.Mark.{Mark}
 use Rattle.sqlx_log.specs.declared.mark.Mark.TheVariants.{Asked, Left, Taken, Lent, Ended}
@@ -9,26 +9,23 @@ use Rattle.sqlx_log.specs.Marks.{opened_number}
 use Rattle.sqlx_log.proofs.FairLaws.{fair-append}
 use Rattle.sqlx_log.proofs.ListFacts.{found_All, count_by-cons, count_by-push, length-push, same_number}
 use Rattle.sqlx_pool_core.specs.declared.ticket.Ticket.{Ticket}
-use Rattle.sqlx_pool_core.specs.declared.ticket.OwnedConn.{OwnedConn}
-use Rattle.sqlx_pool_core.specs.declared.ticket.Phase.{Phase}
 use Rattle.sqlx_pool_core.specs.declared.ticket.Phase.TheVariants as phase
 use Rattle.sqlx_pool_core.specs.declared.steps.Idle.{Idle}
 use Rattle.sqlx_pool_core.specs.declared.steps.Lent.{Lent as LentValue}
 use Rattle.sqlx_pool_core.specs.Core.{Core, is_of, is_out, ticket_of, waiting, free, size, gone}
-use Rattle.sqlx_pool_core.specs.Sound.{IsSound, IsRising, number_of, rests, holds}
+use Rattle.sqlx_pool_core.specs.Sound.{IsSound, rests}
 use Rattle.sqlx_pool_core.specs.Alone.{IsAlone}
 use Rattle.sqlx_pool_core.specs.StandsFor.{StandsIn, StandsFor}
-use Rattle.sqlx_pool_core.specs.Makes.{MakesIn, MakesWhere, Makes}
+use Rattle.sqlx_pool_core.specs.Makes.{MakesIn, MakesWhere}
 use Rattle.sqlx_pool_core.specs.Logs.{Logs}
 use Rattle.sqlx_pool_core.specs.Numbers.{Draws, Stays}
-use Rattle.sqlx_pool_core.specs.Balance.{Balance, serve_room, lents}
+use Rattle.sqlx_pool_core.specs.Balance.{Balance, serve_room}
 use Rattle.sqlx_pool_core.specs.CoreTurn.{before, InOwnLine}
 use Rattle.sqlx_pool_core.specs.KeptLine.{IsLined, IsLone}
-use Rattle.sqlx_pool_core.specs.Edits.{asked, at_moment, with_ticket, without_ticket, to_test, core_without_ticket, core_without_first, lent_to}
-use Rattle.sqlx_pool_core.specs.PollSteps.{try_lent, after_try, serve_marks, after_serve}
-use Rattle.sqlx_pool_core.specs.KeptLine.{waiting_numbers}
+use Rattle.sqlx_pool_core.specs.Edits.{asked, at_moment, with_ticket, to_test, core_without_ticket, core_without_first, lent_to}
+use Rattle.sqlx_pool_core.specs.PollSteps.{try_lent, serve_marks, after_serve}
 use Rattle.sqlx_line.specs.Line.{TicketLine}
-use Rattle.sqlx_pool_core.proofs.Stands.{stands-in, IsIdleBorn, IsTicketBorn}
+use Rattle.sqlx_pool_core.proofs.Stands.{stands-in, IsTicketBorn}
 use Rattle.sqlx_pool_core.proofs.Known.{ticket-changed, gone-changed, gone-left_le, idle-first}
 use Rattle.sqlx_pool_core.proofs.AskSoundness.{sound-asked}
 use Rattle.sqlx_pool_core.proofs.StartMakes.{makes-test}

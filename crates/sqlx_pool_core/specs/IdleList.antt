@@ -1,5 +1,5 @@
 -- The idle connections, kept so that a reap which finds none looks at none.
-use Rattle.std.specs.Prelude.{◌≡◌, ℕ, ◌≤◌, Bool, true, List, [], ◌∷◌, ⊤}
+use Rattle.std.specs.Prelude.{◌≡◌, ℕ, ◌≤◌, Bool, true, List, [], ◌∷◌, ◌++◌, length, ◌<◌, ◌^◌, ⊤}
 use Rattle.std.specs.List.{AllByRecursion}
 use Rattle.sqlx_pool_core.specs.declared.steps.Idle.{Idle}
 
@@ -30,3 +30,10 @@ module _ {C : Type 0} where
 pub record AreBounded {C : Type 0} (idle : List (Idle C)) (from : ℕ) (in_turn : Bool) : Type 0 where
   pub opened : AreOpenedFrom from idle
   pub resting : in_turn ≡ true → AreInTurn idle
+
+-- All of two rows fit into a room, and each row has that room.
+pub record FitsInEach {C : Type 0} (room : ℕ) (front back : IdleQueue C) : Type 0 where
+  pub all : length (front.items ++ back.items) ≤ room
+  pub in_front : room ≤ front.room
+  pub in_back : room ≤ back.room
+  pub small : room < 2 ^ 64

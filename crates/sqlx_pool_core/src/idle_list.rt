@@ -1,66 +1,107 @@
-//! The idle connections, those that rest longest first. Where none of them can be beyond a limit, a reap looks at none.
-ghost use Rattle.std.specs.Prelude.{◌≡◌, ◌≤◌, ◌<◌, ◌==◌, ◌||◌, ◌∷◌, ◌++◌, [], Option, Some, None, IfOk, drop, find, length, true, false, option_to_list, IsSome, ◌↔◌};
-ghost use Rattle.sqlx_log.specs.EventTable.{is_beyond};
+//! The idle connections, those that rest longest first. The reaps of one moment look at each one about once and remove none
+//! from the middle, and where none of them can be beyond a limit a reap looks at none.
+ghost use Rattle.std.specs.Prelude.{◌≡◌, ◌≤◌, ◌<◌, ◌==◌, ◌+◌, ◌∷◌, ◌++◌, [], ℕ, Option, None, IfOk, take, drop, find, length, option_to_list, IsSome, ◌↔◌};
 ghost use Rattle.sqlx_pool_core.specs.MaintenanceSteps.{is_reaped_at, without_first};
-ghost use Rattle.sqlx_pool_core.specs.IdleList.{AreOpenedFrom, AreRestingFrom, AreRestingBy, AreInTurn};
+ghost use Rattle.sqlx_pool_core.specs.IdleList.{FitsInEach};
 
+use crate::idle_row::IdleRow;
 use crate::options::PoolOptions;
 use crate::steps::{Idle, Lent};
 use sqlx_text::{Moment, OutOfMemory};
 use std::alloc::Global;
 use std::collections::VecDeque;
 use std::marker::Model;
-use std::mem;
 
 /// Idle connections, in the order of their coming back.
 #[derive(Drop)]
 pub struct IdleList<C> {
-    list: VecDeque<Idle<C>>,
-    // None of them was opened before this moment.
-    opened_from: u64,
-    // None rests for longer than one before it.
-    in_turn: bool,
+    // The first ones, among which the last reap found none beyond a limit.
+    fresh: IdleRow<C>,
+    // Those behind them.
+    rest: IdleRow<C>,
+    // Each row has room for so many.
+    room: usize,
 }
 
 impl<C> Model for IdleList<C> {
-    ghost use Rattle.std.specs.VecDeque.{deque_capacity};
-    ghost use Rattle.sqlx_pool_core.specs.IdleList.{IdleQueue, AreBounded};
+    ghost use Rattle.std.specs.Prelude.{◌++◌};
+    ghost use Rattle.sqlx_pool_core.specs.IdleList.{IdleQueue, FitsInEach};
 
     ghost Value = { IdleQueue C };
 
-    ghost view = { λ s. record { items = s.list.items; room = deque_capacity s.list } };
+    ghost view = { λ s. record { items = s.fresh.items ++ s.rest.items; room = s.room } };
 
-    ghost invariant = { λ s. AreBounded s.list.items s.opened_from s.in_turn };
+    ghost invariant = { λ s. FitsInEach s.room s.fresh s.rest };
 }
 
-/// A duration is above its limit; without a limit none is.
-pub fn beyond(limit: Option<u64>, duration: u64) -> bool
-    ensures { result ≡ is_beyond limit duration }
+// Puts so many of the first of a row behind another.
+fn append<C>(front: &mut IdleRow<C>, back: &mut IdleRow<C>, count: usize)
+    requires { length front.old.items + length back.old.items ≤ front.old.room }
+    ensures put { front.new.items ≡ front.old.items ++ take count back.old.items }
+    ensures left { back.new.items ≡ drop count back.old.items }
+    ensures front { front.new.room ≡ front.old.room }
+    ensures back { back.new.room ≡ back.old.room }
 {
-    match limit {
-        Some(limit) => limit < duration,
-        None => false,
+    let mut more = count;
+    while more > 0 {
+        let Some(idle) = back.pop_front() else {
+            return;
+        };
+        front.push(idle);
+        more -= 1;
     }
 }
 
-// An idle connection is beyond the idle limit or the lifetime.
-fn is_reaped<C>(options: &PoolOptions, idle: &Idle<C>, moment: Moment) -> bool
-    ensures { result ≡ is_reaped_at options.now moment.0 idle.now }
+// Puts the last of a row in front of another, until so many are left.
+fn put_back<C>(front: &mut IdleRow<C>, back: &mut IdleRow<C>, left: usize)
+    requires { length front.old.items + length back.old.items ≤ back.old.room }
+    ensures items { front.new.items ++ back.new.items ≡ front.old.items ++ back.old.items }
+    ensures left { front.new.items ≡ take left front.old.items }
+    ensures front { front.new.room ≡ front.old.room }
+    ensures back { back.new.room ≡ back.old.room }
 {
-    let rest = moment.0.saturating_sub(idle.since.0);
-    let age = moment.0.saturating_sub(idle.lent.created.0);
-    beyond(options.get_idle_timeout(), rest) || beyond(options.get_max_lifetime(), age)
+    while front.len() > left {
+        let Some(idle) = front.pop_back() else {
+            return;
+        };
+        back.push_front(idle);
+    }
 }
 
-// When the oldest of them was opened.
-fn first_opening<C>(list: &VecDeque<Idle<C>>) -> u64
-    ensures { AreOpenedFrom result list.now.items }
+// Where one of those that were fresh is beyond a limit now, only those before it are fresh.
+fn look_anew<C>(
+    fresh: &mut IdleRow<C>,
+    rest: &mut IdleRow<C>,
+    options: &PoolOptions,
+    moment: Moment,
+)
+    requires { length fresh.old.items + length rest.old.items ≤ rest.old.room }
+    ensures items { fresh.new.items ++ rest.new.items ≡ fresh.old.items ++ rest.old.items }
+    ensures none { find (is_reaped_at options.now moment.0) fresh.new.items ≡ None }
+    ensures fresh { fresh.new.room ≡ fresh.old.room }
+    ensures capacity { rest.new.room ≡ rest.old.room }
 {
-    let mut first = u64::MAX;
-    for idle in list.iter() {
-        first = first.min(idle.lent.created.0);
+    if let Some(at) = fresh.first_beyond(options, moment) {
+        put_back(fresh, rest, at);
     }
-    first
+}
+
+// Takes the first of the rest that is beyond a limit. Those before it are fresh.
+fn next_beyond<C>(
+    fresh: &mut IdleRow<C>,
+    rest: &mut IdleRow<C>,
+    options: &PoolOptions,
+    moment: Moment,
+) -> Option<Idle<C>>
+    requires { length fresh.old.items + length rest.old.items ≤ fresh.old.room }
+    ensures first { result ≡ find (is_reaped_at options.now moment.0) rest.old.items }
+    ensures rest { fresh.new.items ++ rest.new.items ≡ fresh.old.items ++ without_first (is_reaped_at options.now moment.0) rest.old.items }
+    ensures fresh { fresh.new.room ≡ fresh.old.room }
+    ensures capacity { rest.new.room ≡ rest.old.room }
+{
+    let at = rest.first_beyond(options, moment)?;
+    append(fresh, rest, at);
+    rest.pop_front()
 }
 
 impl<C> IdleList<C> {
@@ -69,13 +110,13 @@ impl<C> IdleList<C> {
         ensures items { IfOk result (λ idle. idle.items ≡ []) }
         ensures capacity { IfOk result (λ idle. room ≤ idle.room) }
     {
-        match VecDeque::with_capacity(alloc, room) {
-            Ok(list) => Ok(IdleList {
-                list,
-                opened_from: u64::MAX,
-                in_turn: true,
-            }),
-            Err(_) => Err(OutOfMemory),
+        let fresh = IdleRow::with_capacity(alloc, room)?;
+        match IdleRow::with_capacity(alloc, room) {
+            Ok(rest) => Ok(IdleList { fresh, rest, room }),
+            Err(error) => {
+                fresh.destroy_empty();
+                Err(error)
+            }
         }
     }
 
@@ -83,14 +124,14 @@ impl<C> IdleList<C> {
     pub fn len(&self) -> usize
         ensures { result ≡ length self.now.items }
     {
-        self.list.len()
+        self.fresh.len() + self.rest.len()
     }
 
     /// There is none.
     pub fn is_empty(&self) -> bool
         ensures { result ≡ (length self.now.items == 0) }
     {
-        self.list.is_empty()
+        self.len() == 0
     }
 
     /// Puts a connection last.
@@ -99,9 +140,7 @@ impl<C> IdleList<C> {
         ensures rest { self.new.items ≡ self.old.items ++ (record { lent = lent; since = since }) ∷ [] }
         ensures capacity { self.new.room ≡ self.old.room }
     {
-        self.in_turn = self.stays_in_turn(since);
-        self.opened_from = self.opened_from.min(lent.created.0);
-        self.list.push_back_reserved(Idle { lent, since });
+        self.rest.push(Idle { lent, since });
     }
 
     /// Takes the first.
@@ -111,7 +150,10 @@ impl<C> IdleList<C> {
         ensures rest { self.new.items ≡ drop 1 self.old.items }
         ensures capacity { self.new.room ≡ self.old.room }
     {
-        self.list.pop_front()
+        match self.fresh.pop_front() {
+            Some(first) => Some(first),
+            None => self.rest.pop_front(),
+        }
     }
 
     /// Takes all.
@@ -119,51 +161,17 @@ impl<C> IdleList<C> {
         ensures all { result.items ≡ self.old.items }
         ensures items { self.new.items ≡ [] }
     {
-        let none = self.none();
-        mem::replace(&mut self.list, none)
+        let all = self.rest.len();
+        append(&mut self.fresh, &mut self.rest, all);
+        self.room = 0;
+        self.fresh.take_all()
     }
 
     /// None, in the same memory.
     pub fn none(&self) -> VecDeque<Idle<C>>
         ensures { result.items ≡ [] }
     {
-        VecDeque::new(*self.list.allocator())
-    }
-
-    // A moment at which all rested, where they are in turn.
-    fn last_since(&self) -> u64
-        ensures { AreInTurn self.now.items → AreRestingBy result self.now.items }
-    {
-        match self.list.back() {
-            Some(last) => last.since.0,
-            None => 0,
-        }
-    }
-
-    // They are in turn, and so they are with one that comes back at this moment.
-    fn stays_in_turn(&self, since: Moment) -> bool
-        ensures { result ≡ true → AreInTurn self.now.items × AreRestingBy since.0 self.now.items }
-    {
-        self.in_turn && self.last_since() <= since.0
-    }
-
-    // A moment before which none of them rested.
-    fn first_since(&self) -> u64
-        ensures { AreRestingFrom result self.now.items }
-    {
-        match self.list.front() {
-            Some(first) if self.in_turn => first.since.0,
-            _ => 0,
-        }
-    }
-
-    // One of them may be beyond a limit.
-    fn may_be_reaped(&self, options: &PoolOptions, moment: Moment) -> bool
-        ensures { result ≡ false → find (is_reaped_at options.now moment.0) self.now.items ≡ None }
-    {
-        let rest = moment.0.saturating_sub(self.first_since());
-        let age = moment.0.saturating_sub(self.opened_from);
-        beyond(options.get_idle_timeout(), rest) || beyond(options.get_max_lifetime(), age)
+        self.fresh.none()
     }
 
     /// Takes the first that is beyond a limit; the others keep their order.
@@ -172,13 +180,7 @@ impl<C> IdleList<C> {
         ensures rest { self.new.items ≡ without_first (is_reaped_at options.now moment.0) self.old.items }
         ensures capacity { self.new.room ≡ self.old.room }
     {
-        if !self.may_be_reaped(options, moment) {
-            return None;
-        }
-        let Some(at) = self.list.iter().position(|i| is_reaped(options, i, moment)) else {
-            self.opened_from = first_opening(&self.list);
-            return None;
-        };
-        self.list.remove(at)
+        look_anew(&mut self.fresh, &mut self.rest, options, moment);
+        next_beyond(&mut self.fresh, &mut self.rest, options, moment)
     }
 }

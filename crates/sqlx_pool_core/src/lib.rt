@@ -8,6 +8,7 @@
 mod held_list;
 pub mod idle_check;
 mod idle_list;
+mod idle_row;
 pub mod member;
 mod options;
 mod outside;

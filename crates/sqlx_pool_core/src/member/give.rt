@@ -15,7 +15,7 @@ ghost use Rattle.sqlx_pool_core.specs.PollSteps.{lent_since};
 ghost use Rattle.sqlx_pool_core.specs.Edits.{at_moment, core_without_loan, kept};
 
 use super::Member;
-use crate::idle_list::beyond;
+use crate::idle_row::beyond;
 use crate::steps::{Given, Lent};
 use crate::ticket::OwnedConn;
 use sqlx_text::Moment;

@@ -1,8 +1,8 @@
 //! How the line follows a step.
 
-ghost use Rattle.std.specs.Prelude.{◌≡◌, ◌+◌, ◌-◌, ◌<◌, ◌≤◌, ◌^◌, ◌&&◌, if◌then◌else◌};
+ghost use Rattle.std.specs.Prelude.{◌≡◌, ◌+◌, ◌-◌, ◌<◌, ◌≤◌, ◌^◌, ◌&&◌, ◌⊎◌, if◌then◌else◌};
 ghost use Rattle.sqlx_line.specs.Line.{ComesLast, beyond, entitled, is_below_edge, pushed};
-ghost use Rattle.sqlx_pool_core.specs.KeptLine.{IsLined, IsNearlyLined, leaves, taken_out};
+ghost use Rattle.sqlx_pool_core.specs.KeptLine.{IsLined, IsNearlyLined, EntitlesBeyond, leaves, taken_out};
 ghost use Rattle.sqlx_pool_core.specs.PollSteps.{phase_for, is_in_line};
 
 use crate::member::Member;
@@ -57,6 +57,7 @@ pub fn serve<C, L: Ledger>(pool: &Member<C>, line: &mut Line, steps: &mut Steps<
     ensures lined { IsLined pool.now line.new }
     ensures cost { steps.new + beyond line.new ≡ steps.old + beyond line.old }
     ensures once { steps.new ≤ steps.old + 1 }
+    ensures turns { (steps.new ≤ steps.old) ⊎ EntitlesBeyond pool.now line.old }
 {
     pool.sound();
     if line.beyond() > 0 && entitled(line) < pool.num_free() as usize {

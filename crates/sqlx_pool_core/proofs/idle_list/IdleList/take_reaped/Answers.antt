@@ -1,40 +1,28 @@
-use Rattle.std.proofs.Common.{rules, tests, ◌∙◌, sym, arith}
-use Rattle.std.proofs.lemmas.Iterator.Consumers.{YieldsList-from_deque}
-use Rattle.std.proofs.lemmas.Iterator.Search.{position_from_yields_List}
-use Rattle.sqlx_pool_core.specs.MaintenanceSteps.{is_reaped_at}
-use Rattle.sqlx_pool_core.proofs.IdleQueues.{all-left, bounded-without}
-use Rattle.sqlx_pool_core.proofs.MaintenanceCode.{none-taken, first-taken}
+use Rattle.std.proofs.Common.{◌∙◌, sym, ap, arith, length, length-append, find}
+use Rattle.sqlx_pool_core.specs.MaintenanceSteps.{is_reaped_at, without_first}
+use Rattle.sqlx_pool_core.proofs.IdleQueues.{found-behind, no-longer}
 use Rattle.sqlx_pool_core.proofs.idle_list.IdleList.take_reaped.Goals as goal
 
-pub returns-then-not-may_be_reaped-clause-rest : goal.returns-then-not-may_be_reaped-clause-rest
-returns-then-not-may_be_reaped-clause-rest g c = sym (all-left (is_reaped_at c.args.options.now c.args.moment.0) c.args.self.now.items (c.may_be_reaped.ensures c.if-not-may_be_reaped.true))
-
-pub returns-in_default-clause-first : goal.returns-in_default-clause-first
-returns-in_default-clause-first g c =
-    let place = position_from_yields_List (is_reaped_at c.args.options.now c.args.moment.0) _ _ _ c.position.ensures.ran (YieldsList-from_deque c.self.inside.list.items c.iter.ensures.rest) (λ x b q k. search (rules, tests)) in
-    let none = none-taken (is_reaped_at c.args.options.now c.args.moment.0) c.self.inside.list.items (sym c.in_default.is ∙ place) in
-    rw (← c.self.view_is) (sym none.0)
-
-pub returns-in_default-clause-rest : goal.returns-in_default-clause-rest
-returns-in_default-clause-rest g c =
-    let place = position_from_yields_List (is_reaped_at c.args.options.now c.args.moment.0) _ _ _ c.position.ensures.ran (YieldsList-from_deque c.self.inside.list.items c.iter.ensures.rest) (λ x b q k. search (rules, tests)) in
-    let none = none-taken (is_reaped_at c.args.options.now c.args.moment.0) c.self.inside.list.items (sym c.in_default.is ∙ place) in
-    rw (← c.self.view_is) (sym none.1)
-
-pub invariant_of-self-2 : goal.invariant_of-self-2
-invariant_of-self-2 g c =
-    let place = position_from_yields_List (is_reaped_at c.args.options.now c.args.moment.0) _ _ _ c.position.ensures.ran (YieldsList-from_deque c.self.inside.list.items c.iter.ensures.rest) (λ x b q k. search (rules, tests)) in
-    let taken = first-taken (is_reaped_at c.args.options.now c.args.moment.0) c.self.inside.list.items c.in-Some.at c.remove.result c.remove.new.self.items (sym c.in-Some.is ∙ place) c.remove.ensures.value c.remove.ensures.items (λ h. c.remove.ensures.variant.1 (grind (arith, h))) in
-    bounded-without (is_reaped_at c.args.options.now c.args.moment.0) c.self.inside.list.items c.remove.new.self.items c.self.inside.opened_from c.self.inside.in_turn c.self.invariant taken.1
+pub invariant_of-self : goal.invariant_of-self
+invariant_of-self g c =
+    let all = ap length c.look_anew.ensures.items in
+    let e = ap length c.next_beyond.ensures.rest ∙ length-append c.look_anew.new.fresh.items _ in
+    let n = length-append c.look_anew.new.fresh.items c.look_anew.new.rest.items in
+    let less = no-longer (is_reaped_at c.args.options.now c.args.moment.0) c.look_anew.new.rest.items in
+    let fits = c.self.invariant.all in
+    record {
+      all = omega (arith, all, e, n, less, fits);
+      in_front = let room = c.self.invariant.in_front in let same = c.next_beyond.ensures.fresh ∙ c.look_anew.ensures.fresh in omega (arith, room, same);
+      in_back = let room = c.self.invariant.in_back in let same = c.next_beyond.ensures.capacity ∙ c.look_anew.ensures.capacity in omega (arith, room, same);
+      small = c.self.invariant.small;
+    }
 
 pub returns-clause-first : goal.returns-clause-first
 returns-clause-first g c =
-    let place = position_from_yields_List (is_reaped_at c.args.options.now c.args.moment.0) _ _ _ c.position.ensures.ran (YieldsList-from_deque c.self.inside.list.items c.iter.ensures.rest) (λ x b q k. search (rules, tests)) in
-    let taken = first-taken (is_reaped_at c.args.options.now c.args.moment.0) c.self.inside.list.items c.in-Some.at c.remove.result c.remove.new.self.items (sym c.in-Some.is ∙ place) c.remove.ensures.value c.remove.ensures.items (λ h. c.remove.ensures.variant.1 (grind (arith, h))) in
-    rw (← c.self.view_is) taken.0
+    let behind = found-behind (is_reaped_at c.args.options.now c.args.moment.0) c.look_anew.new.fresh.items c.look_anew.new.rest.items c.look_anew.ensures.none in
+    rw (← c.self.view_is) (c.next_beyond.ensures.first ∙ sym behind.0 ∙ ap (find (is_reaped_at c.args.options.now c.args.moment.0)) c.look_anew.ensures.items)
 
 pub returns-clause-rest : goal.returns-clause-rest
 returns-clause-rest g c =
-    let place = position_from_yields_List (is_reaped_at c.args.options.now c.args.moment.0) _ _ _ c.position.ensures.ran (YieldsList-from_deque c.self.inside.list.items c.iter.ensures.rest) (λ x b q k. search (rules, tests)) in
-    let taken = first-taken (is_reaped_at c.args.options.now c.args.moment.0) c.self.inside.list.items c.in-Some.at c.remove.result c.remove.new.self.items (sym c.in-Some.is ∙ place) c.remove.ensures.value c.remove.ensures.items (λ h. c.remove.ensures.variant.1 (grind (arith, h))) in
-    rw (← c.self.view_is) taken.1
+    let behind = found-behind (is_reaped_at c.args.options.now c.args.moment.0) c.look_anew.new.fresh.items c.look_anew.new.rest.items c.look_anew.ensures.none in
+    rw (← c.self.view_is) (c.next_beyond.ensures.rest ∙ sym behind.1 ∙ ap (without_first (is_reaped_at c.args.options.now c.args.moment.0)) c.look_anew.ensures.items)

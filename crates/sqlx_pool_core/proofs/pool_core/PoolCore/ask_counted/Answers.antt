@@ -6,7 +6,8 @@ use Rattle.sqlx_pool_core.specs.Sound.{IsSound}
 use Rattle.sqlx_pool_core.specs.KeptLine.{IsNearlyLined}
 use Rattle.sqlx_pool_core.proofs.Alone.{ask-alone}
 use Rattle.sqlx_pool_core.proofs.KeptLine.{comes-last}
-use Rattle.sqlx_pool_core.proofs.LineSteps.{taken-back, asked-nearly, looks-asked, lone-back, looks-once, has-joined}
+use Rattle.sqlx_pool_core.proofs.LineSteps.{taken-back, asked-nearly, lone-back, has-joined}
+use Rattle.sqlx_pool_core.proofs.Looks.{looks-asked, looks-once}
 use Rattle.sqlx_pool_core.proofs.pool_core.PoolCore.ask_counted.Goals as goal
 
 pub join-requires-clause-last : goal.join-requires-clause-last
@@ -40,4 +41,4 @@ returns-clause-makes g c =
 pub returns-clause-cost : goal.returns-clause-cost
 returns-clause-cost g c =
     looks-asked _ _ _ _ _ _ c.args.client _ _ _ _ _ c.self.view_is c.self.invariant.lined c.in-Ok.ensures.becomes (has-joined _ _ _ _ c.join.result c.join.ensures.becomes c.if-not-join.false c.in-Ok.ensures.numbered) c.serve.ensures.lined c.join.ensures.cost c.serve.ensures.cost
-    c.serve.ensures.once
+    c.serve.ensures.once c.sound.ensures c.serve.ensures.turns

@@ -4,7 +4,8 @@ use Rattle.sqlx_pool_core.specs.PollSteps.{cancel_marks}
 use Rattle.sqlx_pool_core.proofs.AnswersAtMarks.{cancel-at}
 use Rattle.sqlx_pool_core.proofs.pool_core.PoolCore.cancel_counted.Goals as goal
 use Rattle.sqlx_pool_core.specs.KeptLine.{IsNearlyLined}
-use Rattle.sqlx_pool_core.proofs.LineSteps.{cancel-nearly, looks-without}
+use Rattle.sqlx_pool_core.proofs.LineSteps.{cancel-nearly}
+use Rattle.sqlx_pool_core.proofs.Looks.{looks-without}
 
 pub returns-clause-makes : goal.returns-clause-makes
 returns-clause-makes g c =
@@ -25,4 +26,4 @@ serve-requires g c = record {
 
 pub returns-clause-cost : goal.returns-clause-cost
 returns-clause-cost g c =
-    looks-without _ _ _ _ _ _ c.args.ticket c.cancel-done.result _ _ _ c.self.view_is c.sound.ensures c.self.invariant.lined c.take_out.ensures.becomes c.serve.ensures.lined c.cancel-done.ensures.draws.more_tickets c.take_out.ensures.cost c.serve.ensures.cost c.serve.ensures.once
+    looks-without _ _ _ _ _ _ c.args.ticket c.cancel-done.result _ _ _ c.self.view_is c.sound.ensures c.self.invariant.lined c.take_out.ensures.becomes c.serve.ensures.lined c.cancel-done.ensures.draws.more_tickets c.take_out.ensures.cost c.serve.ensures.cost c.serve.ensures.once c.serve.ensures.turns

@@ -4,6 +4,7 @@ use Rattle.sqlx_pool_core.specs.Sound.{IsSound}
 use Rattle.sqlx_pool_core.specs.Balance.{one_if}
 use Rattle.sqlx_pool_core.specs.ReturnSteps.{end_marks}
 use Rattle.sqlx_pool_core.proofs.AnswersAtMarks.{owner-at}
+use Rattle.sqlx_pool_core.proofs.Looks.{looks-beside}
 use Rattle.sqlx_pool_core.proofs.pool_core.PoolCore.end_counted.Goals as goal
 
 pub returns-clause-makes : goal.returns-clause-makes
@@ -17,3 +18,6 @@ pub returns-clause-marks : goal.returns-clause-marks
 returns-clause-marks g c = λ marks s.
     let sound : IsSound c.args.self.now = subst IsSound c.self.view_is c.sound.ensures in
     (search rules) ∙ owner-at c.args.self.now marks s sound c.args.client c.args.id
+
+pub returns-clause-cost : goal.returns-clause-cost
+returns-clause-cost g c = looks-beside _ _ _ _ _ _ _ c.self.view_is c.self.invariant.lined c.serve.ensures.lined c.end-held.ensures.draws.more_tickets c.serve.ensures.cost c.serve.ensures.once c.sound.ensures c.serve.ensures.turns

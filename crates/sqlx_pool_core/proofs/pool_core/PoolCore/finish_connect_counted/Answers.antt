@@ -3,7 +3,7 @@ use Rattle.std.proofs.Common.{rules, ◌≡◌, ◌∙◌, ap, ℕ, max}
 use Rattle.sqlx_pool_core.specs.Core.{ticket_of}
 use Rattle.sqlx_pool_core.specs.PollSteps.{connect_answer, connect_marks}
 use Rattle.sqlx_pool_core.proofs.pool_core.PoolCore.finish_connect_counted.Goals as goal
-use Rattle.sqlx_pool_core.proofs.KeptLine.{looks-beside}
+use Rattle.sqlx_pool_core.proofs.Looks.{looks-beside}
 use Rattle.sqlx_pool_core.proofs.LineSteps.{nearly-from, connect-beside}
 
 pub returns-clause-makes : goal.returns-clause-makes
@@ -26,4 +26,4 @@ serve-requires g c = record {
 }
 
 pub returns-clause-cost : goal.returns-clause-cost
-returns-clause-cost g c = looks-beside _ _ _ _ _ _ _ c.self.view_is c.self.invariant.lined c.serve.ensures.lined c.finish_connect-after.ensures.draws.more_tickets c.serve.ensures.cost c.serve.ensures.once
+returns-clause-cost g c = looks-beside _ _ _ _ _ _ _ c.self.view_is c.self.invariant.lined c.serve.ensures.lined c.finish_connect-after.ensures.draws.more_tickets c.serve.ensures.cost c.serve.ensures.once c.sound.ensures c.serve.ensures.turns

@@ -2,7 +2,7 @@ use Rattle.sqlx_pool_core.proofs.Alone.{plain-alone, moves-alone}
 use Rattle.std.proofs.Common.{rules, refl, ◌≡◌, ◌∙◌, ap, Bool}
 use Rattle.sqlx_pool_core.specs.PollSteps.{phase_for, judged, tested_at, may_test_next, test_answer, test_marks}
 use Rattle.sqlx_pool_core.proofs.pool_core.PoolCore.finish_test_counted.Goals as goal
-use Rattle.sqlx_pool_core.proofs.KeptLine.{looks-beside}
+use Rattle.sqlx_pool_core.proofs.Looks.{looks-beside}
 use Rattle.sqlx_pool_core.proofs.LineSteps.{nearly-from, test-beside}
 
 pub returns-clause-makes : goal.returns-clause-makes
@@ -25,4 +25,4 @@ serve-requires g c = record {
 }
 
 pub returns-clause-cost : goal.returns-clause-cost
-returns-clause-cost g c = looks-beside _ _ _ _ _ _ _ c.self.view_is c.self.invariant.lined c.serve.ensures.lined c.finish_test-after.ensures.draws.more_tickets c.serve.ensures.cost c.serve.ensures.once
+returns-clause-cost g c = looks-beside _ _ _ _ _ _ _ c.self.view_is c.self.invariant.lined c.serve.ensures.lined c.finish_test-after.ensures.draws.more_tickets c.serve.ensures.cost c.serve.ensures.once c.sound.ensures c.serve.ensures.turns

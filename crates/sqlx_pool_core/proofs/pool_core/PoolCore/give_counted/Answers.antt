@@ -5,6 +5,7 @@ use Rattle.sqlx_pool_core.specs.Sound.{IsSound}
 use Rattle.sqlx_pool_core.specs.Balance.{given_back}
 use Rattle.sqlx_pool_core.specs.ReturnSteps.{give_answer, give_marks}
 use Rattle.sqlx_pool_core.proofs.AnswersAtMarks.{give-at}
+use Rattle.sqlx_pool_core.proofs.Looks.{looks-beside}
 use Rattle.sqlx_pool_core.proofs.pool_core.PoolCore.give_counted.Goals as goal
 
 pub returns-clause-makes : goal.returns-clause-makes
@@ -19,3 +20,6 @@ returns-clause-marks g c = λ marks s.
     let sound : IsSound c.args.self.now = subst IsSound c.self.view_is c.sound.ensures in
     let answer : c.give-given.result ≡ give_answer c.args.self.now.options c.args.self.now.shut (max c.args.self.now.last c.args.now.0) c.args.accepted (loan_of c.args.client c.args.lent.id c.args.self.now.held) c.args.lent = search rules in
     give-at c.args.self.now marks s sound c.args.client (max c.args.self.now.last c.args.now.0) c.args.accepted c.args.lent c.give-given.result answer
+
+pub returns-clause-cost : goal.returns-clause-cost
+returns-clause-cost g c = looks-beside _ _ _ _ _ _ _ c.self.view_is c.self.invariant.lined c.serve.ensures.lined c.give-given.ensures.draws.more_tickets c.serve.ensures.cost c.serve.ensures.once c.sound.ensures c.serve.ensures.turns

@@ -1,6 +1,7 @@
 use Rattle.sqlx_pool_core.proofs.Alone.{plain-alone, moves-alone}
 use Rattle.std.proofs.Common.{ap₂, ℕ, Bool, max}
 use Rattle.sqlx_pool_core.specs.MaintenanceSteps.{done_marks}
+use Rattle.sqlx_pool_core.proofs.Looks.{looks-beside}
 use Rattle.sqlx_pool_core.proofs.pool_core.PoolCore.minimum_done_counted.Goals as goal
 
 pub returns-clause-makes : goal.returns-clause-makes
@@ -9,3 +10,6 @@ returns-clause-makes g c =
 
 pub returns-clause-balance : goal.returns-clause-balance
 returns-clause-balance g c = moves-alone _ _ _ c.self.view_is (λ core. done_marks core.shut core.next_conn (max core.last c.args.now.0) c.args.raw) _ 0 0 (ap₂ (λ (b : Bool) (m : ℕ). done_marks b c.self.inside.pool.next_conn m c.args.raw) c.self.invariant.alone.closed c.moment-moment.ensures) c.minimum_done-back.ensures.balance
+
+pub returns-clause-cost : goal.returns-clause-cost
+returns-clause-cost g c = looks-beside _ _ _ _ _ _ _ c.self.view_is c.self.invariant.lined c.serve.ensures.lined c.minimum_done-back.ensures.draws.more_tickets c.serve.ensures.cost c.serve.ensures.once c.sound.ensures c.serve.ensures.turns

@@ -4,7 +4,8 @@ use Rattle.sqlx_pool_core.specs.Core.{free}
 use Rattle.sqlx_pool_core.specs.CoreTurn.{before}
 use Rattle.sqlx_pool_core.specs.PollSteps.{phase_for, start_marks}
 use Rattle.sqlx_pool_core.specs.KeptLine.{IsNearlyLined, taken_out}
-use Rattle.sqlx_pool_core.proofs.LineSteps.{told-first, start-told, start-nearly, looks-without}
+use Rattle.sqlx_pool_core.proofs.LineSteps.{told-first, start-told, start-nearly}
+use Rattle.sqlx_pool_core.proofs.Looks.{looks-without}
 use Rattle.sqlx_pool_core.proofs.pool_core.PoolCore.start_counted.Goals as goal
 
 pub start-started-requires : goal.start-started-requires
@@ -42,4 +43,4 @@ returns-clause-answer g c = turn-alone _ _ c.start-started.new.self c.self.view_
 
 pub returns-clause-cost : goal.returns-clause-cost
 returns-clause-cost g c =
-    looks-without _ _ _ _ _ _ c.args.ticket c.leaves-went.result _ _ _ c.self.view_is c.sound.ensures c.self.invariant.lined c.take_out.ensures.becomes c.serve.ensures.lined c.start-started.ensures.draws.more_tickets c.take_out.ensures.cost c.serve.ensures.cost c.serve.ensures.once
+    looks-without _ _ _ _ _ _ c.args.ticket c.leaves-went.result _ _ _ c.self.view_is c.sound.ensures c.self.invariant.lined c.take_out.ensures.becomes c.serve.ensures.lined c.start-started.ensures.draws.more_tickets c.take_out.ensures.cost c.serve.ensures.cost c.serve.ensures.once c.serve.ensures.turns

@@ -2,7 +2,7 @@ use Rattle.std.proofs.Common.{arith, ap, ◌∙◌}
 use Rattle.std.specs.VecDeque.Iter.{deque_iter_rest}
 use Rattle.std.proofs.lemmas.Iterator.Consumers.{YieldsList-from_deque, YieldsList-end}
 use Rattle.sqlx_pool_core.proofs.IdleQueues.{all-each, all-map, all-push}
-use Rattle.sqlx_pool_core.proofs.idle_list.first_opening.Goals as goal
+use Rattle.sqlx_pool_core.proofs.idle_row.first_opening.Goals as goal
 
 pub loop-idle-preserved : goal.loop-idle-preserved
 loop-idle-preserved g c = rw c.min-first.ensures (all-push _ c.loop-idle.yielded c.in-Some.idle (all-each (λ b k. omega (arith, k)) c.loop-idle.yielded c.loop-idle.invariant) (omega arith))
