@@ -1,4 +1,5 @@
 //! Two connections to one store, and the connector that opens them.
+use crate::callers::pair;
 use mem_driver::MemStore;
 use shared_mem_driver::SharedMemConnector;
 use sqlx_any::{
@@ -85,13 +86,12 @@ fn left<B: AnyConnectionBackend + Drop>(
     Ok(line)
 }
 
-// The same with connections of one connector, the second of which is closed.
-fn let_go<B: AnyConnectionBackend + Drop, C: Connector<Any<B>>>(
+// The same with a pair, the second of which is closed.
+fn let_go<B: AnyConnectionBackend + Drop>(
     alloc: Global,
-    connector: &mut C,
+    pair: Result<(AnyConnection<B>, AnyConnection<B>), Error>,
 ) -> Result<String, Error> {
-    let first = opened(alloc, connector)?;
-    let mut second = opened(alloc, connector)?;
+    let (first, mut second) = pair?;
     let line = left(alloc, first, &mut second);
     second.close()?;
     Ok(line?)
@@ -99,8 +99,7 @@ fn let_go<B: AnyConnectionBackend + Drop, C: Connector<Any<B>>>(
 
 #[test]
 fn a_connection_that_is_let_go_in_a_level(rt: HostRuntime) -> Result<(), Fail> {
-    let mut connector = SharedMemConnector::new(rt.alloc(), rt, MemStore::new(rt.alloc()))?;
-    let line = told(rt.alloc(), let_go(rt.alloc(), &mut connector))?;
+    let line = told(rt.alloc(), let_go(rt.alloc(), pair(rt.alloc(), rt)))?;
     assert_eq!(rt; line.as_str(), "0|1|None|1|");
     Ok(())
 }
