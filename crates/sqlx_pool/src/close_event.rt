@@ -52,7 +52,7 @@ impl<C: Depth + Drop, O: Drop, H: Ledger, L: Loans> CloseEventOf<C, O, H, L> {
         rt: &R,
         step: &mut S,
     ) -> Option<Result<S::Output, Error>>
-        ensures { Watched (λ open. Saw C.levels L.max L.cuts (λ state. is_open state.marks ≡ open)) result }
+        ensures { Watched (λ opened. Saw C.levels L.max L.cuts (λ state. is_open state.marks ≡ opened)) result }
     {
         if !self.begun {
             self.begun = true;

@@ -26,7 +26,13 @@ pub fn keep(alloc: Global, conn: &mut AnyConnection<MemSession>) -> Result<(), E
 pub fn pair<R: Wait + Copy + Drop>(
     alloc: Global,
     rt: R,
-) -> Result<(AnyConnection<SharedMemConnection<R>>, AnyConnection<SharedMemConnection<R>>), Error>
+) -> Result<
+    (
+        AnyConnection<SharedMemConnection<R>>,
+        AnyConnection<SharedMemConnection<R>>,
+    ),
+    Error,
+>
     ensures { IfOk result (λ two. IsOpened two.0.backend.session × IsOpened two.1.backend.session) }
 {
     let options = AnyConnectOptions::parse(alloc, "mem:")?;

@@ -55,7 +55,10 @@ fn a_caller_opens_a_database_in_memory(rt: HostRuntime) -> Result<(), Fail> {
 fn a_caller_opens_its_file(rt: HostRuntime) -> Result<(), Fail> {
     let alloc = rt.alloc();
     let mut files = SqliteFiles::new(rt);
-    let line = told(alloc, answers_on(alloc, notes(alloc, &mut files), &[Act::Depth]))?;
+    let line = told(
+        alloc,
+        answers_on(alloc, notes(alloc, &mut files), &[Act::Depth]),
+    )?;
     assert_eq!(rt; line.as_str(), "0|");
     for name in ["notes.db", "notes.db-wal"] {
         let _ = fs::remove_file(&rt, name);
