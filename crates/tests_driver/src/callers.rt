@@ -1,12 +1,18 @@
-//! A caller whose contract is told by the driver's own.
-ghost use Rattle.std.specs.Prelude.{◌<◌};
+//! Callers as `CALLING.md` of `mem_driver` and `shared_mem_driver` names them, with their contracts.
+ghost use Rattle.std.specs.Prelude.{◌×◌, ◌<◌, IfOk};
 ghost use Rattle.sqlx_traits.specs.Calls.{commit};
 ghost use Rattle.mem_driver.specs.Backend.{Does};
+ghost use Rattle.shared_mem_driver.specs.Shared.{IsOpened};
 
-use mem_driver::MemSession;
-use sqlx_any::{AnyConnection, AnyTransactionManager, TransactionManager};
+use mem_driver::{MemSession, MemStore};
+use shared_mem_driver::{SharedMemConnection, SharedMemConnector};
+use sqlx_any::{
+    AnyConnectOptions, AnyConnection, AnyTransactionManager, ConnectOptions, Connector,
+    TransactionManager,
+};
 use sqlx_text::Error;
 use std::alloc::Global;
+use std::sync::Wait;
 
 /// Commits the innermost level.
 pub fn keep(alloc: Global, conn: &mut AnyConnection<MemSession>) -> Result<(), Error>
@@ -14,4 +20,23 @@ pub fn keep(alloc: Global, conn: &mut AnyConnection<MemSession>) -> Result<(), E
     ensures { Does commit conn.old.backend result conn.new.backend }
 {
     AnyTransactionManager::<MemSession>::commit(alloc, conn)
+}
+
+/// Two connections to a new store.
+pub fn pair<R: Wait + Copy + Drop>(
+    alloc: Global,
+    rt: R,
+) -> Result<
+    (
+        AnyConnection<SharedMemConnection<R>>,
+        AnyConnection<SharedMemConnection<R>>,
+    ),
+    Error,
+>
+    ensures { IfOk result (λ two. IsOpened two.0.backend.session × IsOpened two.1.backend.session) }
+{
+    let options = AnyConnectOptions::parse(alloc, "mem:")?;
+    let mut connector = SharedMemConnector::new(alloc, rt, MemStore::new(alloc))?;
+    let first = connector.connect(alloc, &options)?;
+    Ok((first, connector.connect(alloc, &options)?))
 }

@@ -12,4 +12,4 @@ mod statements;
 #[cfg(test)]
 mod undo;
 
-pub use callers::keep;
+pub use callers::{keep, pair};

@@ -1,5 +1,6 @@
 //! Two connections to one store, and the connector that opens them.
-use mem_driver::MemStore;
+use crate::callers::pair;
+use mem_driver::{Answer, MemLink, MemSession, MemStore};
 use shared_mem_driver::SharedMemConnector;
 use sqlx_any::{
     Any, AnyConnectOptions, AnyConnection, AnyConnectionBackend, ConnectOptions, Connection,
@@ -8,6 +9,7 @@ use sqlx_any::{
 use sqlx_text::{Error, OutOfMemory};
 use std::alloc::Global;
 use std::test::Fail;
+use tests_kv::opened::answers_by;
 use tests_kv::shown::told;
 use tests_kv::{Act, answers};
 
@@ -85,13 +87,12 @@ fn left<B: AnyConnectionBackend + Drop>(
     Ok(line)
 }
 
-// The same with connections of one connector, the second of which is closed.
-fn let_go<B: AnyConnectionBackend + Drop, C: Connector<Any<B>>>(
+// The same with a pair, the second of which is closed.
+fn let_go<B: AnyConnectionBackend + Drop>(
     alloc: Global,
-    connector: &mut C,
+    pair: Result<(AnyConnection<B>, AnyConnection<B>), Error>,
 ) -> Result<String, Error> {
-    let first = opened(alloc, connector)?;
-    let mut second = opened(alloc, connector)?;
+    let (first, mut second) = pair?;
     let line = left(alloc, first, &mut second);
     second.close()?;
     Ok(line?)
@@ -99,8 +100,29 @@ fn let_go<B: AnyConnectionBackend + Drop, C: Connector<Any<B>>>(
 
 #[test]
 fn a_connection_that_is_let_go_in_a_level(rt: HostRuntime) -> Result<(), Fail> {
-    let mut connector = SharedMemConnector::new(rt.alloc(), rt, MemStore::new(rt.alloc()))?;
-    let line = told(rt.alloc(), let_go(rt.alloc(), &mut connector))?;
+    let line = told(rt.alloc(), let_go(rt.alloc(), pair(rt.alloc(), rt)))?;
     assert_eq!(rt; line.as_str(), "0|1|None|1|");
+    Ok(())
+}
+
+// A store with a row that a session wrote.
+fn with_a_row(alloc: Global) -> Result<MemStore, Error> {
+    let mut store = MemStore::new(alloc);
+    let link = MemLink::connect(alloc, &mut store)?;
+    let mut conn = AnyConnection::new(MemSession::new(store, link, Answer::Accept));
+    let put = answers(alloc, &mut conn, &[Act::Put(1, 5)]);
+    let (store, link) = conn.into_backend().into_parts();
+    drop(link);
+    let _put = put?;
+    Ok(store)
+}
+
+#[test]
+fn a_store_that_is_handed_in(rt: HostRuntime) -> Result<(), Fail> {
+    let store = with_a_row(rt.alloc())?;
+    let mut connector = SharedMemConnector::new(rt.alloc(), rt, store)?;
+    let answered = answers_by(rt.alloc(), &mut connector, "mem:", &[Act::Get(1)]);
+    let line = told(rt.alloc(), answered)?;
+    assert_eq!(rt; line.as_str(), "Some(5)|");
     Ok(())
 }
