@@ -1,5 +1,5 @@
 -- What a statement does: which refusal it meets, and the session and the answer after it.
-use Rattle.std.specs.Prelude.{ℕ, ◌+◌, ◌-◌, ◌^◌, min, ℤ, pos, nat_lt, is_some, if◌then◌else◌, List, [], ◌∷◌, Option, Some, None}
+use Rattle.std.specs.Prelude.{ℕ, ◌+◌, ◌-◌, ◌^◌, min, ℤ, nat_lt, is_some, if◌then◌else◌, List, [], ◌∷◌, Option, Some, None}
 use Rattle.sqlx_savepoints.specs.Rows.{Rows, laid, sees}
 use Rattle.sqlx_savepoints.specs.NamedSavepoints.{Named, after, ran, wrote}
 use Rattle.sqlx_savepoints.specs.Texts.{rollback_at}
@@ -13,7 +13,6 @@ use Rattle.mem_store.specs.declared.statement.Statement.{Statement}
 use Rattle.mem_store.specs.declared.statement.Statement.TheVariants.{Put as PutText, Delete as DeleteText, Get as GetText, SelectAll as SelectAllText, SelectOne as SelectOneText, Level as LevelOf}
 use Rattle.mem_store.specs.declared.act.Act.{Act}
 use Rattle.mem_store.specs.declared.act.Act.TheVariants.{Put, Delete, Get, SelectAll, SelectOne, Level}
-use Rattle.mem_store.specs.declared.plain.Plain.{Plain}
 use Rattle.mem_store.specs.declared.runs.Runs.{Runs}
 use Rattle.mem_store.specs.Store.{Store, Session, others_in_level, store_moved, state_of, moved}
 use Rattle.mem_store.specs.Undo.{Undo, noted_at, undo_after, undo_rolled_back}
@@ -117,15 +116,6 @@ seen_by key session = sees session.link.own session.store.rows key
 -- the rows that the session's connection sees
 abbrev pub rows_seen : Session → Rows
 rows_seen session = laid session.link.own session.store.rows
-
--- the answer to an act that isn't refused
-abbrev pub plain_of : Act → Session → Plain
-plain_of (Put key value) session = record { affected = 1; value = None }
-plain_of (Delete key) session = record { affected = if is_some (seen_by key session) then 1 else 0; value = None }
-plain_of (Get key) session = record { affected = 0; value = seen_by key session }
-plain_of SelectAll session = record { affected = 0; value = None }
-plain_of SelectOne session = record { affected = 0; value = Some (pos 1) }
-plain_of (Level level) session = record { affected = 0; value = None }
 
 -- the state after the rollback text at its depth, or, where that text's name isn't on the list, with the depth alone lowered by one
 abbrev pub rolled_back : Named → Named

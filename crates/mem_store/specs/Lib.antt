@@ -5,5 +5,4 @@ pub mod SavepointStack
 pub mod Store
 pub mod Acts
 pub mod Errors
-pub mod Outcomes
 pub mod UndoBound

@@ -1,25 +1,19 @@
 //! One link of a store at work.
-ghost use Rattle.std.specs.Prelude.{◌≡◌, ◌≤◌, ◌<◌, Option, Some, None, IfOk, OnOk, OnErr, IsOkUnless, MatchResult};
+ghost use Rattle.std.specs.Prelude.{◌≡◌, ◌≤◌, ◌<◌, Some, None, IfOk, OnOk, OnErr, MatchResult};
 ghost use Rattle.std.specs.FinMap.{entries};
-ghost use Rattle.mem_store.specs.Statements.{Reads};
-ghost use Rattle.mem_store.specs.Acts.{act_of, refusal_of, refusal_here, fault_of, level_refusal, after_act, plain_of, refused, rows_seen, seen_by, after_start_rollback};
-ghost use Rattle.mem_store.specs.Outcomes.{IsDone, IsRefused};
+ghost use Rattle.mem_store.specs.Acts.{refusal_of, refusal_here, fault_of, level_refusal, after_act, refused, rows_seen, seen_by, after_start_rollback};
 ghost use Rattle.mem_store.specs.Undo.{Counts, CountsFall};
 ghost use Rattle.mem_store.specs.Store.{state_of};
-ghost use Rattle.mem_store.specs.declared.statement.Statement.{Statement as Held};
 ghost use Rattle.mem_store.specs.declared.act.Act.{Act as Doing};
-ghost use Rattle.mem_store.specs.declared.refusal.Refusal.{Refusal as Reason};
 
-use crate::act::{Act, with_arguments};
+use crate::act::Act;
 use crate::answer::Answer;
 use crate::link::StoreLink;
-use crate::plain::Plain;
 use crate::refusal::Refusal;
-use crate::statement::statement_of;
 use crate::store::MemStore;
 use sqlx_line::Steps;
 use sqlx_savepoints::LevelText;
-use sqlx_text::{Error, OutOfMemory};
+use sqlx_text::OutOfMemory;
 use std::alloc::Global;
 use std::marker::{Brand, Model};
 use std::sync::ledger::{Blank, Ledger};
@@ -102,40 +96,6 @@ impl StoreSession {
         self.link.undo_len()
     }
 
-    /// Runs a statement. A refused one changes no row and no level.
-    pub fn statement(&mut self, text: &str, arguments: &[i64]) -> Result<Plain, Error>
-        // A refusal comes where text, arguments and state call for it, and for nothing else; it
-        // spends what was handed in.
-        ensures refused { (read : Option Held) (reason : Reason) → Reads text.now read → refusal_of (act_of read arguments.now) self.old ≡ Some reason → IsRefused reason self.old result self.new }
-
-        // Else it runs, unless memory is wanting.
-        ensures ran { (read : Option Held) (act : Doing) → Reads text.now read → act_of read arguments.now ≡ Some act → refusal_of (Some act) self.old ≡ None → IsDone act self.old result self.new }
-        ensures only { (read : Option Held) → Reads text.now read → refusal_of (act_of read arguments.now) self.old ≡ None → IsOkUnless result Error.OutOfMemory × OnErr result (self.new ≡ self.old) }
-    {
-        self.answer(with_arguments(statement_of(text), arguments))
-    }
-
-    /// Does what is asked for, unless it is refused or memory is wanting.
-    fn answer(&mut self, act: Option<Act>) -> Result<Plain, Error>
-        ensures refused { (reason : Reason) → refusal_of act self.old ≡ Some reason → IsRefused reason self.old result self.new }
-        ensures ran { (doing : Doing) → act ≡ Some doing → refusal_of act self.old ≡ None → IsDone doing self.old result self.new }
-        ensures only { refusal_of act self.old ≡ None → IsOkUnless result Error.OutOfMemory × OnErr result (self.new ≡ self.old) }
-    {
-        match self.admitted(act) {
-            Ok(act) => {
-                let plain = self.plain(act);
-                match self.run(act) {
-                    Ok(()) => Ok(plain),
-                    Err(OutOfMemory) => Err(Error::OutOfMemory),
-                }
-            }
-            Err(refusal) => {
-                self.refuse();
-                Err(refusal.error())
-            }
-        }
-    }
-
     /// Notes a refusal, which spends what was handed in.
     pub fn refuse(&mut self)
         ensures { self.new ≡ refused self.old }
@@ -212,20 +172,6 @@ impl StoreSession {
     {
         let rows = self.store.rows_under(&self.link)?;
         rows.pairs(alloc)
-    }
-
-    /// What an act that isn't refused answers. Nothing is done yet.
-    fn plain(&self, act: Act) -> Plain
-        ensures { result ≡ plain_of act self.now }
-    {
-        let (affected, value) = match act {
-            Act::Put(_, _) => (1, None),
-            Act::Delete(key) => (if self.seen(key).is_some() { 1 } else { 0 }, None),
-            Act::Get(key) => (0, self.seen(key)),
-            Act::SelectOne => (0, Some(1)),
-            Act::SelectAll | Act::Level(_) => (0, None),
-        };
-        Plain { affected, value }
     }
 
     /// Does an act that isn't refused.

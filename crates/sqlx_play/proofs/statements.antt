@@ -1,5 +1,4 @@
 -- A statement on a connection of a client's.
-pub mod LinkOutcomes
 pub mod Leaves
 pub mod ActsAlike
 pub mod StatementStands

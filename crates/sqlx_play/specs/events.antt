@@ -6,5 +6,4 @@ pub mod Closes
 pub mod GivesBack
 pub mod LoanEnds
 pub mod ConnectByReply
-pub mod LinkActs
 pub mod StatementRuns

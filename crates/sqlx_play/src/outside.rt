@@ -9,7 +9,7 @@ ghost use Rattle.mem_store.specs.Store.{Link};
 ghost use Rattle.sqlx_play.specs.outside.ScriptCalls.{Does, does-facts};
 ghost use Rattle.sqlx_play.specs.outside.ScriptOutside.{beside, depth_of, give_letters, is_left_open, next_connect, poll_letters, refused_by};
 
-use mem_store::{MemStore, StoreLink};
+use mem_client::{ClientLink, MemStore};
 use sqlx_pool_core::{Outside, PoolConnectionMetadata};
 use sqlx_script::{AfterConnectAnswer, ConnectAnswer, GiveAnswers, HookAnswer, PollAnswers};
 use sqlx_text::{DatabaseFault, Error, ErrorKind, IoFault, UStr};
@@ -217,7 +217,7 @@ impl ScriptOutside {
     }
 
     // The answer of a hook that can say no.
-    fn ask_hook(&mut self, answer: HookAnswer, conn: &StoreLink) -> Result<bool, Error>
+    fn ask_hook(&mut self, answer: HookAnswer, conn: &ClientLink) -> Result<bool, Error>
         ensures becomes { self.new ≡ record self.old { left_open = self.new.left_open; refusals = self.new.refusals } }
         ensures answered { depth_of self.old conn.now ≡ 0 → says_yes result (depth_of self.new conn.now) ≡ accepts answer }
         ensures deeper { depth_of self.old conn.now ≤ depth_of self.new conn.now }
@@ -247,7 +247,7 @@ impl ScriptOutside {
     }
 }
 
-impl Outside<StoreLink, ()> for ScriptOutside {
+impl Outside<ClientLink, ()> for ScriptOutside {
     ghost faults = { λ out. out.faults };
 
     ghost refusals = { λ out. out.refusals };
@@ -256,11 +256,11 @@ impl Outside<StoreLink, ()> for ScriptOutside {
 
     ghost does = { Does };
 
-    fn connect(&mut self, alloc: Global, _options: &()) -> Result<StoreLink, Error>
+    fn connect(&mut self, alloc: Global, _options: &()) -> Result<ClientLink, Error>
         ensures { Does (call.connect _options.now result) self.old self.new }
     {
         match self.take_connect() {
-            ConnectAnswer::Connected => match self.store.connect(alloc) {
+            ConnectAnswer::Connected => match ClientLink::connect(alloc, &mut self.store) {
                 Ok(link) => {
                     self.forget(link.number());
                     Ok(link)
@@ -282,7 +282,7 @@ impl Outside<StoreLink, ()> for ScriptOutside {
         }
     }
 
-    fn ping(&mut self, conn: &mut StoreLink) -> Result<(), Error>
+    fn ping(&mut self, conn: &mut ClientLink) -> Result<(), Error>
         ensures { Does (call.ping conn.old result conn.new) self.old self.new }
     {
         if self.tests == 0 || self.ping {
@@ -294,7 +294,7 @@ impl Outside<StoreLink, ()> for ScriptOutside {
 
     fn after_connect(
         &mut self,
-        conn: &mut StoreLink,
+        conn: &mut ClientLink,
         _meta: PoolConnectionMetadata,
     ) -> Result<(), Error>
         ensures { Does (call.after_connect conn.old _meta result conn.new) self.old self.new }
@@ -318,7 +318,7 @@ impl Outside<StoreLink, ()> for ScriptOutside {
 
     fn before_acquire(
         &mut self,
-        conn: &mut StoreLink,
+        conn: &mut ClientLink,
         _meta: PoolConnectionMetadata,
     ) -> Result<bool, Error>
         ensures { Does (call.before_acquire conn.old _meta result conn.new) self.old self.new }
@@ -331,7 +331,7 @@ impl Outside<StoreLink, ()> for ScriptOutside {
 
     fn after_release(
         &mut self,
-        conn: &mut StoreLink,
+        conn: &mut ClientLink,
         _meta: PoolConnectionMetadata,
     ) -> Result<bool, Error>
         ensures { Does (call.after_release conn.old _meta result conn.new) self.old self.new }
@@ -339,7 +339,7 @@ impl Outside<StoreLink, ()> for ScriptOutside {
         self.ask_hook(self.after_release, conn)
     }
 
-    fn depth(&self, conn: &StoreLink) -> usize
+    fn depth(&self, conn: &ClientLink) -> usize
         ensures { result ≡ depth_of self.now conn.now }
     {
         if self.left_open == Some(conn.number()) {
@@ -349,18 +349,18 @@ impl Outside<StoreLink, ()> for ScriptOutside {
         }
     }
 
-    fn close(&mut self, conn: StoreLink)
+    fn close(&mut self, conn: ClientLink)
         ensures { Does (call.close conn) self.old self.new }
     {
         self.end_test(conn.number());
-        self.store.close(conn);
+        conn.close(&mut self.store);
     }
 
-    fn close_hard(&mut self, conn: StoreLink)
+    fn close_hard(&mut self, conn: ClientLink)
         ensures { Does (call.close_hard conn) self.old self.new }
     {
         self.end_test(conn.number());
-        self.store.close(conn);
+        conn.close(&mut self.store);
     }
 
     ghost facts = { does-facts };

@@ -13,7 +13,7 @@ use crate::error::PlayError;
 use crate::io::{Sink, Source};
 use crate::pour::{read_all, write_all};
 use crate::stage::{Stage, answer, new_stage, report};
-use mem_store::{MemStore, StoreLink};
+use mem_client::{ClientLink, MemStore};
 use sqlx_pool_core::PoolCore;
 use sqlx_script::{Event, cut_line, read_event, read_pool_line};
 use std::alloc::Global;
@@ -22,7 +22,7 @@ use std::fmt::{Display, Write};
 /// What a script left: the pool's core and the database that it was played on.
 #[derive(Drop)]
 pub struct Played {
-    pub core: PoolCore<StoreLink>,
+    pub core: PoolCore<ClientLink>,
     pub store: MemStore,
 }
 

@@ -14,7 +14,7 @@ mod upkeep;
 use crate::error::PlayError;
 use crate::outside::ScriptOutside;
 use crate::stage::loans::lent::LentList;
-use mem_store::{MemStore, StoreLink};
+use mem_client::{ClientLink, MemStore};
 use sqlx_pool_core::{PoolCore, PoolOptions};
 use sqlx_script::{Event, PoolLine, Reply, Report, Step};
 use std::alloc::Global;
@@ -23,7 +23,7 @@ use std::alloc::Global;
 #[derive(Drop)]
 pub struct Stage {
     pub pool: PoolLine,
-    pub core: PoolCore<StoreLink>,
+    pub core: PoolCore<ClientLink>,
     // The database in memory, and the answers of the present line.
     pub out: ScriptOutside,
     // The connections that clients own, in the order of lending.

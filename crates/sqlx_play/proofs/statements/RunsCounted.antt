@@ -4,7 +4,7 @@ use Rattle.mem_store.specs.declared.runs.Runs.{Runs as Counts}
 use Rattle.mem_store.specs.declared.refusal.Refusal.{Refusal}
 use Rattle.mem_store.specs.declared.refusal.Refusal.TheVariants.{Fault, Refused, Unread, Deep, Busy}
 use Rattle.mem_store.specs.Store.{Store, Session}
-use Rattle.mem_store.specs.Acts.{counted, level_counted, ended_counted, seen_by, store_read, after_start_rollback}
+use Rattle.mem_store.specs.Acts.{refusal_of, counted, level_counted, ended_counted, seen_by, store_read, after_start_rollback}
 use Rattle.sqlx_savepoints.specs.Texts.{begin_at, commit_at, rollback_at}
 use Rattle.sqlx_script.specs.declared.answers.StatementAnswer.{StatementAnswer}
 use Rattle.sqlx_script.specs.declared.step.Step.{Step}
@@ -13,17 +13,20 @@ use Rattle.sqlx_script.specs.declared.reply.Reply.{Reply}
 use Rattle.sqlx_script.specs.declared.reply.Reply.TheVariants as reply
 use Rattle.sqlx_play.specs.declared.error.PlayError.{PlayError}
 use Rattle.sqlx_play.specs.declared.stage.Stage.{Stage}
-use Rattle.sqlx_play.specs.declared.stage.loans.acts.Act.{Act}
-use Rattle.sqlx_play.specs.declared.stage.loans.acts.Act.TheVariants as act
+use Rattle.mem_client.specs.declared.acts.Act.{Act}
+use Rattle.mem_client.specs.declared.acts.Act.TheVariants as act
 use Rattle.sqlx_play.specs.declared.stage.loans.statements.Statement.{Statement}
-use Rattle.sqlx_play.specs.events.LinkActs.{refused_reply, found_reply, reply_met, left_met, reply_within, reply_on, left_by}
+use Rattle.mem_client.specs.ClientActs.{statement_at, refused_reply, found_reply, reply_met, left_met, reply_within, reply_on, left_by}
 use Rattle.sqlx_play.specs.ScriptRuns.{runs_after}
 use Rattle.sqlx_play.specs.events.StatementRuns.{done_by, Runs, at_work}
-use Rattle.sqlx_play.proofs.statements.LinkOutcomes.{met_by}
 
 -- the counts after a session's act are those of its step and reply
 abbrev Counted : Step → Act → Session → Type 0
 Counted s a session = (left_by a session).store.runs ≡ runs_after s (reply_on a session) session.store.runs
+
+-- the refusal that the act's statement meets
+abbrev met_by : Act → Session → Option Refusal
+met_by act s = refusal_of (Some (statement_at act s.link.depth)) s
 
 -- the same, by the refusal
 abbrev CountedMet : Step → Act → Session → Option Refusal → Type 0

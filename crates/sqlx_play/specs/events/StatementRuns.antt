@@ -1,20 +1,47 @@
 -- What a statement of a script does on a stage, by the database's statement.
-use Rattle.std.specs.Prelude.{◌≡◌, ◌⊎◌, Bool, true, false, find, is_some, pos, Option, Some, None, List, ◌∷◌, ◌++◌}
+use Rattle.std.specs.Prelude.{◌≡◌, ◌⊎◌, Bool, true, false, find, is_some, pos, ℕ, Option, Some, None, List, ◌∷◌, ◌++◌}
 use Rattle.sqlx_pool_core.specs.declared.steps.Lent.{Lent}
 use Rattle.sqlx_pool_core.specs.Core.{loan_of}
+use Rattle.mem_store.specs.declared.answer.Answer.{Answer}
+use Rattle.mem_store.specs.declared.answer.Answer.TheVariants as answer
 use Rattle.mem_store.specs.Store.{Store, Link, Session}
+use Rattle.sqlx_brackets.specs.Events as bracket
+use Rattle.sqlx_script.specs.declared.answers.StatementAnswer.{StatementAnswer}
+use Rattle.sqlx_script.specs.declared.answers.StatementAnswer.TheVariants as letter
 use Rattle.sqlx_script.specs.declared.step.Step.{Step}
 use Rattle.sqlx_script.specs.declared.step.Step.TheVariants.{Begin, Custom, Put, Del, Get, Commit, Rollback, GiveUp}
 use Rattle.sqlx_script.specs.declared.reply.Reply.{Reply}
 use Rattle.sqlx_script.specs.declared.reply.Reply.TheVariants.{NotHeld}
+use Rattle.mem_client.specs.declared.acts.Act.{Act}
+use Rattle.mem_client.specs.declared.acts.Act.TheVariants as act
+use Rattle.mem_client.specs.ClientActs.{reply_on, left_by}
 use Rattle.sqlx_play.specs.declared.stage.Stage.{Stage}
-use Rattle.sqlx_play.specs.declared.stage.loans.acts.Act.{Act}
-use Rattle.sqlx_play.specs.declared.stage.loans.acts.Act.TheVariants as act
 use Rattle.sqlx_play.specs.declared.stage.loans.statements.Statement.{Statement}
 use Rattle.sqlx_rules.specs.ScriptLevels as levels
 use Rattle.sqlx_rules.specs.ScriptLevels.{met_of}
 use Rattle.sqlx_play.specs.stage.LentLinks.{is_lent}
-use Rattle.sqlx_play.specs.events.LinkActs.{act_on, answer_for, reply_on, left_by}
+
+-- what meets the statement, as the script's letter says
+abbrev pub answer_for : StatementAnswer → Answer
+answer_for letter.Runs = answer.Accept
+answer_for letter.StatementIo = answer.Io
+answer_for letter.StatementRefused = answer.Refuse
+
+-- a level is given up without a statement that could be refused
+abbrev pub IsMet : Act → StatementAnswer → Type 0
+IsMet act.GiveUp met = met ≡ letter.Runs
+IsMet other met = Unit {0}
+
+-- the act on this connection, as brackets see it
+abbrev pub act_on : ℕ → Act → bracket.Act
+act_on c act.Begin = bracket.begin c
+act_on c (act.Custom starts) = bracket.custom c starts
+act_on c (act.Put key value) = bracket.put c key value
+act_on c (act.Delete key) = bracket.del c key
+act_on c (act.Get key) = bracket.get c key
+act_on c act.Commit = bracket.commit c
+act_on c act.Rollback = bracket.roll_back c
+act_on c act.GiveUp = bracket.give_up c
 
 -- the statement as brackets see it
 abbrev pub said : Statement → levels.Statement

@@ -27,7 +27,7 @@ fn close_lent(stage: &mut Stage, conn: u64)
     ensures lent { stage.new.lent.items ≡ without_first (is_lent conn) stage.old.lent.items }
 {
     if let Some(lent) = stage.lent.take(conn) {
-        stage.out.store.close(lent.raw);
+        lent.raw.close(&mut stage.out.store);
     }
 }
 

@@ -11,7 +11,7 @@ ghost use Rattle.sqlx_play.specs.stage.LentLinks.{is_lent, number_of};
 use super::acts::run_on;
 use super::statements::Statement;
 use crate::error::PlayError;
-use mem_store::{MemStore, StoreLink};
+use mem_client::{ClientLink, MemStore};
 use sqlx_numbered::{Notes, Numbering};
 use sqlx_pool_core::Lent;
 use sqlx_script::Reply;
@@ -23,7 +23,7 @@ use std::marker::Model;
 #[derive(Drop)]
 pub struct LentList {
     // A link that was taken out left a gap. They are closed where the places are used up.
-    places: Vec<Option<Lent<StoreLink>>>,
+    places: Vec<Option<Lent<ClientLink>>>,
     notes: Notes,
 }
 
@@ -41,19 +41,19 @@ impl Model for LentList {
     ghost invariant = { λ s. Tells number_of s.notes s.places.items };
 }
 
-impl Numbering<Lent<StoreLink>> for LentList {
+impl Numbering<Lent<ClientLink>> for LentList {
     ghost use Rattle.sqlx_play.specs.stage.LentLinks.{number_of};
 
     ghost number = { number_of };
 
-    fn number(lent: &Lent<StoreLink>) -> u64 {
+    fn number(lent: &Lent<ClientLink>) -> u64 {
         lent.id
     }
 }
 
 // Makes room for one more. Where the places are used up the gaps are closed, and as many places are added as are left.
 fn make_room(
-    places: &mut Vec<Option<Lent<StoreLink>>>,
+    places: &mut Vec<Option<Lent<ClientLink>>>,
     notes: &mut Notes,
 ) -> Result<(), OutOfMemory>
     requires { Tells number_of notes.old places.old.items }
@@ -64,7 +64,7 @@ fn make_room(
     if places.len() < places.capacity() {
         return Ok(());
     }
-    notes.close_gaps::<Lent<StoreLink>, LentList>(places);
+    notes.close_gaps::<Lent<ClientLink>, LentList>(places);
     match places.reserve(places.len().max(1)) {
         Ok(()) => Ok(()),
         Err(_) => Err(OutOfMemory),
@@ -83,25 +83,25 @@ impl LentList {
     }
 
     /// Puts a link last.
-    pub fn push(&mut self, lent: Lent<StoreLink>) -> Result<(), OutOfMemory>
+    pub fn push(&mut self, lent: Lent<ClientLink>) -> Result<(), OutOfMemory>
         ensures ok { OnOk result (self.new.items ≡ self.old.items ++ lent ∷ []) }
         ensures err { OnErr result (self.new.items ≡ self.old.items) }
     {
         make_room(&mut self.places, &mut self.notes)?;
         self.notes
-            .note_last::<Lent<StoreLink>, LentList>(&self.places, lent.id);
+            .note_last::<Lent<ClientLink>, LentList>(&self.places, lent.id);
         self.places.push_reserved(Some(lent));
         Ok(())
     }
 
     /// Takes a connection's link out.
-    pub fn take(&mut self, conn: u64) -> Option<Lent<StoreLink>>
+    pub fn take(&mut self, conn: u64) -> Option<Lent<ClientLink>>
         ensures found { result ≡ find (is_lent conn) self.old.items }
         ensures rest { self.new.items ≡ without_first (is_lent conn) self.old.items }
     {
         let place = self
             .notes
-            .find::<Lent<StoreLink>, LentList>(&self.places, conn)?;
+            .find::<Lent<ClientLink>, LentList>(&self.places, conn)?;
         self.places[place].take()
     }
 
@@ -119,7 +119,7 @@ impl LentList {
         let conn = u64::from(statement.connection);
         let place = self
             .notes
-            .find::<Lent<StoreLink>, LentList>(&self.places, conn)?;
+            .find::<Lent<ClientLink>, LentList>(&self.places, conn)?;
         let lent = self.places[place].as_mut()?;
         Some(run_on(store, alloc, &mut lent.raw, statement.act, statement.answer))
     }

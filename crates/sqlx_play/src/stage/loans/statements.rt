@@ -2,15 +2,14 @@
 ghost use Rattle.std.specs.Prelude.{◌≡◌, ◌≤◌, true, false, Some, IfOk, IfErr, IfSome, IfNone};
 ghost use Rattle.sqlx_pool_core.specs.Sound.{IsNumbered};
 ghost use Rattle.sqlx_rules.specs.ScriptLevels as levels;
-ghost use Rattle.sqlx_play.specs.events.LinkActs.{IsMet};
-ghost use Rattle.sqlx_play.specs.events.StatementRuns.{said, acts, done_by, Runs};
+ghost use Rattle.sqlx_play.specs.events.StatementRuns.{IsMet, said, acts, done_by, Runs};
 ghost use Rattle.sqlx_play.specs.events.PlaysEvent.{PlaysEvent};
 ghost use Rattle.sqlx_play.specs.stage.EventFrame.{EventFrame};
 ghost use Rattle.sqlx_play.specs.stage.StageStands.{last_of};
 
-use super::acts::Act;
 use crate::error::PlayError;
 use crate::stage::Stage;
+use mem_client::Act;
 use sqlx_script::{Event, Reply, StatementAnswer, Step};
 use std::alloc::Global;
 

@@ -3,12 +3,12 @@ ghost use Rattle.std.specs.Prelude.{◌≡◌, [], ◌∷◌, ◌++◌, IfOk, On
 
 use crate::error::PlayError;
 use crate::stage::loans::lent::LentList;
-use mem_store::StoreLink;
+use mem_client::ClientLink;
 use sqlx_pool_core::Lent;
 use sqlx_script::Reply;
 
 /// Puts a connection last among those that clients own.
-pub fn hand_over(owned: &mut LentList, lent: Lent<StoreLink>) -> Result<Reply, PlayError>
+pub fn hand_over(owned: &mut LentList, lent: Lent<ClientLink>) -> Result<Reply, PlayError>
     ensures answer { IfOk result (λ reply. reply ≡ Reply.Ready lent.id) }
     ensures owned { OnOk result (owned.new.items ≡ owned.old.items ++ lent ∷ []) }
     ensures memory { IfErr result (λ e. e ≡ PlayError.OutOfMemory) }

@@ -11,14 +11,14 @@ use crate::error::PlayError;
 use crate::outside::{ScriptOutside, refused_by};
 use crate::stage::Stage;
 use crate::stage::loans::lent::LentList;
-use mem_store::StoreLink;
+use mem_client::ClientLink;
 use sqlx_pool_core::Polled;
 use sqlx_script::{ConnectAnswer, PollAnswers, Reply};
 use sqlx_text::Moment;
 use std::alloc::Global;
 
 // The reply to what a poll came to: a connection that was lent comes to its client.
-fn reply(owned: &mut LentList, polled: Polled<StoreLink>) -> Result<Reply, PlayError>
+fn reply(owned: &mut LentList, polled: Polled<ClientLink>) -> Result<Reply, PlayError>
     requires { (polled ≡ Polled.Exhausted) → ⊥ }
     ensures answer { IfOk result (λ reply. reply_of polled ≡ Some reply) }
     ensures owned { OnOk result (owned.new.items ≡ owned_after polled owned.old.items) }

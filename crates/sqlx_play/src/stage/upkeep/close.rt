@@ -7,19 +7,19 @@ ghost use Rattle.sqlx_play.specs.stage.EventFrame.{Frame};
 ghost use Rattle.sqlx_play.specs.stage.StageStands.{last_of};
 
 use crate::stage::Stage;
-use mem_store::{MemStore, StoreLink};
+use mem_client::{ClientLink, MemStore};
 use sqlx_pool_core::Idle;
 use sqlx_script::Reply;
 use sqlx_text::Moment;
 use std::collections::VecDeque;
 
 // Closes these connections.
-fn close_all(store: &mut MemStore, idle: &mut VecDeque<Idle<StoreLink>>)
+fn close_all(store: &mut MemStore, idle: &mut VecDeque<Idle<ClientLink>>)
     ensures store { store.new ≡ closed_all idle.old.items store.old }
     ensures runs { store.new.runs ≡ store.old.runs }
 {
     while let Some(first) = idle.pop_front() {
-        store.close(first.lent.raw);
+        first.lent.raw.close(store);
     }
 }
 

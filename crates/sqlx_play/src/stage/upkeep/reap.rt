@@ -23,7 +23,7 @@ fn reap_one(stage: &mut Stage, moment: Moment) -> bool
     stage.core.bounds();
     match stage.core.reap(moment) {
         Some(idle) => {
-            stage.out.store.close(idle.lent.raw);
+            idle.lent.raw.close(&mut stage.out.store);
             true
         }
         None => false,

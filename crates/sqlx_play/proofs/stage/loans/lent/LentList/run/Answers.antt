@@ -6,7 +6,7 @@ use Rattle.sqlx_pool_core.specs.declared.steps.Lent.{Lent}
 use Rattle.mem_store.specs.Store.{Link, Store}
 use Rattle.sqlx_script.specs.declared.reply.Reply.{Reply}
 use Rattle.sqlx_play.specs.declared.stage.loans.statements.Statement.{Statement}
-use Rattle.sqlx_play.specs.events.LinkActs.{reply_on}
+use Rattle.mem_client.specs.ClientActs.{reply_on}
 use Rattle.sqlx_play.specs.events.StatementRuns.{RunsThere, at_work, left_at}
 use Rattle.sqlx_play.specs.stage.LentLinks.{is_lent, number_of}
 use Rattle.sqlx_play.proofs.links.LentPlaces.{standing}
