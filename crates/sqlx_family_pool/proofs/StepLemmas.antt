@@ -1,11 +1,12 @@
 -- The value under the lock stands after a step of one pool whose marks were written behind that pool's log.
-use Rattle.std.proofs.Common.{◌≡◌, ◌≢◌, ℕ, ◌+◌, ◌^◌, ◌<◌, ◌≤◌, ◌⊎◌, inl, inr, Bool, true, false, cond, Option, Some, None, List, [], ◌∷◌, ◌++◌, map, length, get_or, sum_by, All, refl, sym, ap, ◌∙◌, subst, arith, Vec, vec_items, vec_capacity}
+use Rattle.std.proofs.Common.{◌≡◌, ◌≢◌, ◌==◌, not, ℕ, ◌+◌, ◌*◌, ◌^◌, ◌<◌, ◌≤◌, ◌⊎◌, inl, inr, Bool, true, false, cond, Option, Some, None, List, [], ◌∷◌, ◌++◌, map, length, get_or, sum_by, All, refl, sym, ap, ◌∙◌, subst, arith, Vec, vec_items, vec_capacity}
 use Rattle.std.specs.Prelude.{slice_set}
 use Rattle.std.proofs.lemmas.Bool.Decides.{eqb_tells}
 use Rattle.std.proofs.lemmas.List.{get_or-set_same, get_or-set_other, get_or-map, map-set, length-set, length-map, length-append}
 use Rattle.std.proofs.lemmas.List.Elements.{All-head, All-tail}
 use Rattle.std.proofs.lemmas.List.Sums.{sum_by-set, sum_by-cons}
 use Rattle.sqlx_log.specs.declared.mark.Mark.{Mark}
+use Rattle.sqlx_log.specs.declared.mark.Mark.TheVariants.{Opened, Kept}
 use Rattle.sqlx_log.specs.FairLog.{IsSafe}
 use Rattle.sqlx_log.proofs.Counting.{count-append}
 use Rattle.sqlx_log.proofs.FairLaws.{safe-append}
@@ -17,9 +18,10 @@ use Rattle.sqlx_text.specs.declared.Moment.{Moment}
 use Rattle.sqlx_pool_core.specs.declared.steps.Idle.{Idle}
 use Rattle.sqlx_pool_core.specs.declared.steps.Verdict.{Verdict}
 use Rattle.sqlx_pool_core.specs.declared.steps.Verdict.TheVariants as verdict
-use Rattle.sqlx_pool_core.specs.Balance.{Balance, is_lent, lents, ends, marks_due, one_if}
+use Rattle.sqlx_pool_core.specs.Balance.{Balance, is_lent, lents, ends, marks_due, one_if, place_room}
 use Rattle.sqlx_pool_core.specs.PollSteps.{test_answer, after_refusal}
 use Rattle.sqlx_pool_core.specs.PollParts.{IfAccepted}
+use Rattle.sqlx_pool_core.specs.MaintenanceSteps.{done_marks}
 use Rattle.sqlx_pool.specs.Answers.{IfTestLends}
 use Rattle.sqlx_family.specs.declared.family.FamilyPool.{FamilyPool}
 use Rattle.sqlx_family.specs.NoPool.{no_pool}
@@ -28,6 +30,7 @@ use Rattle.sqlx_family.specs.IsFamily.{permits_of, Joins, IsFamily, maximum_of}
 use Rattle.sqlx_family.specs.FamilyLogs.{with_marks, MakesTogether, FamilyLogs}
 use Rattle.sqlx_family.proofs.LogLemmas.{same, other}
 use Rattle.sqlx_pool.specs.Booked.{Booked}
+use Rattle.sqlx_pool.specs.Places.{done_if_marks}
 use Rattle.sqlx_pool.specs.State.{RestFlat}
 use Rattle.sqlx_pool.proofs.LeavesLemmas.{Leaves}
 use Rattle.sqlx_pool.proofs.StepLemmas.{Books}
@@ -210,6 +213,27 @@ module _ {C O Z : Type 0} {levels : C → ℕ} {max : ℕ} {f : Pools C} {connec
 pub one-long : (so : Bool) (m : Mark) → length (cond so (m ∷ []) []) ≡ one_if so
 one-long true m = refl
 one-long false m = refl
+
+-- the marks of a connection that was opened for the minimum take as much room as they say
+pub opened-long : (so : Bool) (n m : ℕ) → length (cond so (Opened n m ∷ Kept n m ∷ []) []) ≡ 2 * one_if so
+opened-long true n m = refl
+opened-long false n m = refl
+
+-- the marks of a place that is held
+pub held-marks : {C : Type 0} (places : ℕ) → 1 ≤ places → (closed : Bool) (n m : ℕ) (raw : Option C) → done_if_marks (not (places == 0)) closed n m raw ≡ done_marks closed n m raw
+held-marks places some closed n m raw = elim (eqb_tells places 0) [
+  | inl is ↦ absurd (let e = is.1 in omega (arith, e, some))
+  | inr is ↦ by (places == 0) is.0
+]
+  where
+    by : (b : Bool) → b ≡ false → done_if_marks (not b) closed n m raw ≡ done_marks closed n m raw
+    by false e = refl
+    by true e = absurd cc
+
+-- a place takes no more room than is reserved for it
+pub place-few : (held : Bool) → place_room held ≤ 3
+place-few true = omega arith
+place-few false = omega arith
 
 -- what a test lends was accepted
 after-flat : {C : Type 0} (levels : C → ℕ) (next : Bool) (idle : List (Idle C)) → IfTestLends (after_refusal next idle) (λ lent. levels lent.raw ≡ 0)

@@ -1,15 +1,16 @@
 -- What some steps come to in a family.
-use Rattle.std.specs.Prelude.{ℕ, ◌+◌}
+use Rattle.std.specs.Prelude.{ℕ, ◌+◌, Bool, true, false, Option, Some, None}
 use Rattle.sqlx_pool_core.specs.declared.steps.Given.{Given}
 use Rattle.sqlx_pool_core.specs.declared.steps.Lent.{Lent}
 use Rattle.sqlx_pool_core.specs.declared.steps.Start.{Start}
 use Rattle.sqlx_pool_core.specs.Core.{Core, ticket_of, loan_of}
 use Rattle.sqlx_pool_core.specs.CoreTurn.{turn_of}
 use Rattle.sqlx_pool_core.specs.Edits.{at_moment, asked}
-use Rattle.sqlx_pool_core.specs.PollSteps.{start_answer, started}
+use Rattle.sqlx_pool_core.specs.PollSteps.{start_answer, started, try_lent, after_try}
+use Rattle.sqlx_pool_core.specs.MaintenanceSteps.{done}
 use Rattle.sqlx_pool_core.specs.ReturnSteps.{core_after_give}
-use Rattle.sqlx_family.specs.Pools.{Pools, pool_in}
-use Rattle.sqlx_family.specs.RootLine.{is_entitled, granting}
+use Rattle.sqlx_family.specs.Pools.{Pools, pool_in, with_pool}
+use Rattle.sqlx_family.specs.RootLine.{is_entitled, granting, passes_in}
 use Rattle.sqlx_family.specs.Permits.{stepped}
 
 module _ {C : Type 0} where
@@ -28,3 +29,17 @@ module _ {C : Type 0} where
   -- the pool behind the return of a connection by this client, where it is answered so
   abbrev pub core_after_return : ℕ → Lent C → ℕ → Given C → Core C → Core C
   core_after_return k lent m answer core = core_after_give (loan_of k lent.id core.held) lent m answer core
+
+  -- what a loan past the line would lend in a pool
+  abbrev pub try_lent_in : ℕ → Pools C → Option (Lent C)
+  try_lent_in q f = try_lent (passes_in q f) (pool_in q f).idle
+
+  -- the family behind a loan past the line to this client at a moment, or behind none
+  abbrev pub family_after_try : ℕ → ℕ → ℕ → Option (Lent C) → Pools C → Pools C
+  family_after_try q k m (Some lent) f = with_pool q (after_try k m (Some lent) (pool_in q f)) f
+  family_after_try q k m None f = f
+
+  -- the family behind a place of this pool that was used or given up, where one was held
+  abbrev pub family_after_done : Bool → ℕ → ℕ → Option C → Pools C → Pools C
+  family_after_done true q m raw f = stepped q (done (pool_in q f).closed m raw (pool_in q f)) f
+  family_after_done false q m raw f = f

@@ -1,2 +1,3 @@
 pub mod FamilyState
 pub mod FamilySteps
+pub mod Handles

@@ -9,6 +9,7 @@ ghost use Rattle.sqlx_family_pool.specs.FamilyState.{FamilyState};
 
 mod ask;
 mod closing;
+mod maintenance;
 mod poll;
 mod questions;
 mod returns;
@@ -91,6 +92,7 @@ impl<C: Depth + Drop, O: Drop, H: Ledger, L: Loans> LockedFamily<C, O, H, L> {
         requires tries { (1 ≤ options.idle_tries) × (options.idle_tries ≤ 16) }
         requires fits { options.max_connections ≤ L.max }
         ensures name { IfOk result (λ q. q ≡ length self.old.family.pools) }
+        ensures later { IfOk result (λ q. 1 ≤ q) }
         ensures exhausted { (result ≡ Err Error.Exhausted) ↔ (length self.old.family.pools ≡ 2 ^ 32 - 1) }
         ensures causes { IfErr result (λ e. (e ≡ Error.Exhausted) ⊎ (e ≡ Error.OutOfMemory)) }
         ensures family { OnOk result (self.new.family ≡ with_child options self.old.family) }

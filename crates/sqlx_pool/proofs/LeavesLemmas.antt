@@ -101,8 +101,8 @@ module _ {C : Type 0} (levels : C → ℕ) where
   reaped-leaves m None core = record { options = refl; rest = λ r. r }
   reaped-leaves m (Some i) core = record { options = refl; rest = λ r. All-filter_if (λ (x : Idle C). levels x.lent.raw ≡ 0) (λ (x : Idle C). levels x.lent.raw ≡ 0) (is_another_idle i.lent.id) (λ x other flat. flat) core.idle r }
 
-  pub done-leaves : (m : ℕ) (raw : Option C) (core : Core C) → IfSome raw (λ conn. levels conn ≡ 0) → Leaves levels core (done core.shut m raw core)
-  done-leaves m raw core flat = by core.shut raw flat
+  pub done-leaves : (closed : Bool) (m : ℕ) (raw : Option C) (core : Core C) → IfSome raw (λ conn. levels conn ≡ 0) → Leaves levels core (done closed m raw core)
+  done-leaves closed m raw core flat = by closed raw flat
     where
       by : (shut : Bool) (raw : Option C) → IfSome raw (λ conn. levels conn ≡ 0) → Leaves levels core (at_moment m (placed_back (done_at shut m raw core)))
       by true raw flat = record { options = refl; rest = λ r. r }

@@ -9,10 +9,10 @@ ghost use Rattle.sqlx_pool.specs.Stage.{has_lent, IfLent, IfEnded};
 
 mod waits;
 
+use crate::checks::close_left;
 use crate::stage::{Stage, Why};
-use crate::{Held, Loans, PoolConnectionOf, PoolOf, Tally, checks};
+use crate::{Held, Loans, PoolConnectionOf, PoolOf, Tally};
 use sqlx_pool_core::Outside;
-use sqlx_pool_core::idle_check::Check;
 use sqlx_text::{Depth, Error, Moment};
 use std::alloc::Global;
 use std::sync::Wait;
@@ -140,12 +140,4 @@ impl<C: Depth + Drop, O: Drop, H: Ledger, L: Loans> AcquiringOf<C, O, H, L> {
         pool.unlock(guard);
         ended
     }
-}
-
-// Closes a connection that a poll left.
-fn close_left<C, O, X: Outside<C, O>>(raw: C, hard: bool, out: &mut X)
-    ensures counts { (X.faults out.old ≤ X.faults out.new) × (X.refusals out.old ≤ X.refusals out.new) }
-{
-    let check = if hard { Check::CloseHard } else { Check::Close };
-    checks::close_by::<C, O, X>(check, raw, out);
 }

@@ -1,7 +1,7 @@
 //! What is asked of the outside between two locked steps: the core's own test of an idle connection, try to open one
 //! and test of one that comes back. Nothing here knows the lock. Each reads the connection's own depth last.
 
-ghost use Rattle.std.specs.Prelude.{◌≡◌, ◌==◌, ◌⊎◌, ℕ, ◌≤◌, false, IfErr, IfOk, OnErr};
+ghost use Rattle.std.specs.Prelude.{◌≡◌, ◌==◌, ◌⊎◌, ℕ, ◌≤◌, false, length, IfErr, IfOk, OnErr};
 ghost use Rattle.sqlx_text.specs.declared.error.Error.{Error};
 ghost use Rattle.sqlx_pool_core.specs.Outside.{HasRisen};
 ghost use Rattle.sqlx_pool_core.specs.PollParts.{IfAccepted, IfOpened, IfFailed, IsForGood};
@@ -13,6 +13,7 @@ use sqlx_pool_core::idle_check::{self, Check, Opening};
 use sqlx_pool_core::{Idle, Lent, Outside, PoolConnectionMetadata, PoolOptions, Verdict};
 use sqlx_text::{Depth, Error, Moment};
 use std::alloc::Global;
+use std::collections::VecDeque;
 
 // The test of an idle connection asks nothing of the outside.
 pub fn tests_nothing(options: &PoolOptions) -> bool {
@@ -56,6 +57,33 @@ pub fn close_by<C, O, X: Outside<C, O>>(check: Check, raw: C, out: &mut X)
         Check::Pass => out.close(raw),
         Check::Close => out.close(raw),
     }
+}
+
+// Closes a connection that a poll left.
+pub fn close_left<C, O, X: Outside<C, O>>(raw: C, hard: bool, out: &mut X)
+    ensures counts { (X.faults out.old ≤ X.faults out.new) × (X.refusals out.old ≤ X.refusals out.new) }
+{
+    let check = if hard { Check::CloseHard } else { Check::Close };
+    close_by::<C, O, X>(check, raw, out);
+}
+
+// Closes idle connections, hard or gently, and tells how many.
+pub fn close_all<C: Drop, O, X: Outside<C, O>>(
+    check: Check,
+    idle: VecDeque<Idle<C>>,
+    out: &mut X,
+) -> usize
+    ensures count { result ≡ length idle.items }
+    ensures counts { (X.faults out.old ≤ X.faults out.new) × (X.refusals out.old ≤ X.refusals out.new) }
+{
+    let mut idle = idle;
+    let count = idle.len();
+    for _ in 0..count {
+        if let Some(closed) = idle.pop_front() {
+            close_by::<C, O, X>(check, closed.lent.raw, out);
+        }
+    }
+    count
 }
 
 // Tests an idle connection at a moment, and closes what doesn't pass.

@@ -6,14 +6,15 @@
 
 mod acquire;
 mod acquiring;
+pub mod answers;
 mod begins;
 pub mod books;
-mod checks;
+pub mod checks;
 mod clock;
 mod close_event;
 mod connection;
 mod counting;
-mod filled;
+pub mod filled;
 mod handle;
 mod hold;
 mod hooks;
@@ -27,8 +28,8 @@ mod pool;
 mod pool_connect;
 pub mod record;
 mod seen;
-mod sleepers;
-mod stage;
+pub mod sleepers;
+pub mod stage;
 mod taken;
 mod tally;
 

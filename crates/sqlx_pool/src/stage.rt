@@ -36,6 +36,24 @@ pub enum Stage<C, H> {
     Connect,
 }
 
+// How far a poll is that begins so, at this moment.
+pub fn after_start<C, H>(start: Start<C>, moment: Moment) -> Stage<C, H>
+    ensures lent { has_lent result ≡ false }
+    ensures flat { (levels : C → ℕ) → IfLent result (λ lent. levels lent.raw ≡ 0) }
+    ensures causes { IfEnded result IsEnd }
+{
+    match start {
+        Start::NotHeld => Stage::Failed(Error::NotHeld),
+        Start::Closed => Stage::Failed(Error::PoolClosed),
+        Start::TimedOut => Stage::Failed(Error::PoolTimedOut),
+        Start::Exhausted => Stage::Failed(Error::Exhausted),
+        Start::Waiting => Stage::Pending(Why::Waiting),
+        Start::Backoff(until) => Stage::Pending(Why::Backoff(until)),
+        Start::Connect => Stage::Connect,
+        Start::Test(idle) => Stage::Test(idle, moment),
+    }
+}
+
 // What a test came to, with the share of what it lent.
 pub fn after_test<C, H: Drop>(after: AfterTest<C>, held: Option<H>, moment: Moment) -> Stage<C, H>
     requires { is_some held ≡ lends_tested after }
@@ -111,15 +129,10 @@ impl<C: Depth, O, H: Ledger, L: Loans> Locked<C, O, H, L> {
         ensures flat { IfLent result (λ lent. C.levels lent.raw ≡ 0) }
         ensures causes { IfEnded result IsEnd }
     {
-        match self.start(client, ticket, now) {
-            Start::NotHeld => Stage::Failed(Error::NotHeld),
-            Start::Closed => Stage::Failed(Error::PoolClosed),
-            Start::TimedOut => Stage::Failed(Error::PoolTimedOut),
-            Start::Exhausted => Stage::Failed(Error::Exhausted),
-            Start::Waiting => Stage::Pending(Why::Waiting),
-            Start::Backoff(until) => Stage::Pending(Why::Backoff(until)),
-            Start::Connect => Stage::Connect,
-            Start::Test(idle) => self.test_or_lend(client, ticket, idle, now, tally),
+        let start = self.start(client, ticket, now);
+        match after_start(start, self.moment(now)) {
+            Stage::Test(idle, moment) => self.test_or_lend(client, ticket, idle, moment, tally),
+            stage => stage,
         }
     }
 
@@ -129,7 +142,7 @@ impl<C: Depth, O, H: Ledger, L: Loans> Locked<C, O, H, L> {
         client: u32,
         ticket: u64,
         idle: Idle<C>,
-        now: Moment,
+        moment: Moment,
         tally: &mut Tally<L>,
     ) -> Stage<C, Held<H>>
         requires { 0 < tally.old.parts }
@@ -137,7 +150,6 @@ impl<C: Depth, O, H: Ledger, L: Loans> Locked<C, O, H, L> {
         ensures flat { IfLent result (λ lent. C.levels lent.raw ≡ 0) }
         ensures causes { IfEnded result IsEnd }
     {
-        let moment = self.moment(now);
         if checks::tests_nothing(self.options()) && idle.lent.raw.depth() == 0 {
             let (after, held) = self.finish_test(
                 client,

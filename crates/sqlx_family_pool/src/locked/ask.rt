@@ -1,23 +1,31 @@
-//! Asking.
+//! Asking, and lending past the line.
 
-ghost use Rattle.std.specs.Prelude.{◌≡◌, ℕ, ◌+◌, ◌^◌, ◌<◌, ◌≤◌, ◌↔◌, ◌⊎◌, [], ◌∷◌, true, false, Err, IfOk, IfErr, OnOk, OnErr};
+ghost use Rattle.std.specs.Prelude.{◌≡◌, ℕ, ◌+◌, ◌^◌, ◌<◌, ◌≤◌, ◌↔◌, ◌⊎◌, [], ◌∷◌, true, false, None, is_some, Ok, Err, IfSome, IfOk, IfErr, OnOk, OnErr};
 ghost use Rattle.sqlx_text.specs.declared.error.Error.{Error};
 ghost use Rattle.sqlx_log.specs.declared.mark.Mark.{Mark};
 ghost use Rattle.sqlx_pool_core.specs.Logs.{moment_of};
-ghost use Rattle.sqlx_pool_core.specs.PollSteps.{asked_marks};
+ghost use Rattle.sqlx_pool_core.specs.PollSteps.{asked_marks, try_marks};
+ghost use Rattle.sqlx_pool.specs.Answers.{lent_alone};
+ghost use Rattle.sqlx_pool.specs.Booked.{CountsIf};
 ghost use Rattle.sqlx_family.specs.Pools.{pool_in, with_pool, counts_as_closed};
-ghost use Rattle.sqlx_family_pool.specs.FamilyState.{IsNamed, with_made};
-ghost use Rattle.sqlx_family_pool.specs.FamilySteps.{core_after_ask};
+ghost use Rattle.sqlx_family_pool.specs.FamilyState.{IsNamed, IsUnnamed, with_made};
+ghost use Rattle.sqlx_family_pool.specs.FamilySteps.{core_after_ask, try_lent_in, family_after_try};
 
 use super::LockedFamily;
-use sqlx_pool::Loans;
-use sqlx_pool_core::Mark;
+use sqlx_pool::{Held, Loans, Tally, record};
+use sqlx_pool_core::{Lent, Mark};
 use sqlx_text::{Depth, Error, Moment};
 use std::alloc::Global;
 use std::sync::ledger::Ledger;
 
 // How many tickets a family numbers.
 const NUMBERS: u64 = 1 << 63;
+
+// How many marks a loan past the line may lead to.
+const TRY_ROOM: usize = 4;
+
+// A loan past the line is made only while fewer loans than these were made, in whichever pool.
+const LOANS: u64 = 1 << 62;
 
 impl<C: Depth, O, H: Ledger, L: Loans> LockedFamily<C, O, H, L> {
     /// Asks a pool for a connection: the client gets a ticket, whose number comes next in the family. The memory for all
@@ -56,5 +64,48 @@ impl<C: Depth, O, H: Ledger, L: Loans> LockedFamily<C, O, H, L> {
             deadline: u128::from(moment.0) + u128::from(timeout),
         });
         Ok(ticket)
+    }
+
+    /// Lends the first idle connection of a pool past the line, without a test: where the pool is open, and fewer tickets wait
+    /// than permits are free. The root counts the tickets of the root's line, a child its own. Otherwise nothing changes.
+    /// `Exhausted` where 2^62 loans were made.
+    pub fn try_acquire(
+        &mut self,
+        pool: u32,
+        _alloc: Global,
+        now: Moment,
+        client: u32,
+        tally: &mut Tally<L>,
+    ) -> Result<Option<(Lent<C>, Held<H>)>, Error>
+        requires parts { 0 < tally.old.parts }
+        ensures answer { IsNamed pool self.old → IfOk result (λ lent. lent_alone lent ≡ try_lent_in pool self.old.family) }
+        ensures marks { IfOk result (λ lent. self.new.logs ≡ with_made pool (try_marks client (lent_alone lent)) self.old.logs) }
+        ensures becomes { let f = self.old.family in IfOk result (λ lent. self.new.family ≡ family_after_try pool client (moment_of (pool_in pool f) now) (lent_alone lent) f) }
+        ensures unnamed { IsUnnamed pool self.old → (result ≡ Ok None) × (self.new ≡ self.old) }
+        ensures tally { IfOk result (λ lent. CountsIf (is_some lent) tally.old tally.new) }
+        ensures flat { IfOk result (λ lent. IfSome (lent_alone lent) (λ l. C.levels l.raw ≡ 0)) }
+        ensures exhausted { IsNamed pool self.old → ((result ≡ Err Error.Exhausted) ↔ ((is_some (try_lent_in pool self.old.family) ≡ true) × (2 ^ 62 ≤ self.old.booked.made))) }
+        ensures causes { IfErr result (λ e. (e ≡ Error.Exhausted) ⊎ (e ≡ Error.OutOfMemory)) }
+        ensures err { OnErr result ((self.new ≡ self.old) × (tally.new ≡ tally.old)) }
+        ensures connect { self.new.connect ≡ self.old.connect }
+    {
+        if !self.is_named(pool) || !self.family.may_lend(pool) {
+            return Ok(None);
+        }
+        if self.books.made() >= LOANS {
+            return Err(Error::Exhausted);
+        }
+        let due = self.family.due(pool);
+        let log = &mut self.logs[pool as usize];
+        let Ok(()) = log.reserve(due + TRY_ROOM) else {
+            return Err(Error::OutOfMemory);
+        };
+        self.family.bounds();
+        let Some(lent) = self.family.try_acquire(pool, now, client) else {
+            unreachable!()
+        };
+        record::lend_past(log, client, lent.id);
+        let held = self.books.lend(tally);
+        Ok(Some((lent, held)))
     }
 }

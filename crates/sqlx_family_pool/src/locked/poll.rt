@@ -17,7 +17,7 @@ ghost use Rattle.sqlx_family_pool.specs.FamilyState.{IsNamed, IsUnnamed, with_ma
 ghost use Rattle.sqlx_family_pool.specs.FamilySteps.{start_answer_in, family_after_start};
 
 use super::LockedFamily;
-use crate::answers::{judged_of, lends_new, lends_tested};
+use sqlx_pool::answers::{judged_of, lends_new, lends_tested};
 use sqlx_pool::{Held, Loans, Tally, record};
 use sqlx_pool_core::{AfterConnect, AfterTest, Mark, Start, Tried, Verdict};
 use sqlx_text::{Depth, Moment};

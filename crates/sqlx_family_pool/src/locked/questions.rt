@@ -2,6 +2,7 @@
 
 ghost use Rattle.std.specs.Prelude.{◌≡◌, ◌<◌, ◌≤◌, Bool, true, false, List, [], IfOk, length, nat_lt};
 ghost use Rattle.sqlx_log.specs.FairLog.{IsSafe};
+ghost use Rattle.sqlx_pool_core.specs.Core.{size};
 ghost use Rattle.sqlx_family.specs.Pools.{pool_in, counts_as_closed};
 ghost use Rattle.sqlx_family.specs.Permits.{owned_by};
 ghost use Rattle.sqlx_pool.specs.MarkLog.{IsUncut};
@@ -58,6 +59,28 @@ impl<C: Depth, O, H: Ledger, L: Loans> LockedFamily<C, O, H, L> {
     {
         if self.is_named(pool) {
             self.family.owned(pool)
+        } else {
+            0
+        }
+    }
+
+    /// How many connections of a pool there are or may be.
+    pub fn size(&self, pool: u32) -> u32
+        ensures { IsNamed pool self.now → result ≡ size (pool_in pool self.now.family) }
+    {
+        if self.is_named(pool) {
+            self.family.size(pool)
+        } else {
+            0
+        }
+    }
+
+    /// How many connections of a pool are idle.
+    pub fn num_idle(&self, pool: u32) -> usize
+        ensures { IsNamed pool self.now → result ≡ length (pool_in pool self.now.family).idle }
+    {
+        if self.is_named(pool) {
+            self.family.num_idle(pool)
         } else {
             0
         }

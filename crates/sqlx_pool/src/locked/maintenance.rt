@@ -1,6 +1,6 @@
 //! The steps that keep a pool in shape: reaping, places for the minimum, and closing.
 
-ghost use Rattle.std.specs.Prelude.{◌≡◌, ℕ, ◌+◌, ◌++◌, List, true, not, ◌&&◌, is_some, map, max, option_map, IfSome, OnOk, OnErr, IfOk};
+ghost use Rattle.std.specs.Prelude.{◌≡◌, ℕ, ◌+◌, ◌++◌, List, true, map, max, option_map, IfSome, OnOk, OnErr, IfOk};
 ghost use Rattle.std.specs.List.{list_any};
 ghost use Rattle.sqlx_log.specs.Marks.{is_shut, next_conn};
 ghost use Rattle.sqlx_log.specs.EventTable.{reaped_at, has_place_at, closed_at};
@@ -10,6 +10,7 @@ ghost use Rattle.sqlx_pool_core.specs.Logs.{moment_of};
 ghost use Rattle.sqlx_pool.specs.Places.{holds_place, done_if, done_if_marks, back_if};
 
 use super::Locked;
+use crate::answers::opens;
 use crate::{Loans, record};
 use sqlx_pool_core::Idle;
 use sqlx_text::{Depth, Moment, OutOfMemory};
@@ -19,13 +20,6 @@ use std::sync::ledger::Ledger;
 
 // How many marks a place for the minimum may lead to.
 const PLACE_ROOM: usize = 3;
-
-// A place that is used so gets a new idle connection.
-fn opens<C>(shut: bool, raw: &Option<C>) -> bool
-    ensures { result ≡ (not shut && is_some raw.now) }
-{
-    !shut && raw.is_some()
-}
 
 impl<C: Depth, O, H: Ledger, L: Loans> Locked<C, O, H, L> {
     /// Takes the first idle connection that rests for longer than the idle limit or is older than the lifetime, which

@@ -12,40 +12,11 @@ ghost use Rattle.sqlx_pool.specs.Answers.{test_answer_in, lends_tested, IfTestLe
 ghost use Rattle.sqlx_pool.specs.Booked.{CountsIf};
 
 use super::Locked;
+use crate::answers::{judged_of, lends_new, lends_tested};
 use crate::{Held, Loans, Tally, record};
 use sqlx_pool_core::{AfterConnect, AfterTest, Mark, Start, Tried, Verdict};
 use sqlx_text::{Depth, Moment};
 use std::sync::ledger::Ledger;
-
-// The number that a verdict names.
-fn judged_of<C>(verdict: &Verdict<C>) -> u64
-    ensures { result ≡ judged verdict.now }
-{
-    match verdict {
-        Verdict::Accepted(lent) => lent.id,
-        Verdict::Refused(conn) => *conn,
-    }
-}
-
-// The test lends its connection.
-fn lends_tested<C>(after: &AfterTest<C>) -> bool
-    ensures { result ≡ lends_tested after.now }
-{
-    match after {
-        AfterTest::Ready(_) => true,
-        _ => false,
-    }
-}
-
-// The try lends its connection.
-fn lends_new<C>(after: &AfterConnect<C>) -> bool
-    ensures { result ≡ lends_new after.now }
-{
-    match after {
-        AfterConnect::Ready(_) => true,
-        _ => false,
-    }
-}
 
 impl<C: Depth, O, H: Ledger, L: Loans> Locked<C, O, H, L> {
     /// Begins a poll, by the poll table.

@@ -10,20 +10,11 @@ ghost use Rattle.sqlx_pool_core.specs.Logs.{moment_of};
 ghost use Rattle.sqlx_pool_core.specs.ReturnSteps.{give_answer, give_marks, core_after_give, end_marks, detach_marks, leak_marks, released, leaked};
 
 use super::Locked;
+use crate::answers::is_held;
 use crate::{Held, Loans, record};
 use sqlx_pool_core::{Given, Lent, Mark};
 use sqlx_text::{Depth, Moment};
 use std::sync::ledger::Ledger;
-
-// The client owned it.
-fn is_held<C>(given: &Given<C>) -> bool
-    ensures { result ≡ is_held given.now }
-{
-    match given {
-        Given::NotHeld(_) => false,
-        _ => true,
-    }
-}
 
 impl<C: Depth, O, H: Ledger, L: Loans> Locked<C, O, H, L> {
     /// Gives a connection back; one that is accepted has no level open. It is kept where the caller's checks accepted it,

@@ -4,9 +4,8 @@ ghost use Rattle.std.specs.Prelude.{◌≡◌, ◌≤◌, ℕ, IfErr, IfOk};
 ghost use Rattle.sqlx_pool.specs.Opened.{IsOpenRefusal};
 
 use super::PoolOf;
-use super::maintenance::close_all;
 use crate::Loans;
-use crate::checks::{self, close_by};
+use crate::checks::{self, close_all, close_by};
 use crate::filled::Filled;
 use sqlx_pool_core::Outside;
 use sqlx_pool_core::idle_check::Check;

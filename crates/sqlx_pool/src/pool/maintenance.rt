@@ -1,6 +1,6 @@
 //! What keeps a pool in shape, and closing it: one locked step a connection, with the connects and closes between.
 
-ghost use Rattle.std.specs.Prelude.{◌≡◌, ℕ, ◌≤◌, true, false, length};
+ghost use Rattle.std.specs.Prelude.{◌≡◌, ℕ, ◌≤◌, true, false};
 ghost use Rattle.sqlx_pool_core.specs.Giving.{is_pass};
 ghost use Rattle.sqlx_pool.specs.Checks.{IfPassed};
 
@@ -8,10 +8,9 @@ use super::PoolOf;
 use crate::filled::Filled;
 use crate::{Loans, Locked, checks};
 use sqlx_pool_core::idle_check::{Check, Opening};
-use sqlx_pool_core::{Idle, Openings, Outside, PoolConnectionMetadata, PoolOptions};
+use sqlx_pool_core::{Openings, Outside, PoolConnectionMetadata, PoolOptions};
 use sqlx_text::{Depth, Error, Moment};
 use std::alloc::Global;
-use std::collections::VecDeque;
 use std::sync::Wait;
 use std::sync::atomic::Ordering;
 use std::sync::ledger::Ledger;
@@ -33,25 +32,6 @@ fn is_too_old(options: &PoolOptions, created: Moment, now: Moment) -> bool {
         Some(limit) => limit < now.0.saturating_sub(created.0),
         None => false,
     }
-}
-
-// Closes idle connections, hard or gently, and tells how many.
-pub(super) fn close_all<C: Drop, O, X: Outside<C, O>>(
-    check: Check,
-    idle: VecDeque<Idle<C>>,
-    out: &mut X,
-) -> usize
-    ensures count { result ≡ length idle.items }
-    ensures counts { (X.faults out.old ≤ X.faults out.new) × (X.refusals out.old ≤ X.refusals out.new) }
-{
-    let mut idle = idle;
-    let count = idle.len();
-    for _ in 0..count {
-        if let Some(closed) = idle.pop_front() {
-            checks::close_by::<C, O, X>(check, closed.lent.raw, out);
-        }
-    }
-    count
 }
 
 impl<C: Depth + Drop, O: Drop, H: Ledger, L: Loans> PoolOf<C, O, H, L> {
@@ -109,7 +89,7 @@ impl<C: Depth + Drop, O: Drop, H: Ledger, L: Loans> PoolOf<C, O, H, L> {
         self.shared.closed.store(true, Ordering::SeqCst);
         drop(guard);
         self.notify();
-        close_all::<C, O, X>(Check::Close, idle, out)
+        checks::close_all::<C, O, X>(Check::Close, idle, out)
     }
 
     /// Closes the idle connections that rest for longer than the idle limit or are older than the lifetime, at most as

@@ -14,6 +14,6 @@ invariant_of-self g c =
     let opens = c.opens-opens.ensures ∙ ap (λ b. not b && is_some c.args.raw) c.is_closed-shut.ensures.own in
     let conn = ap (λ n. n.next_conn) c.numbers-conn.ensures.own in
     stepped c.self.invariant c.minimum_done-back.ensures.balance c.minimum_done-back.ensures.makes
-    (leaves-along g.C.Depth.levels core _ _ c.minimum_done-back.ensures.becomes (done-leaves g.C.Depth.levels moment c.args.raw core c.requires.flat))
+    (leaves-along g.C.Depth.levels core _ _ c.minimum_done-back.ensures.becomes (done-leaves g.C.Depth.levels core.shut moment c.args.raw core c.requires.flat))
     c.self.inside.connect c.self.inside.books (kept-books c.self.inside.books (done_marks core.shut core.next_conn moment c.args.raw) (done-lends core.shut core.next_conn moment c.args.raw))
     c.open_if.new.log.items _ (c.open_if.ensures.marks ∙ ap (λ l. c.self.inside.log.items ++ l) (done-made core.shut c.args.raw c.opens-opens.result opens _ core.next_conn conn _ moment c.moment-moment.ensures.moment)) (omega (arith, room, capacity))

@@ -1,5 +1,5 @@
 use Rattle.std.proofs.Common.{◌≤◌}
-use Rattle.sqlx_pool.proofs.pool.maintenance.close_all.Given as goal
+use Rattle.sqlx_pool.proofs.checks.close_all.Given as goal
 
 -- the counts never fall
 abbrev pub invariant-loop : goal.invariant-loop

@@ -1,0 +1,125 @@
+//! Waiting for a connection: polls of a ticket, between which the thread sleeps until a step may have freed something.
+
+ghost use Rattle.std.specs.Prelude.{◌≡◌, ℕ, ◌<◌, ◌≤◌, true, IfOk, IfErr, OnOk, OnErr};
+ghost use Rattle.sqlx_pool.specs.Booked.{CountsIf};
+ghost use Rattle.sqlx_pool.specs.Polling.{is_ready, IfReady, IfFailed};
+ghost use Rattle.sqlx_pool.specs.Refusals.{IsPollRefusal};
+
+use super::FamilyAcquiringOf;
+use crate::pool::Guard;
+use crate::{FamilyConnectionOf, FamilyPollOf, FamilyPoolOf};
+use sqlx_pool::stage::{Stage, Why};
+use sqlx_pool::{Clock, Held, Loans, Polling, Tally};
+use sqlx_pool_core::Outside;
+use sqlx_text::{Depth, Error};
+use std::alloc::Global;
+use std::sync::Wait;
+use std::sync::ledger::Ledger;
+
+impl<C: Depth + Drop, O: Drop, H: Ledger, L: Loans> FamilyPoolOf<C, O, H, L> {
+    // Lets the lock go. Where the ticket waits, it then sleeps until all are called.
+    //
+    // No call is missed. The lock was held since the step that said `Waiting`, so the ticket isn't entitled yet, and the
+    // calls of its place are counted as they are now. A step that may entitle it is made under a later holding, of
+    // whichever pool, and then its maker calls all places: that raises the count, and a sleep on another count ends, or
+    // doesn't begin.
+    fn sleep_if_waiting<R: Wait>(
+        &self,
+        rt: &R,
+        guard: Guard<'_, C, O, H, L>,
+        ticket: u64,
+        begun: &Stage<C, Held<H>>,
+    ) {
+        let place = self.shared.sleepers.place(ticket);
+        let calls = place.calls();
+        drop(guard);
+        if let Stage::Pending(Why::Waiting) = begun {
+            place.sleep(rt, calls, false);
+        }
+    }
+
+    /// Asks for a connection and waits for it. While its ticket waits in the line, the thread sleeps until a step of any
+    /// pool of the family frees something or closes a pool; then, and in backoff, it reads the clock again and polls. It
+    /// may never return: a ticket whose time is over ends only when it is polled.
+    pub fn acquire_wait<R: Wait, K: Clock, X: Outside<C, O>>(
+        &self,
+        rt: &R,
+        alloc: Global,
+        clock: &mut K,
+        client: u32,
+        out: &mut X,
+        tally: &mut Tally<L>,
+    ) -> Result<FamilyConnectionOf<C, O, H, L>, Error>
+        requires { 0 < tally.old.parts }
+        ensures lent { OnOk result (CountsIf true tally.old tally.new) }
+        ensures refused { OnErr result (tally.new ≡ tally.old) }
+        ensures flat { IfOk result (λ conn. C.levels conn.raw ≡ 0) }
+        ensures causes { IfErr result (IsPollRefusal (X.faults out.old) (X.faults out.new)) }
+        ensures counts { (X.faults out.old ≤ X.faults out.new) × (X.refusals out.old ≤ X.refusals out.new) }
+    {
+        let now = clock.now();
+        match self.acquire(rt, alloc, now, client) {
+            Ok(asked) => asked.wait::<R, K, X>(rt, alloc, clock, out, tally),
+            Err(error) => Err(error),
+        }
+    }
+}
+
+impl<C: Depth + Drop, O: Drop, H: Ledger, L: Loans> FamilyAcquiringOf<C, O, H, L> {
+    // Polls until the ticket ends.
+    #[tactic(auto, using(sqlx_pool::proofs::RefusalLemmas::refusal_sooner))]
+    fn wait<R: Wait, K: Clock, X: Outside<C, O>>(
+        self,
+        rt: &R,
+        alloc: Global,
+        clock: &mut K,
+        out: &mut X,
+        tally: &mut Tally<L>,
+    ) -> Result<FamilyConnectionOf<C, O, H, L>, Error>
+        requires { 0 < tally.old.parts }
+        ensures lent { OnOk result (CountsIf true tally.old tally.new) }
+        ensures refused { OnErr result (tally.new ≡ tally.old) }
+        ensures flat { IfOk result (λ conn. C.levels conn.raw ≡ 0) }
+        ensures causes { IfErr result (IsPollRefusal (X.faults out.old) (X.faults out.new)) }
+        ensures counts { (X.faults out.old ≤ X.faults out.new) × (X.refusals out.old ≤ X.refusals out.new) }
+    {
+        let mut asked = self;
+        for _round in rt.forever() {
+            match asked.poll_or_sleep::<R, K, X>(rt, alloc, clock, out, tally) {
+                Polling::Ready(conn) => return Ok(conn),
+                Polling::Failed(error) => return Err(error),
+                Polling::Pending(again, _) => asked = again,
+            }
+        }
+        unreachable!()
+    }
+
+    // Polls, and sleeps where the ticket waits.
+    fn poll_or_sleep<R: Wait, K: Clock, X: Outside<C, O>>(
+        self,
+        rt: &R,
+        alloc: Global,
+        clock: &mut K,
+        out: &mut X,
+        tally: &mut Tally<L>,
+    ) -> FamilyPollOf<C, O, H, L>
+        requires { 0 < tally.old.parts }
+        ensures tally { CountsIf (is_ready result) tally.old tally.new }
+        ensures flat { IfReady result (λ conn. C.levels conn.raw ≡ 0) }
+        ensures causes { IfFailed result (IsPollRefusal (X.faults out.old) (X.faults out.new)) }
+        ensures counts { (X.faults out.old ≤ X.faults out.new) × (X.refusals out.old ≤ X.refusals out.new) }
+    {
+        let now = clock.now();
+        let mut guard = self.pool.shared.locked.lock(rt);
+        let begun = guard.begin(
+            self.pool.name,
+            &self.pool.options,
+            self.client,
+            self.ticket,
+            now,
+            tally,
+        );
+        self.pool.sleep_if_waiting(rt, guard, self.ticket, &begun);
+        self.go_on::<R, X>(rt, alloc, now, begun, out, tally)
+    }
+}

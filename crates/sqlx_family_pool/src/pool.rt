@@ -1,0 +1,241 @@
+//! The handle on one pool of a family that threads share. Each call takes the lock for one step at a time.
+
+ghost use Rattle.std.specs.Prelude.{◌≡◌, ℕ, ◌+◌, ◌^◌, ◌<◌, ◌≤◌, ◌⊎◌, [], is_some, length, IfOk, IfErr, IfSome, OnErr};
+ghost use Rattle.sqlx_text.specs.declared.error.Error.{Error};
+ghost use Rattle.sqlx_log.specs.FairLog.{IsSafe};
+ghost use Rattle.sqlx_pool.specs.Booked.{CountsIf};
+ghost use Rattle.sqlx_pool.specs.MarkLog.{IsUncut};
+ghost use Rattle.sqlx_pool.specs.Opened.{IsOpenable};
+ghost use Rattle.sqlx_family_pool.specs.Handles.{IsChildOf};
+
+mod maintenance;
+mod polls;
+
+use crate::{FamilyAcquiringOf, FamilyConnectionOf, LockedFamily};
+use sqlx_pool::sleepers::Sleepers;
+use sqlx_pool::{Loans, MarkLog, Tally};
+use sqlx_pool_core::PoolOptions;
+use sqlx_text::{Depth, Error, Moment, OutOfMemory};
+use std::alloc::Global;
+use std::sync::ledger::{Blank, Ledger};
+use std::sync::{Arc, Mutex, MutexGuard, Wait};
+
+// What the handles of a family share.
+#[derive(Drop)]
+pub(crate) struct Shared<C: Depth, O, H: Ledger, L: Loans> {
+    pub(crate) locked: Mutex<LockedFamily<C, Arc<O, Global>, H, L>>,
+    // Where those sleep that wait for their turn, in whichever pool.
+    pub(crate) sleepers: Sleepers,
+}
+
+// What is under the lock, while it is held.
+pub(crate) type Guard<'a, C, O, H, L> = MutexGuard<'a, LockedFamily<C, Arc<O, Global>, H, L>>;
+
+/// One pool of a family: of connections of the type `C`, which are opened by options of the type `O`. Handles on each pool
+/// of a family go into as many threads as need be. In sqlx: a pool, or one with a `parent`.
+#[derive(Drop)]
+pub struct FamilyPoolOf<C: Depth, O, H: Ledger, L: Loans> {
+    pub(crate) shared: Arc<Shared<C, O, H, L>, Global>,
+    pub(crate) name: u32,
+    pub(crate) options: PoolOptions,
+}
+
+impl<C: Depth + Drop, O: Drop, H: Ledger, L: Loans> FamilyPoolOf<C, O, H, L> {
+    /// A root with no connection yet and without children, and the tally of its family's loans with every part. The two
+    /// blanks are the ledgers of the connections that are held and of the loans, in whichever pool.
+    pub fn root(
+        alloc: Global,
+        options: PoolOptions,
+        connect: O,
+        held: Blank,
+        loans: Blank,
+    ) -> Result<(Self, Tally<L>), OutOfMemory>
+        requires options { IsOpenable options L.max }
+        requires held { (held.name ≡ H.name) × (held.parts ≡ H.parts) × (held.parts ≡ 2 ^ 32) }
+        requires loans { (loans.name ≡ L.name) × (loans.parts ≡ L.parts) }
+        ensures name { IfOk result (λ made. made.0.name ≡ 0) }
+        ensures options { IfOk result (λ made. made.0.options ≡ options) }
+        ensures tally { IfOk result (λ made. made.1 ≡ record { parts = L.parts; loans = 0 }) }
+    {
+        let Ok(connect) = Arc::new(alloc, connect) else {
+            return Err(OutOfMemory);
+        };
+        let (locked, tally) = LockedFamily::new(alloc, options, connect, held, loans)?;
+        let shared = Shared {
+            locked: Mutex::new(locked),
+            sleepers: Sleepers::new(),
+        };
+        match Arc::new(alloc, shared) {
+            Ok(shared) => {
+                let root = FamilyPoolOf {
+                    shared,
+                    name: 0,
+                    options,
+                };
+                Ok((root, tally))
+            }
+            Err(_) => Err(OutOfMemory),
+        }
+    }
+
+    /// Another handle on the same pool. In sqlx: `clone`.
+    pub fn try_clone(&self) -> Result<Self, OutOfMemory>
+        ensures name { IfOk result (λ copy. copy.name ≡ self.now.name) }
+        ensures options { IfOk result (λ copy. copy.options ≡ self.now.options) }
+    {
+        match Arc::try_clone(&self.shared) {
+            Ok(shared) => Ok(FamilyPoolOf {
+                shared,
+                name: self.name,
+                options: self.options,
+            }),
+            Err(_) => Err(OutOfMemory),
+        }
+    }
+
+    /// A new child of a root, which owns no permit yet. It is `Exhausted` where the family has 2^32 - 1 pools.
+    pub fn child<R: Wait>(&self, rt: &R, alloc: Global, options: PoolOptions) -> Result<Self, Error>
+        requires root { self.now.name ≡ 0 }
+        requires options { IsChildOf options L.max }
+        ensures name { IfOk result (λ child. 1 ≤ child.name) }
+        ensures options { IfOk result (λ child. child.options ≡ options) }
+        ensures causes { IfErr result (λ e. (e ≡ Error.Exhausted) ⊎ (e ≡ Error.OutOfMemory)) }
+    {
+        let Ok(shared) = Arc::try_clone(&self.shared) else {
+            return Err(Error::OutOfMemory);
+        };
+        let added = self.shared.locked.lock(rt).child(alloc, options);
+        match added {
+            Ok(name) => Ok(FamilyPoolOf {
+                shared,
+                name,
+                options,
+            }),
+            Err(error) => {
+                drop(shared);
+                Err(error)
+            }
+        }
+    }
+
+    // Lets the lock go, and wakes all that wait for their turn, in whichever pool: behind a step that may have freed a
+    // permit, ended a ticket, or closed a pool.
+    pub(crate) fn unlock(&self, guard: Guard<'_, C, O, H, L>) {
+        drop(guard);
+        self.notify();
+    }
+
+    // Wakes all that wait for their turn.
+    pub(crate) fn notify(&self) {
+        self.shared.sleepers.call_all();
+    }
+
+    /// Asks for a connection: a ticket at the end of the line, which is polled by the value that comes back.
+    pub fn acquire<R: Wait>(
+        &self,
+        rt: &R,
+        alloc: Global,
+        now: Moment,
+        client: u32,
+    ) -> Result<FamilyAcquiringOf<C, O, H, L>, Error>
+        ensures { IfErr result (λ e. (e ≡ Error.PoolClosed) ⊎ ((e ≡ Error.Exhausted) ⊎ (e ≡ Error.OutOfMemory))) }
+    {
+        let Ok(pool) = self.try_clone() else {
+            return Err(Error::OutOfMemory);
+        };
+        let asked = self
+            .shared
+            .locked
+            .lock(rt)
+            .ask(self.name, alloc, now, client);
+        match asked {
+            Ok(ticket) => Ok(FamilyAcquiringOf::new(pool, client, ticket)),
+            Err(error) => {
+                drop(pool);
+                Err(error)
+            }
+        }
+    }
+
+    /// The first idle connection, past the line and without a test: where the pool is open, a connection is idle, and
+    /// fewer tickets wait than permits are free. The root counts the tickets of the root's line, a child its own.
+    /// `Exhausted` where the family made 2^62 loans.
+    pub fn try_acquire<R: Wait>(
+        &self,
+        rt: &R,
+        alloc: Global,
+        now: Moment,
+        client: u32,
+        tally: &mut Tally<L>,
+    ) -> Result<Option<FamilyConnectionOf<C, O, H, L>>, Error>
+        requires { 0 < tally.old.parts }
+        ensures tally { IfOk result (λ lent. CountsIf (is_some lent) tally.old tally.new) }
+        ensures flat { IfOk result (λ lent. IfSome lent (λ conn. C.levels conn.raw ≡ 0)) }
+        ensures causes { IfErr result (λ e. (e ≡ Error.Exhausted) ⊎ (e ≡ Error.OutOfMemory)) }
+        ensures err { OnErr result (tally.new ≡ tally.old) }
+    {
+        let Ok(pool) = self.try_clone() else {
+            return Err(Error::OutOfMemory);
+        };
+        let tried = self
+            .shared
+            .locked
+            .lock(rt)
+            .try_acquire(self.name, alloc, now, client, tally);
+        match tried {
+            Ok(Some((lent, held))) => Ok(Some(FamilyConnectionOf::new(pool, client, lent, held))),
+            Ok(None) => {
+                drop(pool);
+                Ok(None)
+            }
+            Err(error) => {
+                drop(pool);
+                Err(error)
+            }
+        }
+    }
+
+    /// How the pool was set up.
+    pub fn options(&self) -> &PoolOptions
+        ensures { result.now ≡ self.now.options }
+    {
+        &self.options
+    }
+
+    /// How many permits the pool owns.
+    pub fn owned<R: Wait>(&self, rt: &R) -> u32 {
+        self.shared.locked.lock(rt).owned(self.name)
+    }
+
+    /// How many connections there are or may be.
+    pub fn size<R: Wait>(&self, rt: &R) -> u32 {
+        self.shared.locked.lock(rt).size(self.name)
+    }
+
+    /// How many connections are idle.
+    pub fn num_idle<R: Wait>(&self, rt: &R) -> usize {
+        self.shared.locked.lock(rt).num_idle(self.name)
+    }
+
+    /// Whether the pool is closed: a close came to it, or to its root.
+    pub fn is_closed<R: Wait>(&self, rt: &R) -> bool {
+        self.shared.locked.lock(rt).is_closed(self.name)
+    }
+
+    /// The options by which connections are opened.
+    pub fn connect_options<R: Wait>(&self, rt: &R) -> Result<Arc<O, Global>, OutOfMemory> {
+        let guard = self.shared.locked.lock(rt);
+        match Arc::try_clone(guard.connect_options()) {
+            Ok(connect) => Ok(connect),
+            Err(_) => Err(OutOfMemory),
+        }
+    }
+
+    /// The pool's maximum, and a copy of its log, which is safe for that maximum.
+    pub fn read_log<R: Wait>(&self, rt: &R, alloc: Global) -> Result<(u32, MarkLog), OutOfMemory>
+        ensures uncut { IfOk result (λ read. IsUncut read.1) }
+        ensures safe { IfOk result (λ read. IsSafe read.0 [] read.1.marks.items) }
+    {
+        self.shared.locked.lock(rt).read_log(self.name, alloc)
+    }
+}

@@ -1,0 +1,256 @@
+//! What keeps a pool in shape, closing it and retiring it: one locked step a connection, with the connects and closes
+//! between.
+
+ghost use Rattle.std.specs.Prelude.{◌≡◌, ℕ, ◌≤◌, true, false, IfSome};
+ghost use Rattle.sqlx_pool_core.specs.Giving.{is_pass};
+ghost use Rattle.sqlx_pool.specs.Checks.{IfPassed};
+
+use super::FamilyPoolOf;
+use crate::LockedFamily;
+use sqlx_pool::filled::Filled;
+use sqlx_pool::{Loans, checks};
+use sqlx_pool_core::idle_check::{Check, Opening};
+use sqlx_pool_core::{Openings, Outside, PoolConnectionMetadata};
+use sqlx_text::{Depth, Error, Moment};
+use std::alloc::Global;
+use std::sync::Wait;
+use std::sync::ledger::Ledger;
+
+impl<C: Depth, O, H: Ledger, L: Loans> LockedFamily<C, O, H, L> {
+    // The moment at which a connection that comes back to a pool is tested; None where it is to be closed anyway.
+    fn tests_at(&self, pool: u32, created: Moment, now: Moment) -> Option<Moment> {
+        if self.must_close(pool, created, now) {
+            None
+        } else {
+            Some(self.moment(now))
+        }
+    }
+}
+
+impl<C: Depth + Drop, O: Drop, H: Ledger, L: Loans> FamilyPoolOf<C, O, H, L> {
+    // Tests a connection that comes back, unless it is to be closed anyway.
+    pub(crate) fn check<R: Wait, X: Outside<C, O>>(
+        &self,
+        rt: &R,
+        closes: bool,
+        created: Moment,
+        now: Moment,
+        raw: &mut C,
+        out: &mut X,
+    ) -> Check
+        ensures flat { IfPassed result (C.levels raw.new ≡ 0) }
+        ensures closes { closes ≡ true → is_pass result ≡ false }
+        ensures counts { (X.faults out.old ≤ X.faults out.new) × (X.refusals out.old ≤ X.refusals out.new) }
+    {
+        if closes {
+            return Check::Close;
+        }
+        let tests_at = self
+            .shared
+            .locked
+            .lock(rt)
+            .tests_at(self.name, created, now);
+        match tests_at {
+            None => Check::Close,
+            Some(moment) => {
+                let meta = PoolConnectionMetadata {
+                    age: moment.0.saturating_sub(created.0),
+                    idle_for: 0,
+                };
+                checks::may_rest::<C, O, X>(&self.options, raw, meta, out)
+            }
+        }
+    }
+
+    /// Closes the pool: from now on it serves no ticket and keeps no connection. The idle connections are closed; their
+    /// number comes back. A second close gives 0. Where it is the root, each child counts as closed from now on; a child's
+    /// idle connections stay until its own close.
+    pub fn close<R: Wait, X: Outside<C, O>>(&self, rt: &R, alloc: Global, out: &mut X) -> usize
+        ensures counts { (X.faults out.old ≤ X.faults out.new) × (X.refusals out.old ≤ X.refusals out.new) }
+    {
+        let mut guard = self.shared.locked.lock(rt);
+        let idle = guard.close(self.name, alloc);
+        self.unlock(guard);
+        checks::close_all::<C, O, X>(Check::Close, idle, out)
+    }
+
+    /// Closes a child, as `close`, and hands its free permits to the root; a permit that it frees later goes there at
+    /// once. The idle connections are closed; their number comes back.
+    pub fn retire<R: Wait, X: Outside<C, O>>(&self, rt: &R, alloc: Global, out: &mut X) -> usize
+        requires child { 1 ≤ self.now.name }
+        ensures counts { (X.faults out.old ≤ X.faults out.new) × (X.refusals out.old ≤ X.refusals out.new) }
+    {
+        let mut guard = self.shared.locked.lock(rt);
+        let idle = guard.retire(self.name, alloc);
+        self.unlock(guard);
+        checks::close_all::<C, O, X>(Check::Close, idle, out)
+    }
+
+    /// Closes the idle connections that rest for longer than the idle limit or are older than the lifetime, at most as
+    /// many as the pool may have, and then keeps the minimum. How many were closed, and what the minimum came to.
+    pub fn reap<R: Wait, X: Outside<C, O>>(
+        &self,
+        rt: &R,
+        alloc: Global,
+        now: Moment,
+        out: &mut X,
+    ) -> (u32, Openings)
+        ensures most { (result.0 ≤ self.now.options.max_connections) × (result.1.opened ≤ self.now.options.max_connections) }
+        ensures counts { (X.faults out.old ≤ X.faults out.new) × (X.refusals out.old ≤ X.refusals out.new) }
+    {
+        let reaped = self.reap_all::<R, X>(rt, now, out);
+        (reaped, self.keep_minimum::<R, X>(rt, alloc, now, out))
+    }
+
+    // Closes what is to be reaped.
+    fn reap_all<R: Wait, X: Outside<C, O>>(&self, rt: &R, now: Moment, out: &mut X) -> u32
+        ensures most { result ≤ self.now.options.max_connections }
+        ensures counts { (X.faults out.old ≤ X.faults out.new) × (X.refusals out.old ≤ X.refusals out.new) }
+    {
+        let max = self.options.get_max_connections();
+        for reaped in 0..max {
+            let idle = self.shared.locked.lock(rt).reap(self.name, now);
+            match idle {
+                Some(idle) => checks::close_by::<C, O, X>(Check::Close, idle.lent.raw, out),
+                None => return reaped,
+            }
+        }
+        max
+    }
+
+    // Keeps the minimum after a loan that ended; after another nothing is opened.
+    pub(crate) fn keep_minimum_if<R: Wait, X: Outside<C, O>>(
+        &self,
+        ended: bool,
+        rt: &R,
+        alloc: Global,
+        now: Moment,
+        out: &mut X,
+    ) -> Openings
+        ensures most { result.opened ≤ self.now.options.max_connections }
+        ensures counts { (X.faults out.old ≤ X.faults out.new) × (X.refusals out.old ≤ X.refusals out.new) }
+    {
+        if ended {
+            self.keep_minimum::<R, X>(rt, alloc, now, out)
+        } else {
+            Openings {
+                opened: 0,
+                short: false,
+            }
+        }
+    }
+
+    /// Opens connections up to the minimum, and puts them last among the idle: one by one, while the pool is open, has
+    /// fewer connections than the minimum and the maximum, and fewer tickets wait than permits are free; at most as many
+    /// as the pool may have. The root counts the tickets of the root's line, a child its own. The first refusal, or want
+    /// of memory, ends it.
+    pub fn keep_minimum<R: Wait, X: Outside<C, O>>(
+        &self,
+        rt: &R,
+        alloc: Global,
+        now: Moment,
+        out: &mut X,
+    ) -> Openings
+        ensures most { result.opened ≤ self.now.options.max_connections }
+        ensures counts { (X.faults out.old ≤ X.faults out.new) × (X.refusals out.old ≤ X.refusals out.new) }
+    {
+        let max = self.options.get_max_connections();
+        for opened in 0..max {
+            match self.open_one::<R, X>(rt, alloc, now, out) {
+                Filled::Opened => {}
+                filled => {
+                    return Openings {
+                        opened,
+                        short: filled == Filled::Short,
+                    };
+                }
+            }
+        }
+        Openings {
+            opened: max,
+            short: false,
+        }
+    }
+
+    // Tries to open one connection for the minimum, where a place may be held.
+    fn open_one<R: Wait, X: Outside<C, O>>(
+        &self,
+        rt: &R,
+        alloc: Global,
+        now: Moment,
+        out: &mut X,
+    ) -> Filled
+        ensures counts { (X.faults out.old ≤ X.faults out.new) × (X.refusals out.old ≤ X.refusals out.new) }
+    {
+        let place = self.shared.locked.lock(rt).minimum_place(self.name, alloc);
+        match place {
+            Ok(true) => self.fill_place::<R, X>(rt, alloc, now, out),
+            Ok(false) => Filled::Full,
+            Err(_) => Filled::Short,
+        }
+    }
+
+    // Tries to open a connection for a place that is held.
+    fn fill_place<R: Wait, X: Outside<C, O>>(
+        &self,
+        rt: &R,
+        alloc: Global,
+        now: Moment,
+        out: &mut X,
+    ) -> Filled
+        ensures counts { (X.faults out.old ≤ X.faults out.new) × (X.refusals out.old ≤ X.refusals out.new) }
+    {
+        match self.open::<R, X>(rt, alloc, out) {
+            Opening::Opened(raw) => self.keep_new::<R, X>(rt, now, raw, out),
+            Opening::Rejected | Opening::Transient => {
+                self.let_go(rt, now);
+                Filled::Refused
+            }
+            Opening::Failed(error) => {
+                self.let_go(rt, now);
+                let filled = match &error {
+                    Error::OutOfMemory => Filled::Short,
+                    _ => Filled::Refused,
+                };
+                drop(error);
+                filled
+            }
+        }
+    }
+
+    // Puts a new connection last among the idle; in a pool that was closed meanwhile it is closed.
+    fn keep_new<R: Wait, X: Outside<C, O>>(
+        &self,
+        rt: &R,
+        now: Moment,
+        raw: C,
+        out: &mut X,
+    ) -> Filled
+        requires { C.levels raw ≡ 0 }
+        ensures counts { (X.faults out.old ≤ X.faults out.new) × (X.refusals out.old ≤ X.refusals out.new) }
+    {
+        let back = self.done(rt, now, Some(raw));
+        match back {
+            None => Filled::Opened,
+            Some(raw) => {
+                checks::close_by::<C, O, X>(Check::Close, raw, out);
+                Filled::Full
+            }
+        }
+    }
+
+    // Gives a place back for which nothing was opened.
+    fn let_go<R: Wait>(&self, rt: &R, now: Moment) {
+        drop(self.done(rt, now, None));
+    }
+
+    // Tells what came of a connection for which a place was held. What comes back is to be closed.
+    fn done<R: Wait>(&self, rt: &R, now: Moment, raw: Option<C>) -> Option<C>
+        requires { IfSome raw (λ conn. C.levels conn ≡ 0) }
+    {
+        let mut guard = self.shared.locked.lock(rt);
+        let back = guard.minimum_done(self.name, now, raw);
+        self.unlock(guard);
+        back
+    }
+}
