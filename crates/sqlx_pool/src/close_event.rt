@@ -1,6 +1,8 @@
 //! What tells that a pool is closed.
 
-ghost use Rattle.std.specs.Prelude.{◌≡◌};
+ghost use Rattle.std.specs.Prelude.{◌≡◌, not};
+ghost use Rattle.sqlx_log.specs.Marks.{is_open};
+ghost use Rattle.sqlx_pool.specs.Seen.{Saw, Watched};
 
 use crate::{Loans, PoolOf};
 use sqlx_text::{Depth, Error};
@@ -29,12 +31,17 @@ impl<C: Depth + Drop, O: Drop, H: Ledger, L: Loans> CloseEventOf<C, O, H, L> {
     }
 
     /// Whether the pool is closed.
-    pub fn poll<R: Wait>(&mut self, rt: &R) -> bool {
+    pub fn poll<R: Wait>(&mut self, rt: &R) -> bool
+        ensures saw { Saw C.levels L.max L.cuts (λ state. is_open state.marks ≡ not result) }
+        ensures same { self.new ≡ self.old }
+    {
         self.pool.is_closed(rt)
     }
 
     /// Whether the pool is closed, so that nothing else comes.
-    pub fn is_terminated<R: Wait>(&self, rt: &R) -> bool {
+    pub fn is_terminated<R: Wait>(&self, rt: &R) -> bool
+        ensures { Saw C.levels L.max L.cuts (λ state. is_open state.marks ≡ not result) }
+    {
         self.pool.is_closed(rt)
     }
 
@@ -44,7 +51,9 @@ impl<C: Depth + Drop, O: Drop, H: Ledger, L: Loans> CloseEventOf<C, O, H, L> {
         &mut self,
         rt: &R,
         step: &mut S,
-    ) -> Option<Result<S::Output, Error>> {
+    ) -> Option<Result<S::Output, Error>>
+        ensures { Watched (λ opened. Saw C.levels L.max L.cuts (λ state. is_open state.marks ≡ opened)) result }
+    {
         if !self.begun {
             self.begun = true;
             if self.pool.is_closed(rt) {
