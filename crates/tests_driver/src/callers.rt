@@ -1,5 +1,5 @@
 //! Callers as `CALLING.md` of `mem_driver` and `shared_mem_driver` names them, with their contracts.
-ghost use Rattle.std.specs.Prelude.{◌×◌, ◌<◌, IfOk};
+ghost use Rattle.std.specs.Prelude.{◌<◌, IfOk};
 ghost use Rattle.sqlx_traits.specs.Calls.{commit};
 ghost use Rattle.mem_driver.specs.Backend.{Does};
 ghost use Rattle.shared_mem_driver.specs.Shared.{IsOpened};

@@ -1,5 +1,5 @@
 //! Callers as `CALLING.md` of `sqlite_driver` names them, with their contracts; each is called once.
-ghost use Rattle.std.specs.Prelude.{◌×◌, IfOk};
+ghost use Rattle.std.specs.Prelude.{IfOk};
 ghost use Rattle.sqlite_driver.specs.Opened.{IsFresh, IsInMemory};
 
 use sqlite_driver::{Sqlite, SqliteConnection, SqliteFiles};
