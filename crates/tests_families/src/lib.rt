@@ -1,6 +1,14 @@
 //! Tests of families behind their lock: how a permit moves, which pool's log a step is written to, and what a retired child
-//! hands over.
+//! hands over; the same by handles, and calls of two threads that wait for a child's connection or for its permit.
 #![tactic(auto)]
 
 #[cfg(test)]
+mod handles;
+#[cfg(test)]
+mod outside;
+#[cfg(test)]
 mod rows;
+#[cfg(test)]
+mod traits;
+#[cfg(test)]
+mod waits;

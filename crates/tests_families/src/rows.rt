@@ -2,10 +2,11 @@
 
 ghost use Rattle.std.specs.Prelude.{◌≡◌, ℕ, ◌^◌, ◌<◌};
 
+use crate::outside::Conn;
 use sqlx_family_pool::LockedFamily;
 use sqlx_pool::Loans;
 use sqlx_pool_core::{AfterConnect, PoolOptions, Start, Tried};
-use sqlx_text::{Depth, Moment};
+use sqlx_text::Moment;
 use std::alloc::Global;
 use std::marker::Brand;
 use std::process::Abort;
@@ -15,20 +16,6 @@ use std::test::*;
 const WAITS: u32 = 1;
 
 const CONNECTS: u32 = 2;
-
-// A connection with so many levels open.
-#[derive(Drop)]
-struct Conn {
-    depth: usize,
-}
-
-impl Depth for Conn {
-    ghost levels = { λ conn. conn.depth };
-
-    fn depth(&self) -> usize {
-        self.depth
-    }
-}
 
 // What the start of a poll comes to.
 fn word(start: Start<Conn>) -> u32 {

@@ -1,0 +1,11 @@
+use Rattle.std.proofs.Common.{false}
+use Rattle.tests_families.proofs.handles.a_root_of_three_and_a_child_of_two.Given as goal
+
+abbrev pub ghosts-family-H-Ledger : goal.ghosts-family-H-Ledger
+ghosts-family-H-Ledger g a = record { name = a.held.name; parts = a.held.parts }
+
+abbrev pub ghosts-family-L-Ledger : goal.ghosts-family-L-Ledger
+ghosts-family-L-Ledger g a = record { name = a.loans.name; parts = a.loans.parts }
+
+abbrev pub ghosts-family-L-Loans : goal.ghosts-family-L-Loans
+ghosts-family-L-Loans g a = record { max = 3; cuts = false }
