@@ -6,6 +6,7 @@
 
 mod acquiring;
 mod connection;
+mod hold;
 mod locked;
 mod pool;
 

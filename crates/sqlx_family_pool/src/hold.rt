@@ -1,0 +1,30 @@
+//! A connection of a pool of a family holds its connection, as a transaction wants it.
+
+use crate::FamilyConnectionOf;
+use sqlx_pool::Loans;
+use sqlx_traits::Database;
+use sqlx_tx::Hold;
+use std::sync::ledger::Ledger;
+
+impl<DB: Database, H: Ledger, L: Loans> Hold<DB>
+    for FamilyConnectionOf<DB::Connection, DB::Options, H, L> {
+    ghost use Rattle.std.specs.Prelude.{refl};
+
+    ghost held = { λ holder. holder.raw };
+
+    ghost holding = { λ holder conn. record holder { raw = conn } };
+
+    ghost puts = { λ _ _. refl };
+
+    ghost keeps = { λ _. refl };
+
+    ghost again = { λ _ _ _. refl };
+
+    fn conn(&self) -> &DB::Connection {
+        &self.raw
+    }
+
+    fn conn_mut(&mut self) -> &mut DB::Connection {
+        &mut self.raw
+    }
+}
