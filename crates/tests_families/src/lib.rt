@@ -1,5 +1,5 @@
 //! Tests of families behind their lock: how a permit moves, which pool's log a step is written to, and what a retired child
-//! hands over; the same by handles, and calls of two threads that wait for a child's connection or for its permit.
+//! hands over; the same by handles.
 #![tactic(auto)]
 
 #[cfg(test)]
@@ -10,5 +10,3 @@ mod outside;
 mod rows;
 #[cfg(test)]
 mod traits;
-#[cfg(test)]
-mod waits;
