@@ -39,15 +39,19 @@ const TO_A_SAVEPOINT: &[Act] = &[
     Act::Put(1, 5),
     Act::Run("SAVEPOINT _sqlx_savepoint_1"),
     Act::Put(1, 6),
+    Act::Get(1),
     Act::Run("ROLLBACK TO SAVEPOINT _sqlx_savepoint_1"),
+    Act::Get(1),
     Act::Run("COMMIT"),
     Act::Get(1),
     Act::Get(2),
+    Act::Run("BEGIN IMMEDIATE"),
+    Act::Depth,
 ];
 
 #[test]
 fn a_rollback_to_a_savepoint(rt: HostRuntime) -> Result<(), Fail> {
-    let want = "0|1|0|1|0|0|Some(5)|None|";
+    let want = "0|1|0|1|Some(6)|0|Some(5)|0|Some(5)|None|0|1|";
     says(&rt, Answer::Accept, TO_A_SAVEPOINT, want)
 }
 
