@@ -1,3 +1,4 @@
 pub mod Replaces
 pub mod StepLemmas
 pub mod PoolLemmas
+pub mod SeenLemmas

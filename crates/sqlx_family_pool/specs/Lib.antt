@@ -1,3 +1,4 @@
 pub mod FamilyState
 pub mod FamilySteps
 pub mod Handles
+pub mod Seen

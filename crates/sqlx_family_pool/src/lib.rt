@@ -9,6 +9,7 @@ mod connection;
 mod hold;
 mod locked;
 mod pool;
+mod seen;
 
 pub use acquiring::FamilyAcquiringOf;
 pub use connection::FamilyConnectionOf;

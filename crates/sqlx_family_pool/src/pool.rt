@@ -1,12 +1,16 @@
 //! The handle on one pool of a family that threads share. Each call takes the lock for one step at a time.
 
-ghost use Rattle.std.specs.Prelude.{◌≡◌, ℕ, ◌+◌, ◌^◌, ◌<◌, ◌≤◌, ◌⊎◌, [], is_some, length, IfOk, IfErr, IfSome, OnErr};
+ghost use Rattle.std.specs.Prelude.{◌≡◌, ℕ, ◌+◌, ◌-◌, ◌^◌, ◌<◌, ◌≤◌, ◌⊎◌, [], Err, is_some, length, IfOk, IfErr, IfSome, OnErr};
 ghost use Rattle.sqlx_text.specs.declared.error.Error.{Error};
 ghost use Rattle.sqlx_log.specs.FairLog.{IsSafe};
+ghost use Rattle.sqlx_pool_core.specs.Core.{size};
+ghost use Rattle.sqlx_family.specs.Pools.{pool_in, counts_as_closed};
+ghost use Rattle.sqlx_family.specs.Permits.{owned_by};
 ghost use Rattle.sqlx_pool.specs.Booked.{CountsIf};
 ghost use Rattle.sqlx_pool.specs.MarkLog.{IsUncut};
 ghost use Rattle.sqlx_pool.specs.Opened.{IsOpenable};
 ghost use Rattle.sqlx_family_pool.specs.Handles.{IsChildOf};
+ghost use Rattle.sqlx_family_pool.specs.Seen.{SawFamily};
 
 mod maintenance;
 mod polls;
@@ -93,18 +97,20 @@ impl<C: Depth + Drop, O: Drop, H: Ledger, L: Loans> FamilyPoolOf<C, O, H, L> {
         }
     }
 
-    /// A new child of a root, which owns no permit yet. It is `Exhausted` where the family has 2^32 - 1 pools.
+    /// A new child of a root, which owns no permit yet. It is `Exhausted` only where the family had 2^32 - 1 pools.
     pub fn child<R: Wait>(&self, rt: &R, alloc: Global, options: PoolOptions) -> Result<Self, Error>
         requires root { self.now.name ≡ 0 }
         requires options { IsChildOf options L.max }
         ensures name { IfOk result (λ child. 1 ≤ child.name) }
+        ensures added { IfOk result (λ child. SawFamily C.levels L.max (λ state. child.name ≡ length state.family.pools)) }
         ensures options { IfOk result (λ child. child.options ≡ options) }
+        ensures full { (result ≡ Err Error.Exhausted) → SawFamily C.levels L.max (λ state. length state.family.pools ≡ 2 ^ 32 - 1) }
         ensures causes { IfErr result (λ e. (e ≡ Error.Exhausted) ⊎ (e ≡ Error.OutOfMemory)) }
     {
         let Ok(shared) = Arc::try_clone(&self.shared) else {
             return Err(Error::OutOfMemory);
         };
-        let added = self.shared.locked.lock(rt).child(alloc, options);
+        let added = self.shared.locked.lock(rt).seen_child(alloc, options);
         match added {
             Ok(name) => Ok(FamilyPoolOf {
                 shared,
@@ -203,23 +209,32 @@ impl<C: Depth + Drop, O: Drop, H: Ledger, L: Loans> FamilyPoolOf<C, O, H, L> {
     }
 
     /// How many permits the pool owns.
-    pub fn owned<R: Wait>(&self, rt: &R) -> u32 {
-        self.shared.locked.lock(rt).owned(self.name)
+    pub fn owned<R: Wait>(&self, rt: &R) -> u32
+        ensures most { result ≤ L.max }
+        ensures saw { SawFamily C.levels L.max (λ state. result ≡ owned_by self.now.name state.family) }
+    {
+        self.shared.locked.lock(rt).seen_owned(self.name)
     }
 
     /// How many connections there are or may be.
-    pub fn size<R: Wait>(&self, rt: &R) -> u32 {
-        self.shared.locked.lock(rt).size(self.name)
+    pub fn size<R: Wait>(&self, rt: &R) -> u32
+        ensures { SawFamily C.levels L.max (λ state. result ≡ size (pool_in self.now.name state.family)) }
+    {
+        self.shared.locked.lock(rt).seen_size(self.name)
     }
 
     /// How many connections are idle.
-    pub fn num_idle<R: Wait>(&self, rt: &R) -> usize {
-        self.shared.locked.lock(rt).num_idle(self.name)
+    pub fn num_idle<R: Wait>(&self, rt: &R) -> usize
+        ensures { SawFamily C.levels L.max (λ state. result ≡ length (pool_in self.now.name state.family).idle) }
+    {
+        self.shared.locked.lock(rt).seen_idle(self.name)
     }
 
     /// Whether the pool is closed: a close came to it, or to its root.
-    pub fn is_closed<R: Wait>(&self, rt: &R) -> bool {
-        self.shared.locked.lock(rt).is_closed(self.name)
+    pub fn is_closed<R: Wait>(&self, rt: &R) -> bool
+        ensures { SawFamily C.levels L.max (λ state. result ≡ counts_as_closed self.now.name state.family) }
+    {
+        self.shared.locked.lock(rt).seen_closed(self.name)
     }
 
     /// The options by which connections are opened.

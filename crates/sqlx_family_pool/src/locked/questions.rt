@@ -5,6 +5,7 @@ ghost use Rattle.sqlx_log.specs.FairLog.{IsSafe};
 ghost use Rattle.sqlx_pool_core.specs.Core.{size};
 ghost use Rattle.sqlx_family.specs.Pools.{pool_in, counts_as_closed};
 ghost use Rattle.sqlx_family.specs.Permits.{owned_by};
+ghost use Rattle.sqlx_family.specs.IsFamily.{IsFamily};
 ghost use Rattle.sqlx_pool.specs.MarkLog.{IsUncut};
 ghost use Rattle.sqlx_family_pool.specs.FamilyState.{IsStanding, IsNamed, log_of};
 
@@ -34,6 +35,13 @@ impl<C: Depth, O, H: Ledger, L: Loans> LockedFamily<C, O, H, L> {
         let _ = &self.family;
     }
 
+    /// What holds of its family, as of every one: the permits that its pools own add up to the root's maximum.
+    pub fn bounds(&self)
+        ensures { IsFamily self.now.family }
+    {
+        self.family.bounds();
+    }
+
     /// Whether a pool has this name.
     pub fn is_named(&self, pool: u32) -> bool
         ensures { result ≡ nat_lt pool (length self.now.family.pools) }
@@ -53,9 +61,9 @@ impl<C: Depth, O, H: Ledger, L: Loans> LockedFamily<C, O, H, L> {
         }
     }
 
-    /// How many permits a pool owns.
+    /// How many permits a pool owns. One that nobody added owns none.
     pub fn owned(&self, pool: u32) -> u32
-        ensures { IsNamed pool self.now → result ≡ owned_by pool self.now.family }
+        ensures { result ≡ owned_by pool self.now.family }
     {
         if self.is_named(pool) {
             self.family.owned(pool)
@@ -64,9 +72,9 @@ impl<C: Depth, O, H: Ledger, L: Loans> LockedFamily<C, O, H, L> {
         }
     }
 
-    /// How many connections of a pool there are or may be.
+    /// How many connections of a pool there are or may be. One that nobody added has none.
     pub fn size(&self, pool: u32) -> u32
-        ensures { IsNamed pool self.now → result ≡ size (pool_in pool self.now.family) }
+        ensures { result ≡ size (pool_in pool self.now.family) }
     {
         if self.is_named(pool) {
             self.family.size(pool)
@@ -75,9 +83,9 @@ impl<C: Depth, O, H: Ledger, L: Loans> LockedFamily<C, O, H, L> {
         }
     }
 
-    /// How many connections of a pool are idle.
+    /// How many connections of a pool are idle. One that nobody added has none.
     pub fn num_idle(&self, pool: u32) -> usize
-        ensures { IsNamed pool self.now → result ≡ length (pool_in pool self.now.family).idle }
+        ensures { result ≡ length (pool_in pool self.now.family).idle }
     {
         if self.is_named(pool) {
             self.family.num_idle(pool)

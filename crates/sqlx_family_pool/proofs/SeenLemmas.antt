@@ -1,0 +1,20 @@
+-- A state stands whatever its connect options are, and no pool owns more permits than its family has.
+use Rattle.std.proofs.Common.{◌≡◌, ℕ, ◌≤◌, inl, inr, length, sum_by, ap, arith}
+use Rattle.std.proofs.lemmas.Bool.Decides.{leb_tells}
+use Rattle.std.proofs.lemmas.List.{get_or_past}
+use Rattle.std.proofs.lemmas.List.Sums.{get_or-le-sum_by}
+use Rattle.sqlx_family.specs.NoPool.{no_pool}
+use Rattle.sqlx_family.specs.Pools.{Pools}
+use Rattle.sqlx_family.specs.Permits.{owned_by}
+use Rattle.sqlx_family.specs.IsFamily.{permits_of}
+use Rattle.sqlx_family_pool.specs.FamilyState.{FamilyState, IsStanding}
+use Rattle.sqlx_family_pool.specs.Seen.{bare_family}
+
+pub standing-bare : {C O : Type 0} (levels : C → ℕ) (max : ℕ) (state : FamilyState C O) → IsStanding levels max state → IsStanding levels max (bare_family state)
+standing-bare levels max state s = record { each = s.each; stand = s.stand; safe = s.safe; rest = s.rest; most = s.most; owned = s.owned; made = s.made }
+
+pub owned-most : {C : Type 0} (f : Pools C) (q : ℕ) → owned_by q f ≤ sum_by permits_of f.pools
+owned-most f q = elim (leb_tells (length f.pools) q) [
+  | inl past ↦ let none : owned_by q f ≡ 0 = ap permits_of (get_or_past f.pools q no_pool past.1) in omega (arith, none)
+  | inr lt ↦ get_or-le-sum_by permits_of f.pools q no_pool lt.1
+]
