@@ -5,9 +5,9 @@ ghost use Rattle.sqlx_pool_core.specs.Logs.{moment_of};
 ghost use Rattle.sqlx_pool_core.specs.MaintenanceSteps.{reap_answer, reap_marks, reaped, has_place_if, placed};
 ghost use Rattle.sqlx_family.specs.Pools.{pool_in, with_pool};
 ghost use Rattle.sqlx_family.specs.RootLine.{passes_in};
-ghost use Rattle.sqlx_pool.specs.Places.{holds_place, done_if_marks, back_if};
+ghost use Rattle.sqlx_pool.specs.Places.{holds_place, back_if};
 ghost use Rattle.sqlx_family_pool.specs.FamilyState.{IsNamed, IsUnnamed, with_made};
-ghost use Rattle.sqlx_family_pool.specs.FamilySteps.{family_after_done};
+ghost use Rattle.sqlx_family_pool.specs.FamilySteps.{marks_of_done, family_after_done};
 
 use super::LockedFamily;
 use sqlx_pool::answers::opens;
@@ -90,7 +90,7 @@ impl<C: Depth, O, H: Ledger, L: Loans> LockedFamily<C, O, H, L> {
     pub fn minimum_done(&mut self, pool: u32, now: Moment, raw: Option<C>) -> Option<C>
         requires flat { IfSome raw (λ conn. C.levels conn ≡ 0) }
         ensures answer { IsNamed pool self.old → let core = pool_in pool self.old.family in result ≡ back_if (holds_place core) core.closed raw }
-        ensures marks { IsNamed pool self.old → let core = pool_in pool self.old.family in self.new.logs ≡ with_made pool (done_if_marks (holds_place core) core.closed core.next_conn (moment_of core now) raw) self.old.logs }
+        ensures marks { IsNamed pool self.old → let core = pool_in pool self.old.family in self.new.logs ≡ with_made pool (marks_of_done core (moment_of core now) raw) self.old.logs }
         ensures becomes { IsNamed pool self.old → let core = pool_in pool self.old.family in self.new.family ≡ family_after_done (holds_place core) pool (moment_of core now) raw self.old.family }
         ensures unnamed { IsUnnamed pool self.old → (result ≡ raw) × (self.new ≡ self.old) }
         ensures connect { self.new.connect ≡ self.old.connect }
