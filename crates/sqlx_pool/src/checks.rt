@@ -1,7 +1,7 @@
 //! What is asked of the outside between two locked steps: the core's own test of an idle connection, try to open one
 //! and test of one that comes back. Nothing here knows the lock. Each reads the connection's own depth last.
 
-ghost use Rattle.std.specs.Prelude.{◌≡◌, ◌==◌, ◌⊎◌, ℕ, ◌≤◌, false, length, IfErr, IfOk, OnErr};
+ghost use Rattle.std.specs.Prelude.{◌≡◌, ◌==◌, ◌⊎◌, ℕ, ◌≤◌, ◌&&◌, false, not, length, IfErr, IfOk, OnErr};
 ghost use Rattle.sqlx_text.specs.declared.error.Error.{Error};
 ghost use Rattle.sqlx_pool_core.specs.Outside.{HasRisen};
 ghost use Rattle.sqlx_pool_core.specs.PollParts.{IfAccepted, IfOpened, IfFailed, IsForGood};
@@ -16,7 +16,9 @@ use std::alloc::Global;
 use std::collections::VecDeque;
 
 // The test of an idle connection asks nothing of the outside.
-pub fn tests_nothing(options: &PoolOptions) -> bool {
+pub fn tests_nothing(options: &PoolOptions) -> bool
+    ensures { result ≡ (not options.now.test_before_acquire && not options.now.before_acquire) }
+{
     !options.get_test_before_acquire() && !options.get_before_acquire()
 }
 

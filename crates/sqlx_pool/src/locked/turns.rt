@@ -1,6 +1,7 @@
 //! Whose turn it is.
 
-ghost use Rattle.std.specs.Prelude.{◌≡◌};
+ghost use Rattle.std.specs.Prelude.{◌≡◌, length};
+ghost use Rattle.sqlx_log.specs.Marks.{tickets_of};
 
 use super::Locked;
 use crate::Loans;
@@ -22,7 +23,9 @@ impl<C: Depth, O, H: Ledger, L: Loans> Locked<C, O, H, L> {
     }
 
     /// How many tickets haven't ended.
-    pub fn num_tickets(&self) -> usize {
+    pub fn num_tickets(&self) -> usize
+        ensures { result ≡ length (tickets_of self.now.marks) }
+    {
         self.core.num_tickets()
     }
 }
