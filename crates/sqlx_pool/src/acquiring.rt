@@ -2,9 +2,11 @@
 
 ghost use Rattle.std.specs.Prelude.{◌≡◌, ℕ, ◌+◌, ◌<◌, ◌≤◌, false};
 ghost use Rattle.sqlx_pool_core.specs.Balance.{one_if};
+ghost use Rattle.sqlx_pool_core.specs.PollSteps.{phase_for, may_cancel};
 ghost use Rattle.sqlx_pool.specs.Booked.{CountsIf};
 ghost use Rattle.sqlx_pool.specs.Polling.{is_ready, IfReady, IfFailed};
 ghost use Rattle.sqlx_pool.specs.Refusals.{IsEnd, IsPollRefusal};
+ghost use Rattle.sqlx_pool.specs.Seen.{Saw};
 ghost use Rattle.sqlx_pool.specs.Stage.{has_lent, IfLent, IfEnded};
 
 mod waits;
@@ -129,14 +131,16 @@ impl<C: Depth + Drop, O: Drop, H: Ledger, L: Loans> AcquiringOf<C, O, H, L> {
     }
 
     /// Gives the ticket up. It ends, and frees what it held: true.
-    pub fn cancel<R: Wait>(self, rt: &R) -> bool {
+    pub fn cancel<R: Wait>(self, rt: &R) -> bool
+        ensures { Saw C.levels L.max L.cuts (λ state. result ≡ may_cancel (phase_for self.client self.ticket state.core.tickets)) }
+    {
         let AcquiringOf {
             pool,
             client,
             ticket,
         } = self;
         let mut guard = pool.shared.locked.lock(rt);
-        let ended = guard.cancel(client, ticket);
+        let ended = guard.seen_cancel(client, ticket);
         pool.unlock(guard);
         ended
     }

@@ -4,6 +4,7 @@ ghost use Rattle.std.specs.Prelude.{◌≡◌, ℕ, ◌≤◌, List, length, not
 ghost use Rattle.sqlx_log.specs.Marks.{is_open, idle_of};
 ghost use Rattle.sqlx_log.specs.EventTable.{size_at};
 ghost use Rattle.sqlx_pool_core.specs.MaintenanceSteps.{close_state_of};
+ghost use Rattle.sqlx_pool_core.specs.PollSteps.{phase_for, may_cancel};
 ghost use Rattle.sqlx_pool.specs.Seen.{Saw};
 ghost use Rattle.sqlx_pool.specs.State.{since_start};
 
@@ -53,5 +54,13 @@ impl<C: Depth, O, H: Ledger, L: Loans> Locked<C, O, H, L> {
     {
         self.facts();
         self.log_len()
+    }
+
+    // Ends a ticket that waits or is in backoff.
+    pub(crate) fn seen_cancel(&mut self, client: u32, ticket: u64) -> bool
+        ensures { Saw C.levels L.max L.cuts (λ state. result ≡ may_cancel (phase_for client ticket state.core.tickets)) }
+    {
+        self.facts();
+        self.cancel(client, ticket)
     }
 }
