@@ -1,10 +1,12 @@
 -- A state stands whatever its connect options are, and no pool owns more permits than its family has.
-use Rattle.std.proofs.Common.{◌≡◌, ℕ, ◌≤◌, inl, inr, length, sum_by, ap, arith}
+use Rattle.std.proofs.Common.{◌≡◌, ℕ, ◌≤◌, false, inl, inr, length, sum_by, ap, arith}
 use Rattle.std.proofs.lemmas.Bool.Decides.{leb_tells}
 use Rattle.std.proofs.lemmas.List.{get_or_past}
 use Rattle.std.proofs.lemmas.List.Sums.{get_or-le-sum_by}
 use Rattle.sqlx_family.specs.NoPool.{no_pool}
-use Rattle.sqlx_family.specs.Pools.{Pools}
+use Rattle.sqlx_pool_core.specs.PollSteps.{phase_for, may_cancel}
+use Rattle.sqlx_pool_core.specs.Shared.{told}
+use Rattle.sqlx_family.specs.Pools.{Pools, pool_in, counts_as_closed}
 use Rattle.sqlx_family.specs.Permits.{owned_by}
 use Rattle.sqlx_family.specs.IsFamily.{permits_of}
 use Rattle.sqlx_family_pool.specs.FamilyState.{FamilyState, IsStanding}
@@ -18,3 +20,7 @@ owned-most f q = elim (leb_tells (length f.pools) q) [
   | inl past ↦ let none : owned_by q f ≡ 0 = ap permits_of (get_or_past f.pools q no_pool past.1) in omega (arith, none)
   | inr lt ↦ get_or-le-sum_by permits_of f.pools q no_pool lt.1
 ]
+
+-- a pool that nobody added has no ticket that could be given up
+pub nothing-to-cancel : {C : Type 0} (f : Pools C) (q k t : ℕ) → length f.pools ≤ q → may_cancel (phase_for k t (pool_in q f).tickets) ≡ false
+nothing-to-cancel f q k t past = ap (λ e. may_cancel (phase_for k t (told (counts_as_closed q f) f.shared e.core).tickets)) (get_or_past f.pools q no_pool past)

@@ -2,10 +2,13 @@
 
 ghost use Rattle.std.specs.Prelude.{◌≡◌, ℕ, ◌+◌, ◌<◌, ◌≤◌};
 ghost use Rattle.sqlx_pool_core.specs.Balance.{one_if};
+ghost use Rattle.sqlx_pool_core.specs.PollSteps.{phase_for, may_cancel};
+ghost use Rattle.sqlx_family.specs.Pools.{pool_in};
 ghost use Rattle.sqlx_pool.specs.Booked.{CountsIf};
 ghost use Rattle.sqlx_pool.specs.Polling.{is_ready, IfReady, IfFailed};
 ghost use Rattle.sqlx_pool.specs.Refusals.{IsEnd, IsPollRefusal};
 ghost use Rattle.sqlx_pool.specs.Stage.{has_lent, IfLent, IfEnded};
+ghost use Rattle.sqlx_family_pool.specs.Seen.{SawFamily};
 
 mod waits;
 
@@ -123,14 +126,16 @@ impl<C: Depth + Drop, O: Drop, H: Ledger, L: Loans> FamilyAcquiringOf<C, O, H, L
     }
 
     /// Gives the ticket up. It ends, and frees what it held: true.
-    pub fn cancel<R: Wait>(self, rt: &R) -> bool {
+    pub fn cancel<R: Wait>(self, rt: &R) -> bool
+        ensures { SawFamily C.levels L.max (λ state. result ≡ may_cancel (phase_for self.client self.ticket (pool_in self.pool.name state.family).tickets)) }
+    {
         let FamilyAcquiringOf {
             pool,
             client,
             ticket,
         } = self;
         let mut guard = pool.shared.locked.lock(rt);
-        let ended = guard.cancel(pool.name, client, ticket);
+        let ended = guard.seen_cancel(pool.name, client, ticket);
         pool.unlock(guard);
         ended
     }

@@ -3,6 +3,7 @@
 ghost use Rattle.std.specs.Prelude.{◌≡◌, ℕ, ◌-◌, ◌^◌, ◌≤◌, ◌⊎◌, Err, IfOk, IfErr, length};
 ghost use Rattle.sqlx_text.specs.declared.error.Error.{Error};
 ghost use Rattle.sqlx_pool_core.specs.Core.{size};
+ghost use Rattle.sqlx_pool_core.specs.PollSteps.{phase_for, may_cancel};
 ghost use Rattle.sqlx_family.specs.Pools.{pool_in, counts_as_closed};
 ghost use Rattle.sqlx_family.specs.Permits.{owned_by};
 ghost use Rattle.sqlx_family_pool.specs.Handles.{IsChildOf};
@@ -48,6 +49,14 @@ impl<C: Depth, O, H: Ledger, L: Loans> LockedFamily<C, O, H, L> {
     {
         self.facts();
         self.is_closed(pool)
+    }
+
+    // Ends a ticket of a pool that waits or is in backoff.
+    pub(crate) fn seen_cancel(&mut self, pool: u32, client: u32, ticket: u64) -> bool
+        ensures { SawFamily C.levels L.max (λ state. result ≡ may_cancel (phase_for client ticket (pool_in pool state.family).tickets)) }
+    {
+        self.facts();
+        self.cancel(pool, client, ticket)
     }
 }
 

@@ -1,13 +1,16 @@
 //! What the value under the lock is asked without a change, and its connect options.
 
-ghost use Rattle.std.specs.Prelude.{◌≡◌, ◌<◌, ◌≤◌, Bool, true, false, List, [], IfOk, length, nat_lt};
+ghost use Rattle.std.specs.Prelude.{◌≡◌, ◌<◌, ◌≤◌, Bool, true, false, List, [], IfOk, length, max, nat_lt};
 ghost use Rattle.sqlx_log.specs.FairLog.{IsSafe};
+ghost use Rattle.sqlx_log.specs.EventTable.{closes};
 ghost use Rattle.sqlx_pool_core.specs.Core.{size};
+ghost use Rattle.sqlx_pool_core.specs.Limits.{limits_of};
+ghost use Rattle.sqlx_pool_core.specs.Logs.{moment_of};
 ghost use Rattle.sqlx_family.specs.Pools.{pool_in, counts_as_closed};
 ghost use Rattle.sqlx_family.specs.Permits.{owned_by};
 ghost use Rattle.sqlx_family.specs.IsFamily.{IsFamily};
 ghost use Rattle.sqlx_pool.specs.MarkLog.{IsUncut};
-ghost use Rattle.sqlx_family_pool.specs.FamilyState.{IsStanding, IsNamed, log_of};
+ghost use Rattle.sqlx_family_pool.specs.FamilyState.{IsStanding, IsNamed, IsUnnamed, log_of};
 
 use super::LockedFamily;
 use sqlx_pool::{Loans, MarkLog};
@@ -102,13 +105,18 @@ impl<C: Depth, O, H: Ledger, L: Loans> LockedFamily<C, O, H, L> {
     }
 
     /// The moment that a step goes by: one below the last moment counts as the last one.
-    pub fn moment(&self, now: Moment) -> Moment {
+    pub fn moment(&self, now: Moment) -> Moment
+        ensures { result.0 ≡ max self.now.family.shared.last.0 now.0 }
+    {
         self.family.moment(now)
     }
 
     /// Whether a connection of this opening would be closed rather than kept: its pool or the root is closed, or its age is
-    /// above the lifetime.
-    pub fn must_close(&self, pool: u32, created: Moment, now: Moment) -> bool {
+    /// above the lifetime. One of a pool that nobody added would be.
+    pub fn must_close(&self, pool: u32, created: Moment, now: Moment) -> bool
+        ensures named { IsNamed pool self.now → let core = pool_in pool self.now.family in result ≡ closes (limits_of core.options) core.closed created.0 (moment_of core now) }
+        ensures unnamed { IsUnnamed pool self.now → result ≡ true }
+    {
         !self.is_named(pool) || self.family.must_close(pool, created, now)
     }
 
