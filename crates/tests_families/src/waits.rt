@@ -18,6 +18,12 @@ type Conns<H, L> = FamilyPoolOf<Conn, (), H, L>;
 
 type Lent<H, L> = FamilyConnectionOf<Conn, (), H, L>;
 
+// How often a thread looks for what the other does.
+const LOOKS: u32 = 20_000_000;
+
+// How often it looks on, in which the other falls asleep.
+const FEW_LOOKS: u32 = 2_000;
+
 // What wakes who waits.
 #[derive(Clone, Copy)]
 enum Freeing {
@@ -52,12 +58,6 @@ fn marks<H: Ledger, L: Loans, R: Wait>(rt: &R, alloc: Global, pool: &Conns<H, L>
         Err(_) => 0,
     }
 }
-
-// How often a thread looks for what the other does.
-const LOOKS: u32 = 20_000_000;
-
-// How often it looks on, in which the other falls asleep.
-const FEW_LOOKS: u32 = 2_000;
 
 // Looks until a pool's log is as long, at most so often: whether it is.
 fn until_long<H: Ledger, L: Loans, R: Wait>(
@@ -244,75 +244,47 @@ fn woken<H: Ledger + Send + Sync, L: Loans + Send + Sync, R: Wait + Threads + Sy
     ))
 }
 
+// The same in a new family.
+fn woken_by<R: Wait + Threads + Sync>(
+    rt: &R,
+    alloc: Global,
+    freeing: Freeing,
+) -> Result<(bool, bool), Fail> {
+    woken::<Brand, Brand, R>(rt, alloc, freeing, Blank::new(1 << 32), Blank::new(1 << 32))
+}
+
 #[test]
 fn a_return_to_the_root_wakes_who_waits_for_the_child(rt: HostRuntime) -> Result<(), Fail> {
-    let woken = woken::<Brand, Brand, HostRuntime>(
-        &rt,
-        rt.alloc(),
-        Freeing::Return,
-        Blank::new(1 << 32),
-        Blank::new(1 << 32),
-    )?;
-    assert_eq!(rt; woken, (true, true), "the permit goes to the child");
+    assert_eq!(rt; woken_by(&rt, rt.alloc(), Freeing::Return)?, (true, true));
     Ok(())
 }
 
 #[test]
 fn a_retired_child_wakes_who_waits_for_the_root(rt: HostRuntime) -> Result<(), Fail> {
-    let woken = woken::<Brand, Brand, HostRuntime>(
-        &rt,
-        rt.alloc(),
-        Freeing::ReturnAndRetire,
-        Blank::new(1 << 32),
-        Blank::new(1 << 32),
-    )?;
     assert_eq!(rt;
-        woken,
-        (true, true),
-        "the permit that the child has free goes to the root"
+        woken_by(&rt, rt.alloc(), Freeing::ReturnAndRetire)?,
+        (true, true)
     );
     Ok(())
 }
 
 #[test]
 fn a_return_to_a_retired_child_wakes_who_waits_for_the_root(rt: HostRuntime) -> Result<(), Fail> {
-    let woken = woken::<Brand, Brand, HostRuntime>(
-        &rt,
-        rt.alloc(),
-        Freeing::RetireAndReturn,
-        Blank::new(1 << 32),
-        Blank::new(1 << 32),
-    )?;
     assert_eq!(rt;
-        woken,
-        (true, true),
-        "the permit goes to the root as it comes back"
+        woken_by(&rt, rt.alloc(), Freeing::RetireAndReturn)?,
+        (true, true)
     );
     Ok(())
 }
 
 #[test]
 fn a_close_of_the_root_wakes_who_waits_for_the_child(rt: HostRuntime) -> Result<(), Fail> {
-    let woken = woken::<Brand, Brand, HostRuntime>(
-        &rt,
-        rt.alloc(),
-        Freeing::Close,
-        Blank::new(1 << 32),
-        Blank::new(1 << 32),
-    )?;
-    assert_eq!(rt; woken, (true, false), "the child counts as closed");
+    assert_eq!(rt; woken_by(&rt, rt.alloc(), Freeing::Close)?, (true, false));
     Ok(())
 }
 
 #[test]
 fn a_retired_child_wakes_who_waits_for_it(rt: HostRuntime) -> Result<(), Fail> {
-    let woken = woken::<Brand, Brand, HostRuntime>(
-        &rt,
-        rt.alloc(),
-        Freeing::Retire,
-        Blank::new(1 << 32),
-        Blank::new(1 << 32),
-    )?;
-    assert_eq!(rt; woken, (true, false), "the child is closed");
+    assert_eq!(rt; woken_by(&rt, rt.alloc(), Freeing::Retire)?, (true, false));
     Ok(())
 }
