@@ -4,7 +4,7 @@ ghost use Rattle.std.specs.Prelude.{◌≡◌, ℕ, ◌+◌, ◌-◌, ◌^◌, �
 ghost use Rattle.sqlx_text.specs.declared.error.Error.{Error};
 ghost use Rattle.sqlx_log.specs.FairLog.{IsSafe};
 ghost use Rattle.sqlx_pool_core.specs.Core.{size};
-ghost use Rattle.sqlx_family.specs.Pools.{pool_in, counts_as_closed};
+ghost use Rattle.sqlx_family.specs.Pools.{entry_of, pool_in, counts_as_closed, new_pool};
 ghost use Rattle.sqlx_family.specs.Permits.{owned_by};
 ghost use Rattle.sqlx_pool.specs.Booked.{CountsIf};
 ghost use Rattle.sqlx_pool.specs.MarkLog.{IsUncut};
@@ -103,6 +103,7 @@ impl<C: Depth + Drop, O: Drop, H: Ledger, L: Loans> FamilyPoolOf<C, O, H, L> {
         requires options { IsChildOf options L.max }
         ensures name { IfOk result (λ child. 1 ≤ child.name) }
         ensures added { IfOk result (λ child. SawFamily C.levels L.max (λ state. child.name ≡ length state.family.pools)) }
+        ensures fresh { IfOk result (λ child. SawFamily C.levels L.max (λ state. entry_of child.name state.family ≡ new_pool options 0)) }
         ensures options { IfOk result (λ child. child.options ≡ options) }
         ensures full { (result ≡ Err Error.Exhausted) → SawFamily C.levels L.max (λ state. length state.family.pools ≡ 2 ^ 32 - 1) }
         ensures causes { IfErr result (λ e. (e ≡ Error.Exhausted) ⊎ (e ≡ Error.OutOfMemory)) }

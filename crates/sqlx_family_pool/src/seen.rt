@@ -4,7 +4,7 @@ ghost use Rattle.std.specs.Prelude.{◌≡◌, ℕ, ◌-◌, ◌^◌, ◌≤◌,
 ghost use Rattle.sqlx_text.specs.declared.error.Error.{Error};
 ghost use Rattle.sqlx_pool_core.specs.Core.{size};
 ghost use Rattle.sqlx_pool_core.specs.PollSteps.{phase_for, may_cancel};
-ghost use Rattle.sqlx_family.specs.Pools.{pool_in, counts_as_closed};
+ghost use Rattle.sqlx_family.specs.Pools.{entry_of, pool_in, counts_as_closed, new_pool};
 ghost use Rattle.sqlx_family.specs.Permits.{owned_by};
 ghost use Rattle.sqlx_family_pool.specs.Handles.{IsChildOf};
 ghost use Rattle.sqlx_family_pool.specs.Seen.{SawFamily};
@@ -66,10 +66,13 @@ impl<C: Depth + Drop, O: Drop, H: Ledger, L: Loans> LockedFamily<C, O, H, L> {
         requires { IsChildOf options L.max }
         ensures later { IfOk result (λ q. 1 ≤ q) }
         ensures name { IfOk result (λ q. SawFamily C.levels L.max (λ state. q ≡ length state.family.pools)) }
+        ensures fresh { IfOk result (λ q. SawFamily C.levels L.max (λ state. entry_of q state.family ≡ new_pool options 0)) }
         ensures full { (result ≡ Err Error.Exhausted) → SawFamily C.levels L.max (λ state. length state.family.pools ≡ 2 ^ 32 - 1) }
         ensures causes { IfErr result (λ e. (e ≡ Error.Exhausted) ⊎ (e ≡ Error.OutOfMemory)) }
     {
         self.facts();
-        self.child(alloc, options)
+        let added = self.child(alloc, options);
+        self.facts();
+        added
     }
 }

@@ -1,5 +1,5 @@
 //! Tests of families behind their lock: how a permit moves, which pool's log a step is written to, and what a retired child
-//! hands over; the same by handles.
+//! hands over; the same by handles; and threads that wait for one pool while another's permit comes back.
 #![tactic(auto)]
 
 #[cfg(test)]
@@ -10,3 +10,5 @@ mod outside;
 mod rows;
 #[cfg(test)]
 mod traits;
+#[cfg(test)]
+mod waits;

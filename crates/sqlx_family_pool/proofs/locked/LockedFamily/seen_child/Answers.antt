@@ -1,6 +1,7 @@
 use Rattle.std.proofs.Common.{◌≡◌, length}
 use Rattle.std.proofs.lemmas.Result.{IfOk-weaker}
-use Rattle.sqlx_family_pool.proofs.SeenLemmas.{standing-bare}
+use Rattle.sqlx_family.specs.Pools.{entry_of, new_pool}
+use Rattle.sqlx_family_pool.proofs.SeenLemmas.{standing-bare, child-there}
 use Rattle.sqlx_family_pool.specs.Seen.{bare_family, SawFamily}
 use Rattle.sqlx_family_pool.proofs.locked.LockedFamily.seen_child.Goals as goal
 
@@ -11,3 +12,9 @@ returns-clause-name g c =
 
 pub returns-clause-full : goal.returns-clause-full
 returns-clause-full g c = λ is. (bare_family c.args.self.now, standing-bare _ _ _ c.facts.ensures, c.child.ensures.exhausted.0 is)
+
+pub returns-clause-fresh : goal.returns-clause-fresh
+returns-clause-fresh g c =
+    IfOk-weaker c.child.result (λ q. entry_of q c.child.new.self.family ≡ new_pool c.args.options 0) (λ q. SawFamily g.C.Depth.levels g.L.Loans.max (λ state. entry_of q state.family ≡ new_pool c.args.options 0))
+    (λ q is. (bare_family c.child.new.self, standing-bare _ _ _ c.facts-2.ensures, is))
+    (child-there c.args.options c.args.self.now.family c.child.new.self.family c.child.result c.child.ensures.name c.child.ensures.family)
