@@ -1,6 +1,6 @@
 -- A state stands whatever its connect options are, no pool owns more permits than its family has, a child that was added has
 -- the name that it got, and a pool that nobody added has no ticket.
-use Rattle.std.proofs.Common.{◌≡◌, ℕ, ◌≤◌, false, inl, inr, tt, Result, Ok, Err, IfOk, OnOk, length, sum_by, ap, sym, arith}
+use Rattle.std.proofs.Common.{◌≡◌, ℕ, ◌≤◌, false, inl, inr, Result, Ok, Err, IfOk, OnOk, length, sum_by, ap, sym, arith}
 use Rattle.std.proofs.lemmas.Bool.Decides.{leb_tells}
 use Rattle.std.proofs.lemmas.List.{get_or_past, get_or_push}
 use Rattle.std.proofs.lemmas.List.Sums.{get_or-le-sum_by}
