@@ -1,11 +1,13 @@
 //! Statements on the database's own connection.
-ghost use Rattle.std.specs.Prelude.{◌≡◌, ◌⊎◌, ◌+◌, ◌∷◌, ◌++◌, [], Bool, IfOk, Ok, OnOk};
+ghost use Rattle.std.specs.Prelude.{◌≡◌, ◌⊎◌, ◌+◌, ◌∷◌, ◌++◌, [], Bool, IfErr, IfOk, Ok, OnOk};
 ghost use Rattle.either.specs.declared.Either.TheVariants.{Left};
 ghost use Rattle.sqlite.specs.State.{Executes, HasCleanDisk, Shown};
 ghost use Rattle.sqlite.specs.Held.{state};
 ghost use Rattle.sqlite.specs.Values.{bound};
+ghost use Rattle.sqlx_text.specs.declared.error.Error.{Error};
 ghost use Rattle.sqlx_savepoints.specs.Texts.{rollback_at, text_of};
-ghost use Rattle.sqlite_driver.specs.Ran.{Ran};
+ghost use Rattle.sqlite_driver.specs.Refusals.{refusal_error};
+ghost use Rattle.sqlite_driver.specs.Ran.{Ran, Refuses};
 ghost use Rattle.sqlite_driver.specs.Runs.{GainsRows, Gives, IsPrepared, all_taken, is_select};
 
 use crate::refusal::{Refusal, refused};
@@ -27,7 +29,8 @@ fn changed<S: Alter>(
     text: &str,
     values: &[ValueRef<'_>],
 ) -> Result<u64, Refusal>
-    ensures { IfOk result (λ rows. HasCleanDisk (state S.Store conn.new) → Executes text.now (bound values.now) (state S.Store conn.old) (state S.Store conn.new) (Ok rows)) }
+    ensures ran { IfOk result (λ rows. HasCleanDisk (state S.Store conn.new) → Executes text.now (bound values.now) (state S.Store conn.old) (state S.Store conn.new) (Ok rows)) }
+    ensures refused { IfErr result (λ refusal. Refuses text.now (bound values.now) (state S.Store conn.old) (state S.Store conn.new) (refusal_error refusal)) }
 {
     match conn.execute(text, values) {
         Ok(rows) => Ok(rows as u64),
@@ -141,7 +144,8 @@ pub(crate) fn perform<S: Alter>(
     alloc: Global,
     text: &str,
 ) -> Result<(), Refusal>
-    ensures { OnOk result (Ran text.now (state S.Store conn.old) (state S.Store conn.new)) }
+    ensures ran { OnOk result (Ran text.now (state S.Store conn.old) (state S.Store conn.new)) }
+    ensures refused { IfErr result (λ refusal. Refuses text.now [] (state S.Store conn.old) (state S.Store conn.new) (refusal_error refusal)) }
 {
     match changed(conn, alloc, text, &[]) {
         Ok(_) => Ok(()),
@@ -155,7 +159,8 @@ pub(crate) fn roll_back_to<S: Alter>(
     alloc: Global,
     depth: usize,
 ) -> Result<(), Refusal>
-    ensures { OnOk result (((conn.old.in_transaction ≡ Bool.false) × (conn.new ≡ conn.old)) ⊎ Ran (text_of (rollback_at (depth + 1))) (state S.Store conn.old) (state S.Store conn.new)) }
+    ensures ran { OnOk result (((conn.old.in_transaction ≡ Bool.false) × (conn.new ≡ conn.old)) ⊎ Ran (text_of (rollback_at (depth + 1))) (state S.Store conn.old) (state S.Store conn.new)) }
+    ensures refused { IfErr result (λ refusal. (refusal_error refusal ≡ Error.OutOfMemory) ⊎ Refuses (text_of (rollback_at (depth + 1))) [] (state S.Store conn.old) (state S.Store conn.new) (refusal_error refusal)) }
 {
     if conn.is_autocommit() {
         return Ok(());
