@@ -54,6 +54,10 @@ refusal_error refusal.OutOfMemory = error.OutOfMemory
 refusal_error (refusal.Database cause message) = error.Database (told_fault cause message)
 refusal_error refusal.NoKind = no_kind
 
+-- the refusal of a row that has no form in `Any`, or want of memory
+abbrev pub IsUnfit : Error → Type 0
+IsUnfit e = (e ≡ no_kind) ⊎ (e ≡ error.OutOfMemory)
+
 -- the database's own refusal, told by the kind of its cause; that of a value for which there is no kind; or want of memory
 abbrev pub IsRefusal : Error → Type 0
 IsRefusal (error.Database fault) = (cause : Cause) × (fault ≡ told_fault cause fault.message)

@@ -1,9 +1,10 @@
 //! The database under a connection, in memory or in a file.
-ghost use Rattle.std.specs.Prelude.{◌≡◌, IfErr, IfOk, OnOk, not};
+ghost use Rattle.std.specs.Prelude.{◌≡◌, ◌⊎◌, IfErr, IfOk, OnOk, not};
+ghost use Rattle.sqlx_text.specs.declared.error.Error.{Error};
 ghost use Rattle.sqlite_driver.specs.Refusals.{refusal_error};
 ghost use Rattle.sqlite_driver.specs.Ran.{RanOn, RefusedOn, RefusesRollback, RolledBackTo, in_transaction};
 ghost use Rattle.sqlite_driver.specs.Closed.{HasClosed, RefusesClose};
-ghost use Rattle.sqlite_driver.specs.Runs.{GivesOn, all_taken};
+ghost use Rattle.sqlite_driver.specs.Runs.{GivesOn, RefusesQueryOn, all_taken};
 
 use crate::refusal::{Refusal, refused};
 use crate::statements::{self, Items};
@@ -26,7 +27,8 @@ impl Base {
         text: &str,
         arguments: &Option<AnyArguments>,
     ) -> Result<Items, Refusal>
-        ensures { IfOk result (λ items. GivesOn text.now (all_taken arguments.now) self.old self.new items.items) }
+        ensures gave { IfOk result (λ items. GivesOn text.now (all_taken arguments.now) self.old self.new items.items) }
+        ensures refused { IfErr result (λ refusal. (refusal_error refusal ≡ Error.OutOfMemory) ⊎ RefusesQueryOn text.now (all_taken arguments.now) self.old self.new (refusal_error refusal)) }
     {
         match self {
             Base::Memory(conn) => statements::run(conn, alloc, text, arguments),

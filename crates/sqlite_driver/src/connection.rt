@@ -2,12 +2,12 @@
 ghost use Rattle.std.specs.Prelude.{◌≡◌, ◌≢◌, ◌≤◌, ◌<◌, ◌+◌, ◌-◌, ℕ, Bool, Err, IfErr, IfOk, IsOkAnd, List, OnErr, OnOk};
 ghost use Rattle.sqlx_text.specs.declared.error.Error.{Error};
 ghost use Rattle.sqlx_traits.specs.Faults.{BeginCause, FaultCause, HasRisen};
-ghost use Rattle.sqlite_driver.specs.Refusals.{IsRefusal, refusal_error};
+ghost use Rattle.sqlite_driver.specs.Refusals.{refusal_error};
 ghost use Rattle.sqlite_driver.specs.Ran.{RanOn, RefusedOn, in_transaction};
 ghost use Rattle.sqlite_driver.specs.Closed.{HasClosed, RefusesClose};
 ghost use Rattle.sqlite_driver.specs.Does.{Begins, BeginsBy, Ends, IsNoted, Pings, RefusesText, RunsText, given_up};
 ghost use Rattle.sqlite_driver.specs.Opened.{IsFresh};
-ghost use Rattle.sqlite_driver.specs.Runs.{GivesItems, all_taken};
+ghost use Rattle.sqlite_driver.specs.Runs.{GivesItems, RefusesItems, all_taken};
 
 use crate::base::Base;
 use crate::refusal::Refusal;
@@ -47,7 +47,6 @@ impl SqliteConnection {
         ensures rest { self.new ≡ record self.old { faults = self.new.faults } }
         ensures rises { self.old.faults ≤ self.new.faults }
         ensures value { result ≡ refusal_error refusal }
-        ensures told { IsRefusal result }
         ensures cause { FaultCause self.old.faults self.new.faults result }
         ensures inside { result ≢ Error.InvalidSavePointStatement }
         ensures failed { result ≢ Error.BeginFailed }
@@ -93,8 +92,8 @@ impl SqliteConnection {
         arguments: &Option<AnyArguments>,
     ) -> Result<Items, Error>
         ensures gave { IfOk result (λ items. GivesItems text.now (all_taken arguments.now) self.old items.items self.new) }
+        ensures refused { IfErr result (λ e. RefusesItems text.now (all_taken arguments.now) self.old e self.new.base) }
         ensures depth { self.new.depth ≡ self.old.depth }
-        ensures told { IfErr result IsRefusal }
         ensures rises { self.old.faults ≤ self.new.faults }
         ensures cause { IfErr result (FaultCause self.old.faults self.new.faults) }
     {

@@ -44,6 +44,8 @@ impl Refusal {
 }
 
 impl From<OutOfMemory> for Refusal {
+    ghost from_gives = { λ _ refusal. refusal ≡ Refusal.OutOfMemory };
+
     fn from(_: OutOfMemory) -> Refusal {
         Refusal::OutOfMemory
     }

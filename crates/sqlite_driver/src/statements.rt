@@ -6,9 +6,9 @@ ghost use Rattle.sqlite.specs.Held.{state};
 ghost use Rattle.sqlite.specs.Values.{bound};
 ghost use Rattle.sqlx_text.specs.declared.error.Error.{Error};
 ghost use Rattle.sqlx_savepoints.specs.Texts.{rollback_at, text_of};
-ghost use Rattle.sqlite_driver.specs.Refusals.{refusal_error};
+ghost use Rattle.sqlite_driver.specs.Refusals.{IsUnfit, refusal_error};
 ghost use Rattle.sqlite_driver.specs.Ran.{Ran, Refuses};
-ghost use Rattle.sqlite_driver.specs.Runs.{GainsRows, Gives, IsPrepared, all_taken, is_select};
+ghost use Rattle.sqlite_driver.specs.Runs.{GainsRows, Gives, IsPrepared, RefusesQuery, RefusesToPrepare, RefusesToShow, all_taken, is_select};
 
 use crate::refusal::{Refusal, refused};
 use crate::values::{lent_all, row};
@@ -43,7 +43,8 @@ fn prepared<S: Alter>(
     alloc: Global,
     text: &str,
 ) -> Result<Statement, Refusal>
-    ensures { IfOk result (λ statement. IsPrepared text.now (state S.Store conn.old) (state S.Store conn.new) statement) }
+    ensures prepared { IfOk result (λ statement. IsPrepared text.now (state S.Store conn.old) (state S.Store conn.new) statement) }
+    ensures refused { IfErr result (λ refusal. RefusesToPrepare text.now (state S.Store conn.old) (state S.Store conn.new) (refusal_error refusal)) }
 {
     match conn.prepare(text) {
         Ok(statement) => Ok(statement),
@@ -57,7 +58,8 @@ fn shown<S: Alter>(
     text: &str,
     values: &[ValueRef<'_>],
 ) -> Result<Vec<Row>, Refusal>
-    ensures { IfOk result (λ rows. HasCleanDisk (state S.Store conn.new) → Shown text.now (bound values.now) (state S.Store conn.old) (state S.Store conn.new) rows.items) }
+    ensures shown { IfOk result (λ rows. HasCleanDisk (state S.Store conn.new) → Shown text.now (bound values.now) (state S.Store conn.old) (state S.Store conn.new) rows.items) }
+    ensures refused { IfErr result (λ refusal. RefusesToShow text.now (bound values.now) (state S.Store conn.old) (state S.Store conn.new) (refusal_error refusal)) }
 {
     match conn.query_all(text, values) {
         Ok(rows) => Ok(rows),
@@ -67,7 +69,8 @@ fn shown<S: Alter>(
 
 /// These rows under the names of the statement's columns.
 fn listed(alloc: Global, statement: &Statement, rows: &[Row]) -> Result<Items, Refusal>
-    ensures { IfOk result (λ items. GainsRows statement.now.columns rows.now [] items.items) }
+    ensures listed { IfOk result (λ items. GainsRows statement.now.columns rows.now [] items.items) }
+    ensures refused { IfErr result (λ refusal. IsUnfit (refusal_error refusal)) }
 {
     let mut items = VecDeque::new(alloc);
     for shown in rows {
@@ -81,7 +84,8 @@ fn listed(alloc: Global, statement: &Statement, rows: &[Row]) -> Result<Items, R
 
 /// These rows, and then a result.
 fn finished(items: Items, rows_affected: u64, id: Option<i64>) -> Result<Items, Refusal>
-    ensures { IfOk result (λ all. all.items ≡ items.items ++ Left (record { rows_affected = rows_affected; last_insert_id = id }) ∷ []) }
+    ensures all { IfOk result (λ all. all.items ≡ items.items ++ Left (record { rows_affected = rows_affected; last_insert_id = id }) ∷ []) }
+    ensures wanting { IfErr result (λ refusal. refusal_error refusal ≡ Error.OutOfMemory) }
 {
     let mut items = items;
     let result = AnyQueryResult {
@@ -101,7 +105,8 @@ pub(crate) fn run<S: Alter>(
     text: &str,
     arguments: &Option<AnyArguments>,
 ) -> Result<Items, Refusal>
-    ensures { IfOk result (λ items. Gives (state S.Store) (is_select text.now) text.now (all_taken arguments.now) conn.old conn.new items.items) }
+    ensures gave { IfOk result (λ items. Gives (state S.Store) (is_select text.now) text.now (all_taken arguments.now) conn.old conn.new items.items) }
+    ensures refused { IfErr result (λ refusal. (refusal_error refusal ≡ Error.OutOfMemory) ⊎ RefusesQuery (state S.Store) (is_select text.now) text.now (all_taken arguments.now) conn.old conn.new (refusal_error refusal)) }
 {
     let values = lent_all(alloc, arguments)?;
     if text.as_bytes().starts_with(b"SELECT ") {
@@ -118,7 +123,8 @@ fn select<S: Alter>(
     text: &str,
     values: &[ValueRef<'_>],
 ) -> Result<Items, Refusal>
-    ensures { IfOk result (λ items. Gives (state S.Store) Bool.true text.now (bound values.now) conn.old conn.new items.items) }
+    ensures gave { IfOk result (λ items. Gives (state S.Store) Bool.true text.now (bound values.now) conn.old conn.new items.items) }
+    ensures refused { IfErr result (λ refusal. (refusal_error refusal ≡ Error.OutOfMemory) ⊎ RefusesQuery (state S.Store) Bool.true text.now (bound values.now) conn.old conn.new (refusal_error refusal)) }
 {
     let statement = prepared(conn, alloc, text)?;
     let rows = shown(conn, alloc, text, values)?;
@@ -132,7 +138,8 @@ fn execute<S: Alter>(
     text: &str,
     values: &[ValueRef<'_>],
 ) -> Result<Items, Refusal>
-    ensures { IfOk result (λ items. Gives (state S.Store) Bool.false text.now (bound values.now) conn.old conn.new items.items) }
+    ensures gave { IfOk result (λ items. Gives (state S.Store) Bool.false text.now (bound values.now) conn.old conn.new items.items) }
+    ensures refused { IfErr result (λ refusal. (refusal_error refusal ≡ Error.OutOfMemory) ⊎ RefusesQuery (state S.Store) Bool.false text.now (bound values.now) conn.old conn.new (refusal_error refusal)) }
 {
     let rows = changed(conn, alloc, text, values)?;
     finished(VecDeque::new(alloc), rows, Some(conn.last_insert_rowid()))

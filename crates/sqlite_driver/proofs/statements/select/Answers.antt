@@ -7,6 +7,6 @@ use Rattle.sqlite_driver.proofs.statements.select.Goals as goal
 
 pub returns : goal.returns
 returns g c =
-    let listed : _ = subst (λ rows. GainsRows c.in_ok-statement.statement.columns rows [] c.in_ok-listed.field-0.items) c.as_slice.ensures.value c.in_ok-listed.ensures in
-    let gives : _ = gives_rows (state g.S.Store) c.args.text.now (bound c.args.values.now) c.args.conn.now c.prepared.new.conn c.shown.new.conn c.in_ok-statement.statement c.in_ok-rows.rows.items c.in_ok-listed.field-0.items (λ all. all.items) c.finished.result c.in_ok-statement.ensures c.in_ok-rows.ensures listed c.finished.ensures in
+    let listed : _ = subst (λ rows. GainsRows c.in_ok-statement.statement.columns rows [] c.in_ok-listed.field-0.items) c.as_slice.ensures.value c.in_ok-listed.ensures.listed in
+    let gives : _ = gives_rows (state g.S.Store) c.args.text.now (bound c.args.values.now) c.args.conn.now c.prepared.new.conn c.shown.new.conn c.in_ok-statement.statement c.in_ok-rows.rows.items c.in_ok-listed.field-0.items (λ all. all.items) c.finished.result c.in_ok-statement.ensures.prepared c.in_ok-rows.ensures.shown listed c.finished.ensures.all in
     search rules
