@@ -1,13 +1,18 @@
 -- What a text gives, and which database a URL opens.
-use Rattle.std.proofs.Common.{◌≡◌, ◌≤◌, ◌++◌, ◌∷◌, [], ℕ, Bool, true, false, List, Result, Ok, Err, IfOk, length, drop, refl, sym, subst}
+use Rattle.std.proofs.Common.{◌≡◌, ◌⊎◌, ◌≤◌, ◌++◌, ◌∷◌, [], ℕ, Bool, true, false, List, Result, Ok, Err, IfErr, IfOk, inl, inr, length, drop, refl, sym, subst}
 use Rattle.std.proofs.lemmas.List.{drop_all}
 use Rattle.either.specs.declared.Either.TheVariants.{Left}
 use Rattle.sqlite_value.specs.Order.{Row}
 use Rattle.sqlite.specs.Outline.{Outline}
 use Rattle.sqlite.specs.State.{HasCleanDisk, Shown, State}
+use Rattle.sqlx_text.specs.declared.error.Error.{Error}
+use Rattle.sqlx_text.specs.declared.error.Error.TheVariants as error
 use Rattle.sqlite_driver.specs.Opened.{IsFile, IsNamed}
-use Rattle.sqlite_driver.specs.Runs.{GainsRows, Gives, IsPrepared, Item, no_count}
+use Rattle.sqlite_driver.specs.Ran.{Settled}
+use Rattle.sqlite_driver.specs.Refusals.{IsUnfit}
+use Rattle.sqlite_driver.specs.Runs.{GainsRows, Gives, IsPrepared, Item, RefusesItems, RefusesQuery, RefusesQueryOn, RefusesToShow, no_count}
 use Rattle.sqlite_driver.specs.declared.base.Base.{Base}
+use Rattle.sqlite_driver.specs.declared.connection.SqliteConnection.{SqliteConnection}
 
 -- no row is left
 pub rows_all : (names : List (List ℕ)) (rows : List Row) (at : ℕ) (items : List Item) → length rows ≤ at → GainsRows names (drop at rows) items items
@@ -26,6 +31,35 @@ pub gives_as : {C A E : Type 0} (state : C → State) (kind own : Bool) (text : 
     → kind ≡ own → values ≡ due → IfOk r (λ all. Gives state kind text values before after (items all)) → IfOk r (λ all. Gives state own text due before after (items all))
 gives_as state kind own text values due before after items r same also gives =
     subst (λ b. IfOk r (λ all. Gives state b text due before after (items all))) same (subst (λ row. IfOk r (λ all. Gives state kind text row before after (items all))) also gives)
+
+-- want of memory is one of the reasons
+pub wanting_of : {A X : Type 0} (W P : X → Type 0) (r : Result A X) → IfErr r W → IfErr r (λ x. W x ⊎ P x)
+wanting_of W P (Ok a) wants = tt
+wanting_of W P (Err x) wants = inl wants
+
+-- a text whose rows can't be shown after it was prepared is refused
+pub refuses_shown : {C : Type 0} (state : C → State) (text : List ℕ) (values : Row) (before prepared after : C) (outline : Outline) (e : Error)
+    → IsPrepared text (state before) (state prepared) outline → RefusesToShow text values (state prepared) (state after) e → RefusesQuery state true text values before after e
+refuses_shown state text values before prepared after outline e is refuses = inr (outline, prepared, is, inl refuses)
+
+-- and so is one whose rows are shown and have no form, unless memory is wanting
+pub refuses_unfit : {C : Type 0} (state : C → State) (text : List ℕ) (values : Row) (before prepared after : C) (outline : Outline) (rows : List Row) (e : Error)
+    → IsPrepared text (state before) (state prepared) outline → (HasCleanDisk (state after) → Shown text values (state prepared) (state after) rows)
+    → IsUnfit e → (e ≡ error.OutOfMemory) ⊎ RefusesQuery state true text values before after e
+refuses_unfit state text values before prepared after outline rows e is shows (inl none) = inr (inr (outline, prepared, is, inr (rows, shows, none)))
+refuses_unfit state text values before prepared after outline rows e is shows (inr wants) = inl wants
+
+-- a refused query by other names of the kind of text and of the values
+pub refuses_as : {C A X : Type 0} (state : C → State) (kind own : Bool) (text : List ℕ) (values due : Row) (before after : C) (W : X → Type 0) (told : X → Error) (r : Result A X)
+    → kind ≡ own → values ≡ due → IfErr r (λ x. W x ⊎ RefusesQuery state kind text values before after (told x)) → IfErr r (λ x. W x ⊎ RefusesQuery state own text due before after (told x))
+refuses_as state kind own text values due before after W told r same also refuses =
+    subst (λ b. IfErr r (λ x. W x ⊎ RefusesQuery state b text due before after (told x))) same (subst (λ row. IfErr r (λ x. W x ⊎ RefusesQuery state kind text row before after (told x))) also refuses)
+
+-- once what was noted is rolled back a query is refused, or memory is wanting
+pub refuses_settled : (text : List ℕ) (values : Row) (before : SqliteConnection) (settled base : Base) (e : Error)
+    → Settled before.goes_back_to before.base settled → (e ≡ error.OutOfMemory) ⊎ RefusesQueryOn text values settled base e → RefusesItems text values before e base
+refuses_settled text values before settled base e is (inl wants) = inl wants
+refuses_settled text values before settled base e is (inr refuses) = inr (inr (settled, is, refuses))
 
 -- a file, where the URL names no database in memory
 pub named_file : (is : Bool) (base : Base) → is ≡ false → IsFile base → IsNamed is base

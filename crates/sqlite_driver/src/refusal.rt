@@ -44,7 +44,10 @@ impl Refusal {
 }
 
 impl From<OutOfMemory> for Refusal {
-    ghost from_gives = { λ _ refusal. refusal ≡ Refusal.OutOfMemory };
+    ghost use Rattle.std.specs.Prelude.{◌≡◌};
+    ghost use Rattle.sqlite_driver.specs.declared.refusal.Refusal.TheVariants.{OutOfMemory};
+
+    ghost from_gives = { λ _ refusal. refusal ≡ OutOfMemory };
 
     fn from(_: OutOfMemory) -> Refusal {
         Refusal::OutOfMemory

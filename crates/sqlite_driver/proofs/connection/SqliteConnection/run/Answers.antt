@@ -1,0 +1,11 @@
+-- A query that was refused once what was noted is rolled back.
+use Rattle.std.proofs.Common.{rules}
+use Rattle.sqlite_driver.specs.Refusals.{refusal_error}
+use Rattle.sqlite_driver.specs.Runs.{all_taken}
+use Rattle.sqlite_driver.proofs.RunsLemmas.{refuses_settled}
+use Rattle.sqlite_driver.proofs.connection.SqliteConnection.run.Goals as goal
+
+pub returns-in-Err-run-clause-refused : goal.returns-in-Err-run-clause-refused
+returns-in-Err-run-clause-refused c =
+    let refused : _ = refuses_settled c.args.text.now (all_taken c.args.arguments.now) c.args.self.now c.settle.new.self.base c.run.new.self (refusal_error c.in-Err-run.refusal) c.in-Ok.ensures.pings.0 c.in-Err-run.ensures.refused in
+    search rules
