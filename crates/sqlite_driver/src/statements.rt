@@ -1,5 +1,5 @@
 //! Statements on the database's own connection.
-ghost use Rattle.std.specs.Prelude.{◌≡◌, ◌⊎◌, ◌+◌, ◌∷◌, ◌++◌, [], Bool, IfErr, IfOk, Ok, OnOk};
+ghost use Rattle.std.specs.Prelude.{◌≡◌, ◌⊎◌, ◌+◌, ◌∷◌, ◌++◌, [], Bool, IfErr, IfOk, List, Ok, OnOk};
 ghost use Rattle.either.specs.declared.Either.TheVariants.{Left};
 ghost use Rattle.sqlite.specs.State.{Executes, HasCleanDisk, Shown};
 ghost use Rattle.sqlite.specs.Held.{state};
@@ -8,7 +8,7 @@ ghost use Rattle.sqlx_text.specs.declared.error.Error.{Error};
 ghost use Rattle.sqlx_savepoints.specs.Texts.{rollback_at, text_of};
 ghost use Rattle.sqlite_driver.specs.Refusals.{IsUnfit, refusal_error};
 ghost use Rattle.sqlite_driver.specs.Ran.{Ran, Refuses};
-ghost use Rattle.sqlite_driver.specs.Runs.{GainsRows, Gives, IsPrepared, RefusesQuery, RefusesToPrepare, RefusesToShow, all_taken, is_select};
+ghost use Rattle.sqlite_driver.specs.Runs.{GainsRows, Gives, IsPrepared, Item, RefusesQuery, RefusesToPrepare, RefusesToShow, all_taken, is_select, no_count};
 
 use crate::refusal::{Refusal, refused};
 use crate::values::{lent_all, row};
@@ -98,6 +98,17 @@ fn finished(items: Items, rows_affected: u64, id: Option<i64>) -> Result<Items, 
     }
 }
 
+/// The rows of a statement, and a result without a count.
+fn completed(alloc: Global, statement: &Statement, rows: &[Row]) -> Result<Items, Refusal>
+    ensures all { IfOk result (λ all. (listed : List Item) × GainsRows statement.now.columns rows.now [] listed × (all.items ≡ listed ++ Left no_count ∷ [])) }
+    ensures refused { IfErr result (λ refusal. IsUnfit (refusal_error refusal)) }
+{
+    match listed(alloc, statement, rows) {
+        Ok(items) => finished(items, 0, None),
+        Err(refusal) => Err(refusal),
+    }
+}
+
 /// Runs a text: one that begins with `SELECT ` gives its rows, any other how many rows it changed.
 pub(crate) fn run<S: Alter>(
     conn: &mut Connection<S>,
@@ -127,8 +138,10 @@ fn select<S: Alter>(
     ensures refused { IfErr result (λ refusal. (refusal_error refusal ≡ Error.OutOfMemory) ⊎ RefusesQuery (state S.Store) Bool.true text.now (bound values.now) conn.old conn.new (refusal_error refusal)) }
 {
     let statement = prepared(conn, alloc, text)?;
-    let rows = shown(conn, alloc, text, values)?;
-    finished(listed(alloc, &statement, rows.as_slice())?, 0, None)
+    match shown(conn, alloc, text, values) {
+        Ok(rows) => completed(alloc, &statement, rows.as_slice()),
+        Err(refusal) => Err(refusal),
+    }
 }
 
 /// Runs any other text.
