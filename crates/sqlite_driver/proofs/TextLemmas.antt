@@ -2,8 +2,8 @@
 use Rattle.std.proofs.Common.{◌≡◌, ℕ, true, List, Result, Ok, Err, IfOk, IfErr, IsOkAnd, OnOk, inl, inr, sym, subst, ◌∙◌}
 use Rattle.sqlx_text.specs.declared.error.Error.TheVariants as error
 use Rattle.sqlx_traits.specs.Calls.{Outcome}
-use Rattle.sqlite_driver.specs.Ran.{RanOn, in_transaction}
-use Rattle.sqlite_driver.specs.Does.{BeginsBy, Pings, RunsText}
+use Rattle.sqlite_driver.specs.Ran.{RanOn, RefusedOn, in_transaction}
+use Rattle.sqlite_driver.specs.Does.{BeginsBy, Pings, RefusesText, RunsText}
 use Rattle.sqlite_driver.specs.declared.connection.SqliteConnection.{SqliteConnection}
 
 -- a text that is this one where it is there, and that ran, is this one
@@ -19,6 +19,14 @@ pub ran_settled : (r : Outcome) (text : List ℕ) (before settled after : Sqlite
     → OnOk r (RunsText text before after)
 ran_settled (Ok done) text before settled after is ran same = (settled.base, is.0, ran, same ∙ is.1)
 ran_settled (Err e) text before settled after is ran same = tt
+
+-- what was noted is rolled back, and then the text that is there is refused, if it is
+pub refused_settled : {E : Type 0} (r : Outcome) (given : Result (List ℕ) E) (text : List ℕ) (before settled after : SqliteConnection)
+    → given ≡ Ok text → Pings before (Ok tt) settled → IfErr r (RefusedOn text settled.base after.base)
+    → IfErr r (λ e. (due : List ℕ) → IfOk given (λ t. t ≡ due) → RefusesText due before e after.base)
+refused_settled (Ok done) given text before settled after same is refused = tt
+refused_settled (Err e) given text before settled after same is refused =
+    λ due there. inr (inr (settled.base, is.0, subst (λ t. RefusedOn t settled.base after.base e) (subst (λ g. IfOk g (λ t. t ≡ due)) same there) refused))
 
 -- a text that ran has begun a transaction, or the begin has failed
 pub begun_by : (first r : Outcome) (text : List ℕ) (before ran after : SqliteConnection)

@@ -1,16 +1,21 @@
 -- What the calls of a connection besides queries make of it, where they are done, and what a refused one leaves.
-use Rattle.std.specs.Prelude.{◌≡◌, ◌⊎◌, ◌≤◌, ◌-◌, ℕ, true, nat_lt, if◌then◌else◌, IfErr, List, Option, Some, None, Ok, Err}
+use Rattle.std.specs.Prelude.{◌≡◌, ◌⊎◌, ◌≤◌, ◌-◌, ℕ, true, nat_lt, if◌then◌else◌, List, Option, Some, None, Ok, Err}
+use Rattle.sqlx_text.specs.declared.error.Error.{Error}
 use Rattle.sqlx_text.specs.declared.error.Error.TheVariants as error
 use Rattle.sqlx_traits.specs.Calls.{Call, Outcome, begin, commit, rollback, start_rollback, ping, Closing, told, at_once}
 use Rattle.sqlx_savepoints.specs.Texts.{begin_at, commit_at, rollback_at, text_of}
-use Rattle.sqlite_driver.specs.Refusals.{IsRefusal}
-use Rattle.sqlite_driver.specs.Ran.{RanOn, Settled, in_transaction}
+use Rattle.sqlite_driver.specs.Ran.{RanOn, RefusedOn, Settled, Unsettled, in_transaction}
+use Rattle.sqlite_driver.specs.Closed.{HasClosed, RefusesClose}
 use Rattle.sqlite_driver.specs.declared.base.Base.{Base}
 use Rattle.sqlite_driver.specs.declared.connection.SqliteConnection.{SqliteConnection}
 
 -- what was noted is rolled back, and then the text ran
 abbrev pub RunsText : List ℕ → SqliteConnection → SqliteConnection → Type 0
 RunsText text before after = (settled : Base) × Settled before.goes_back_to before.base settled × RanOn text settled after.base × (after.goes_back_to ≡ None)
+
+-- the text didn't run, and the database is this one: memory was wanting, or what was noted wasn't rolled back, or it was and the database refused the text
+abbrev pub RefusesText : List ℕ → SqliteConnection → Error → Base → Type 0
+RefusesText text before e base = (e ≡ error.OutOfMemory) ⊎ (Unsettled before.goes_back_to before.base base e ⊎ ((settled : Base) × Settled before.goes_back_to before.base settled × RefusedOn text settled base e))
 
 -- the lower of what was noted and this depth
 abbrev pub lower : Option ℕ → ℕ → ℕ
@@ -29,22 +34,22 @@ IsNoted depth (Some noted) = noted ≤ depth
 -- a level text that begins a level: it ran, or is refused
 abbrev pub Begins : List ℕ → SqliteConnection → Outcome → SqliteConnection → Type 0
 Begins text before (Ok done) after = RunsText text before after
-Begins text before (Err e) after = IsRefusal e
+Begins text before (Err e) after = RefusesText text before e after.base
 
 -- a begin by a text of the caller's own: it ran, and a transaction is open; or it is refused, or ran and began none, or stands in a level
 abbrev pub BeginsBy : List ℕ → SqliteConnection → Outcome → SqliteConnection → Type 0
 BeginsBy text before (Ok done) after = RunsText text before after × (in_transaction after.base ≡ true)
-BeginsBy text before (Err e) after = IsRefusal e ⊎ ((e ≡ error.BeginFailed) ⊎ (e ≡ error.InvalidSavePointStatement))
+BeginsBy text before (Err e) after = RefusesText text before e after.base ⊎ ((e ≡ error.BeginFailed) ⊎ (e ≡ error.InvalidSavePointStatement))
 
 -- a level text that ends a level: it ran, or is refused, and the level is to be rolled back
 abbrev pub Ends : List ℕ → SqliteConnection → Outcome → SqliteConnection → Type 0
 Ends text before (Ok done) after = RunsText text before after
-Ends text before (Err e) after = IsRefusal e × IsNoted after.depth after.goes_back_to
+Ends text before (Err e) after = RefusesText text before e after.base × IsNoted after.depth after.goes_back_to
 
 -- a ping rolls back what was noted, or is refused
 abbrev pub Pings : SqliteConnection → Outcome → SqliteConnection → Type 0
 Pings before (Ok done) after = Settled before.goes_back_to before.base after.base × (after.goes_back_to ≡ None)
-Pings before (Err e) after = IsRefusal e
+Pings before (Err e) after = Unsettled before.goes_back_to before.base after.base e
 
 -- what a call besides queries answers, and the connection after it; the last three do nothing
 abbrev pub Does : Call → SqliteConnection → Outcome → SqliteConnection → Type 0
@@ -56,7 +61,8 @@ Does rollback before outcome after = Ends (text_of (rollback_at before.depth)) b
 Does start_rollback before outcome after = after ≡ given_up before
 Does _ before outcome after = (outcome ≡ Ok tt) × (after ≡ before)
 
--- closing may be refused as a statement is, and closing at once can't be
+-- closing copies the log beside a file into it, or tells why it couldn't; closing at once can't be refused
 abbrev pub Closes : Closing → SqliteConnection → Outcome → Type 0
-Closes told before outcome = IfErr outcome IsRefusal
+Closes told before (Ok done) = HasClosed before.base
+Closes told before (Err e) = RefusesClose before.base e
 Closes at_once before outcome = outcome ≡ Ok tt

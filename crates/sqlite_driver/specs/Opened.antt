@@ -1,8 +1,10 @@
 -- What opening a database by a URL may give.
-use Rattle.std.specs.Prelude.{◌≡◌, ◌⊎◌, ℕ, Bool, true, false, List, None, Result, Ok, Err, codes}
+use Rattle.std.specs.Prelude.{◌≡◌, ◌⊎◌, ℕ, Bool, true, false, List, None, Result, Ok, Err, IsTrue, codes}
 use Rattle.std.specs.Str.{bytes_eq}
+use Rattle.sqlite.specs.declared.error.Error.{Error as Cause}
 use Rattle.sqlite.specs.Files.{IsOpened, file_state}
 use Rattle.sqlite.specs.Held.{state}
+use Rattle.sqlite.specs.Opening.{is_open_error}
 use Rattle.sqlite.specs.State.{HasCleanDisk, State}
 use Rattle.sqlite.specs.Steps.{IsEmpty, over_memory}
 use Rattle.sqlx_text.specs.declared.error.Error.{Error}
@@ -11,7 +13,7 @@ use Rattle.sqlx_text.specs.declared.fault.Fault.TheVariants as fault
 use Rattle.sqlx_any.specs.Drivers.{of_scheme}
 use Rattle.sqlx_any.specs.declared.options.AnyConnectOptions.{AnyConnectOptions}
 use Rattle.sqlite_driver.specs.Ran.{Ran}
-use Rattle.sqlite_driver.specs.Refusals.{IsRefusal}
+use Rattle.sqlite_driver.specs.Refusals.{IsRefusal, IsToldBy}
 use Rattle.sqlite_driver.specs.declared.base.Base.{Base}
 use Rattle.sqlite_driver.specs.declared.base.Base.TheVariants.{Memory, File}
 use Rattle.sqlite_driver.specs.declared.connection.SqliteConnection.{SqliteConnection}
@@ -70,7 +72,12 @@ abbrev pub Opens : AnyConnectOptions → Result SqliteConnection Error → Type 
 Opens options (Ok conn) = (own_scheme options ≡ Ok tt) × (names_memory options ≡ true) × IsFresh conn × IsInMemory conn.base
 Opens options (Err e) = (e ≡ error.OutOfMemory) ⊎ RefusedBy (MemoryRefusal (names_memory options)) (own_scheme options) e
 
+-- a database in memory may be refused as its first statement is, and a file for a cause of the database's opening, which is told
+abbrev pub NamedRefusal : Bool → Error → Type 0
+NamedRefusal true e = IsRefusal e
+NamedRefusal false e = (cause : Cause) × IsTrue (is_open_error cause) × IsToldBy cause e
+
 -- a new database in memory or a file, as the URL names it; another scheme than `sqlite` is refused, and else it is the database's refusal; or there is no memory
 abbrev pub OpensFile : {C : Type 0} → (C → SqliteConnection) → AnyConnectOptions → Result C Error → Type 0
 OpensFile under options (Ok conn) = (own_scheme options ≡ Ok tt) × IsFresh (under conn) × IsNamed (names_memory options) (under conn).base
-OpensFile under options (Err e) = (e ≡ error.OutOfMemory) ⊎ RefusedBy IsRefusal (own_scheme options) e
+OpensFile under options (Err e) = (e ≡ error.OutOfMemory) ⊎ RefusedBy (NamedRefusal (names_memory options)) (own_scheme options) e

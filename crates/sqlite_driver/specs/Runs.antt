@@ -6,13 +6,15 @@ use Rattle.either.specs.declared.Either.TheVariants.{Left, Right}
 use Rattle.sqlite_value.specs.declared.value.Value.{Value}
 use Rattle.sqlite_value.specs.declared.value.Value.TheVariants as value
 use Rattle.sqlite_value.specs.Order.{Row, column}
+use Rattle.sqlite.specs.declared.error.Error.{Error as Cause}
 use Rattle.sqlite.specs.Files.{file_state}
 use Rattle.sqlite.specs.Held.{state}
 use Rattle.sqlite.specs.Listing.{understood}
 use Rattle.sqlite.specs.Outline.{Outline}
-use Rattle.sqlite.specs.State.{Executes, HasCleanDisk, IsUnchanged, Shown, State}
+use Rattle.sqlite.specs.State.{Executes, FailsToQuery, HasCleanDisk, IsNotRun, IsUnchanged, Shown, State}
 use Rattle.sqlite.specs.Steps.{Outlines, over_memory}
 use Rattle.sqlx_text.specs.declared.error.Error.{Error}
+use Rattle.sqlx_text.specs.declared.error.Error.TheVariants as error
 use Rattle.sqlx_text.specs.declared.kind.AnyTypeInfoKind.TheVariants as null
 use Rattle.sqlx_traits.specs.StepList.{Steps}
 use Rattle.sqlx_any.specs.Kinds.{kind_of}
@@ -22,8 +24,8 @@ use Rattle.sqlx_any.specs.declared.arguments.AnyArguments.{AnyArguments}
 use Rattle.sqlx_any.specs.declared.query_result.AnyQueryResult.{AnyQueryResult}
 use Rattle.sqlx_any.specs.declared.value.AnyValueKind.{AnyValueKind}
 use Rattle.sqlx_any.specs.declared.value.AnyValueKind.TheVariants as kind
-use Rattle.sqlite_driver.specs.Refusals.{IsRefusal}
-use Rattle.sqlite_driver.specs.Ran.{Settled}
+use Rattle.sqlite_driver.specs.Refusals.{IsToldBy, no_kind}
+use Rattle.sqlite_driver.specs.Ran.{Refuses, Settled, Unsettled}
 use Rattle.sqlite_driver.specs.declared.base.Base.{Base}
 use Rattle.sqlite_driver.specs.declared.base.Base.TheVariants.{Memory, File}
 use Rattle.sqlite_driver.specs.declared.connection.SqliteConnection.{SqliteConnection}
@@ -118,9 +120,42 @@ GivesOn text values _ _ items = ⊥
 abbrev pub GivesItems : List ℕ → Row → SqliteConnection → List Item → SqliteConnection → Type 0
 GivesItems text values before items after = (settled : Base) × Settled before.goes_back_to before.base settled × GivesOn text values settled after.base items × (after.goes_back_to ≡ None)
 
+-- ---- refused queries
+
+-- a text was refused for a cause before it ran, where the disk has returned what was written, and the error tells it
+abbrev pub RefusesToPrepare : List ℕ → State → State → Error → Type 0
+RefusesToPrepare text before after e = (cause : Cause) × (HasCleanDisk after → (values : Row) × IsNotRun before after text values cause) × IsToldBy cause e
+
+-- the rows of a text with these values can't be shown, likewise
+abbrev pub RefusesToShow : List ℕ → Row → State → State → Error → Type 0
+RefusesToShow text values before after e = (cause : Cause) × (HasCleanDisk after → FailsToQuery text values before after cause) × IsToldBy cause e
+
+-- the rows of a text with these values are shown, and one of them has no form in `Any`
+abbrev pub ShowsUnfit : List ℕ → Row → State → State → Error → Type 0
+ShowsUnfit text values before after e = (rows : List Row) × (HasCleanDisk after → Shown text values before after rows) × (e ≡ no_kind)
+
+-- by what a connection shows, a text with these values is refused: where its rows are asked for, as it is prepared, or after that as its rows are shown or told; and else as it is executed
+abbrev pub RefusesQuery : {C : Type 0} → (C → State) → Bool → List ℕ → Row → C → C → Error → Type 0
+RefusesQuery {C = C} state true text values before after e = RefusesToPrepare text (state before) (state after) e
+    ⊎ ((outline : Outline) × (prepared : C) × IsPrepared text (state before) (state prepared) outline
+    × (RefusesToShow text values (state prepared) (state after) e ⊎ ShowsUnfit text values (state prepared) (state after) e))
+RefusesQuery state false text values before after e = Refuses text values (state before) (state after) e
+
+-- the same of a database in memory or in a file
+abbrev pub RefusesQueryOn : List ℕ → Row → Base → Base → Error → Type 0
+RefusesQueryOn text values (Memory before) (Memory after) e = RefusesQuery (state over_memory) (is_select text) text values before after e
+RefusesQueryOn text values (File before) (File after) e = RefusesQuery file_state (is_select text) text values before after e
+RefusesQueryOn text values _ _ e = ⊥
+
+-- the query gave nothing, and the database is this one: memory was wanting, or what was noted wasn't rolled back, or it was and the query was refused
+abbrev pub RefusesItems : List ℕ → Row → SqliteConnection → Error → Base → Type 0
+RefusesItems text values before e base = (e ≡ error.OutOfMemory) ⊎ (Unsettled before.goes_back_to before.base base e ⊎ ((settled : Base) × Settled before.goes_back_to before.base settled × RefusesQueryOn text values settled base e))
+
+-- ---- both
+
 -- the text gave the list, or the list is its refusal alone; the depth stays
 abbrev pub Runs : SqliteConnection → List ℕ → Bool → Option AnyArguments → Steps AnyQueryResult RowParts Error → SqliteConnection → Type 0
 Runs before text kept arguments list after =
     (((items : List Item) × GivesItems text (all_taken arguments) before items after × (list ≡ map Ok items))
-    ⊎ ((e : Error) × IsRefusal e × (list ≡ Err e ∷ [])))
+    ⊎ ((e : Error) × RefusesItems text (all_taken arguments) before e after.base × (list ≡ Err e ∷ [])))
     × (after.depth ≡ before.depth)

@@ -1,7 +1,10 @@
 //! The database under a connection, in memory or in a file.
-ghost use Rattle.std.specs.Prelude.{◌≡◌, IfOk, OnOk, not};
-ghost use Rattle.sqlite_driver.specs.Ran.{RanOn, RolledBackTo, in_transaction};
-ghost use Rattle.sqlite_driver.specs.Runs.{GivesOn, all_taken};
+ghost use Rattle.std.specs.Prelude.{◌≡◌, ◌⊎◌, IfErr, IfOk, OnOk, not};
+ghost use Rattle.sqlx_text.specs.declared.error.Error.{Error};
+ghost use Rattle.sqlite_driver.specs.Refusals.{refusal_error};
+ghost use Rattle.sqlite_driver.specs.Ran.{RanOn, RefusedOn, RefusesRollback, RolledBackTo, in_transaction};
+ghost use Rattle.sqlite_driver.specs.Closed.{HasClosed, RefusesClose};
+ghost use Rattle.sqlite_driver.specs.Runs.{GivesOn, RefusesQueryOn, all_taken};
 
 use crate::refusal::{Refusal, refused};
 use crate::statements::{self, Items};
@@ -24,7 +27,8 @@ impl Base {
         text: &str,
         arguments: &Option<AnyArguments>,
     ) -> Result<Items, Refusal>
-        ensures { IfOk result (λ items. GivesOn text.now (all_taken arguments.now) self.old self.new items.items) }
+        ensures gave { IfOk result (λ items. GivesOn text.now (all_taken arguments.now) self.old self.new items.items) }
+        ensures refused { IfErr result (λ refusal. (refusal_error refusal ≡ Error.OutOfMemory) ⊎ RefusesQueryOn text.now (all_taken arguments.now) self.old self.new (refusal_error refusal)) }
     {
         match self {
             Base::Memory(conn) => statements::run(conn, alloc, text, arguments),
@@ -34,7 +38,8 @@ impl Base {
 
     /// Runs a text of a level.
     pub(crate) fn perform(&mut self, alloc: Global, text: &str) -> Result<(), Refusal>
-        ensures { OnOk result (RanOn text.now self.old self.new) }
+        ensures ran { OnOk result (RanOn text.now self.old self.new) }
+        ensures refused { IfErr result (λ refusal. RefusedOn text.now self.old self.new (refusal_error refusal)) }
     {
         match self {
             Base::Memory(conn) => statements::perform(conn, alloc, text),
@@ -44,7 +49,8 @@ impl Base {
 
     /// Rolls back to this depth.
     pub(crate) fn roll_back_to(&mut self, alloc: Global, depth: usize) -> Result<(), Refusal>
-        ensures { OnOk result (RolledBackTo depth self.old self.new) }
+        ensures ran { OnOk result (RolledBackTo depth self.old self.new) }
+        ensures refused { IfErr result (λ refusal. RefusesRollback depth self.old self.new (refusal_error refusal)) }
     {
         match self {
             Base::Memory(conn) => statements::roll_back_to(conn, alloc, depth),
@@ -63,16 +69,33 @@ impl Base {
     }
 
     /// Closes it; the log beside a file is copied into it.
-    pub(crate) fn close(self, alloc: Global) -> Result<(), Refusal> {
+    pub(crate) fn close(self, alloc: Global) -> Result<(), Refusal>
+        ensures closed { OnOk result (HasClosed self) }
+        ensures refused { IfErr result (λ refusal. RefusesClose self (refusal_error refusal)) }
+    {
         match self {
             Base::Memory(conn) => {
                 drop(conn);
                 Ok(())
             }
-            Base::File(conn) => match conn.close() {
-                Ok(()) => Ok(()),
-                Err(error) => Err(refused(alloc, error)),
-            },
+            Base::File(conn) => close_file(alloc, conn),
+        }
+    }
+}
+
+// What `Connection::close` of the crate `sqlite` does, with a contract that names what is left of the files.
+fn close_file(alloc: Global, conn: Connection<FileStore<File>>) -> Result<(), Refusal>
+    ensures closed { OnOk result (HasClosed (Base.File conn)) }
+    ensures refused { IfErr result (λ refusal. RefusesClose (Base.File conn) (refusal_error refusal)) }
+{
+    match conn.close_files() {
+        Ok(files) => {
+            drop(files);
+            Ok(())
+        }
+        Err((cause, store)) => {
+            drop(store);
+            Err(refused(alloc, cause))
         }
     }
 }

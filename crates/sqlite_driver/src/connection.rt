@@ -2,11 +2,12 @@
 ghost use Rattle.std.specs.Prelude.{◌≡◌, ◌≢◌, ◌≤◌, ◌<◌, ◌+◌, ◌-◌, ℕ, Bool, Err, IfErr, IfOk, IsOkAnd, List, OnErr, OnOk};
 ghost use Rattle.sqlx_text.specs.declared.error.Error.{Error};
 ghost use Rattle.sqlx_traits.specs.Faults.{BeginCause, FaultCause, HasRisen};
-ghost use Rattle.sqlite_driver.specs.Refusals.{IsRefusal};
-ghost use Rattle.sqlite_driver.specs.Ran.{RanOn, in_transaction};
-ghost use Rattle.sqlite_driver.specs.Does.{Begins, BeginsBy, Ends, IsNoted, Pings, RunsText, given_up};
+ghost use Rattle.sqlite_driver.specs.Refusals.{refusal_error};
+ghost use Rattle.sqlite_driver.specs.Ran.{RanOn, RefusedOn, in_transaction};
+ghost use Rattle.sqlite_driver.specs.Closed.{HasClosed, RefusesClose};
+ghost use Rattle.sqlite_driver.specs.Does.{Begins, BeginsBy, Ends, IsNoted, Pings, RefusesText, RunsText, given_up};
 ghost use Rattle.sqlite_driver.specs.Opened.{IsFresh};
-ghost use Rattle.sqlite_driver.specs.Runs.{GivesItems, all_taken};
+ghost use Rattle.sqlite_driver.specs.Runs.{GivesItems, RefusesItems, all_taken};
 
 use crate::base::Base;
 use crate::refusal::Refusal;
@@ -45,7 +46,7 @@ impl SqliteConnection {
     pub(crate) fn refuse(&mut self, refusal: Refusal) -> Error
         ensures rest { self.new ≡ record self.old { faults = self.new.faults } }
         ensures rises { self.old.faults ≤ self.new.faults }
-        ensures told { IsRefusal result }
+        ensures value { result ≡ refusal_error refusal }
         ensures cause { FaultCause self.old.faults self.new.faults result }
         ensures inside { result ≢ Error.InvalidSavePointStatement }
         ensures failed { result ≢ Error.BeginFailed }
@@ -91,8 +92,8 @@ impl SqliteConnection {
         arguments: &Option<AnyArguments>,
     ) -> Result<Items, Error>
         ensures gave { IfOk result (λ items. GivesItems text.now (all_taken arguments.now) self.old items.items self.new) }
+        ensures refused { IfErr result (λ e. RefusesItems text.now (all_taken arguments.now) self.old e self.new.base) }
         ensures depth { self.new.depth ≡ self.old.depth }
-        ensures told { IfErr result IsRefusal }
         ensures rises { self.old.faults ≤ self.new.faults }
         ensures cause { IfErr result (FaultCause self.old.faults self.new.faults) }
     {
@@ -108,8 +109,8 @@ impl SqliteConnection {
     /// Runs a text of a level, likewise.
     fn perform(&mut self, text: Result<SqlStr, OutOfMemory>) -> Result<(), Error>
         ensures ran { OnOk result (IsOkAnd text (λ text. RunsText text self.old self.new)) }
+        ensures refused { IfErr result (λ e. (due : List ℕ) → IfOk text (λ text. text ≡ due) → RefusesText due self.old e self.new.base) }
         ensures depth { self.new.depth ≡ self.old.depth }
-        ensures told { IfErr result IsRefusal }
         ensures rises { self.old.faults ≤ self.new.faults }
         ensures cause { IfErr result (FaultCause self.old.faults self.new.faults) }
         ensures inside { result ≢ Err Error.InvalidSavePointStatement }
@@ -126,9 +127,9 @@ impl SqliteConnection {
 
     fn hand_on(&mut self, text: SqlStr) -> Result<(), Error>
         ensures ran { OnOk result (RanOn text self.old.base self.new.base) }
+        ensures refused { IfErr result (RefusedOn text self.old.base self.new.base) }
         ensures noted { self.new.goes_back_to ≡ self.old.goes_back_to }
         ensures depth { self.new.depth ≡ self.old.depth }
-        ensures told { IfErr result IsRefusal }
         ensures rises { self.old.faults ≤ self.new.faults }
         ensures cause { IfErr result (FaultCause self.old.faults self.new.faults) }
         ensures inside { result ≢ Err Error.InvalidSavePointStatement }
@@ -239,7 +240,8 @@ impl SqliteConnection {
 
     /// Closes the database. What isn't committed is rolled back.
     pub(crate) fn end(self) -> Result<(), Error>
-        ensures { IfErr result IsRefusal }
+        ensures closed { OnOk result (HasClosed self.base) }
+        ensures refused { IfErr result (RefusesClose self.base) }
     {
         let SqliteConnection { base, alloc, .. } = self;
         match base.close(alloc) {

@@ -1,7 +1,7 @@
 //! Why a statement is refused, and the error by which that is told.
-ghost use Rattle.std.specs.Prelude.{◌≢◌, ℕ};
+ghost use Rattle.std.specs.Prelude.{◌≡◌, ◌≢◌, ℕ};
 ghost use Rattle.sqlx_traits.specs.Faults.{FaultCause, HasRisen};
-ghost use Rattle.sqlite_driver.specs.Refusals.{IsRefusal};
+ghost use Rattle.sqlite_driver.specs.Refusals.{IsRefusal, IsToldBy, cause_kind, refusal_error};
 
 use sqlite::{Constraint, ErrorCode};
 use sqlx_text::{DatabaseFault, Error, ErrorKind, Fault, OutOfMemory, UStr};
@@ -11,8 +11,8 @@ use std::alloc::Global;
 #[derive(Drop)]
 pub(crate) enum Refusal {
     OutOfMemory,
-    /// The database's own.
-    Database(DatabaseFault),
+    /// The database's own, with its message.
+    Database(sqlite::Error, UStr),
     /// A value for which `Any` has no kind.
     NoKind,
 }
@@ -20,6 +20,7 @@ pub(crate) enum Refusal {
 impl Refusal {
     /// The error by which it is told.
     pub(crate) fn error(self) -> Error
+        ensures value { result ≡ refusal_error self }
         ensures told { IsRefusal result }
         ensures cause { (before now : ℕ) → HasRisen before now → FaultCause before now result }
         ensures inside { result ≢ Error.InvalidSavePointStatement }
@@ -27,7 +28,14 @@ impl Refusal {
     {
         match self {
             Refusal::OutOfMemory => Error::OutOfMemory,
-            Refusal::Database(fault) => Error::Database(fault),
+            Refusal::Database(cause, message) => Error::Database(DatabaseFault {
+                message,
+                code: None,
+                kind: kind_of(cause),
+                transient: false,
+                constraint: None,
+                table: None,
+            }),
             Refusal::NoKind => Error::AnyDriverError(Fault::Text(UStr::from_static(
                 "a value is neither a whole number nor a text, bytes or null",
             ))),
@@ -36,35 +44,37 @@ impl Refusal {
 }
 
 impl From<OutOfMemory> for Refusal {
+    ghost use Rattle.std.specs.Prelude.{◌≡◌};
+    ghost use Rattle.sqlite_driver.specs.declared.refusal.Refusal.TheVariants.{OutOfMemory};
+
+    ghost from_gives = { λ _ refusal. refusal ≡ OutOfMemory };
+
     fn from(_: OutOfMemory) -> Refusal {
         Refusal::OutOfMemory
     }
 }
 
-/// A refusal of the database, told by its message.
-pub(crate) fn refused(alloc: Global, error: sqlite::Error) -> Refusal {
-    if let sqlite::Error::SqliteFailure(ErrorCode::OutOfMemory) = error {
+/// A refusal of the database, told by its message. Want of memory is told as that.
+pub(crate) fn refused(alloc: Global, cause: sqlite::Error) -> Refusal
+    ensures { IsToldBy cause (refusal_error result) }
+{
+    if let sqlite::Error::SqliteFailure(ErrorCode::OutOfMemory) = cause {
         return Refusal::OutOfMemory;
     }
-    match format!(in alloc; "{error}") {
-        Ok(message) => Refusal::Database(DatabaseFault {
-            message: UStr::from_string(message),
-            code: None,
-            kind: kind_of(error),
-            transient: false,
-            constraint: None,
-            table: None,
-        }),
+    match format!(in alloc; "{cause}") {
+        Ok(message) => Refusal::Database(cause, UStr::from_string(message)),
         Err(_) => Refusal::OutOfMemory,
     }
 }
 
 /// The kind of a refusal that a program can act on.
-fn kind_of(error: sqlite::Error) -> ErrorKind {
-    let sqlite::Error::SqliteFailure(ErrorCode::ConstraintViolation(constraint)) = error else {
+fn kind_of(cause: sqlite::Error) -> ErrorKind
+    ensures { result ≡ cause_kind cause }
+{
+    let sqlite::Error::SqliteFailure(ErrorCode::ConstraintViolation(broken)) = cause else {
         return ErrorKind::Other;
     };
-    match constraint {
+    match broken {
         Constraint::PrimaryKey | Constraint::Unique => ErrorKind::UniqueViolation,
         Constraint::ForeignKey => ErrorKind::ForeignKeyViolation,
         Constraint::NotNull => ErrorKind::NotNullViolation,

@@ -1,12 +1,14 @@
 //! Statements on the database's own connection.
-ghost use Rattle.std.specs.Prelude.{◌≡◌, ◌⊎◌, ◌+◌, ◌∷◌, ◌++◌, [], Bool, IfOk, Ok, OnOk};
+ghost use Rattle.std.specs.Prelude.{◌≡◌, ◌⊎◌, ◌+◌, ◌∷◌, ◌++◌, [], Bool, IfErr, IfOk, List, Ok, OnOk};
 ghost use Rattle.either.specs.declared.Either.TheVariants.{Left};
 ghost use Rattle.sqlite.specs.State.{Executes, HasCleanDisk, Shown};
 ghost use Rattle.sqlite.specs.Held.{state};
 ghost use Rattle.sqlite.specs.Values.{bound};
+ghost use Rattle.sqlx_text.specs.declared.error.Error.{Error};
 ghost use Rattle.sqlx_savepoints.specs.Texts.{rollback_at, text_of};
-ghost use Rattle.sqlite_driver.specs.Ran.{Ran};
-ghost use Rattle.sqlite_driver.specs.Runs.{GainsRows, Gives, IsPrepared, all_taken, is_select};
+ghost use Rattle.sqlite_driver.specs.Refusals.{IsUnfit, refusal_error};
+ghost use Rattle.sqlite_driver.specs.Ran.{Ran, Refuses};
+ghost use Rattle.sqlite_driver.specs.Runs.{GainsRows, Gives, IsPrepared, Item, RefusesQuery, RefusesToPrepare, RefusesToShow, all_taken, is_select, no_count};
 
 use crate::refusal::{Refusal, refused};
 use crate::values::{lent_all, row};
@@ -27,7 +29,8 @@ fn changed<S: Alter>(
     text: &str,
     values: &[ValueRef<'_>],
 ) -> Result<u64, Refusal>
-    ensures { IfOk result (λ rows. HasCleanDisk (state S.Store conn.new) → Executes text.now (bound values.now) (state S.Store conn.old) (state S.Store conn.new) (Ok rows)) }
+    ensures ran { IfOk result (λ rows. HasCleanDisk (state S.Store conn.new) → Executes text.now (bound values.now) (state S.Store conn.old) (state S.Store conn.new) (Ok rows)) }
+    ensures refused { IfErr result (λ refusal. Refuses text.now (bound values.now) (state S.Store conn.old) (state S.Store conn.new) (refusal_error refusal)) }
 {
     match conn.execute(text, values) {
         Ok(rows) => Ok(rows as u64),
@@ -40,7 +43,8 @@ fn prepared<S: Alter>(
     alloc: Global,
     text: &str,
 ) -> Result<Statement, Refusal>
-    ensures { IfOk result (λ statement. IsPrepared text.now (state S.Store conn.old) (state S.Store conn.new) statement) }
+    ensures prepared { IfOk result (λ statement. IsPrepared text.now (state S.Store conn.old) (state S.Store conn.new) statement) }
+    ensures refused { IfErr result (λ refusal. RefusesToPrepare text.now (state S.Store conn.old) (state S.Store conn.new) (refusal_error refusal)) }
 {
     match conn.prepare(text) {
         Ok(statement) => Ok(statement),
@@ -54,7 +58,8 @@ fn shown<S: Alter>(
     text: &str,
     values: &[ValueRef<'_>],
 ) -> Result<Vec<Row>, Refusal>
-    ensures { IfOk result (λ rows. HasCleanDisk (state S.Store conn.new) → Shown text.now (bound values.now) (state S.Store conn.old) (state S.Store conn.new) rows.items) }
+    ensures shown { IfOk result (λ rows. HasCleanDisk (state S.Store conn.new) → Shown text.now (bound values.now) (state S.Store conn.old) (state S.Store conn.new) rows.items) }
+    ensures refused { IfErr result (λ refusal. RefusesToShow text.now (bound values.now) (state S.Store conn.old) (state S.Store conn.new) (refusal_error refusal)) }
 {
     match conn.query_all(text, values) {
         Ok(rows) => Ok(rows),
@@ -64,7 +69,8 @@ fn shown<S: Alter>(
 
 /// These rows under the names of the statement's columns.
 fn listed(alloc: Global, statement: &Statement, rows: &[Row]) -> Result<Items, Refusal>
-    ensures { IfOk result (λ items. GainsRows statement.now.columns rows.now [] items.items) }
+    ensures listed { IfOk result (λ items. GainsRows statement.now.columns rows.now [] items.items) }
+    ensures refused { IfErr result (λ refusal. IsUnfit (refusal_error refusal)) }
 {
     let mut items = VecDeque::new(alloc);
     for shown in rows {
@@ -78,7 +84,8 @@ fn listed(alloc: Global, statement: &Statement, rows: &[Row]) -> Result<Items, R
 
 /// These rows, and then a result.
 fn finished(items: Items, rows_affected: u64, id: Option<i64>) -> Result<Items, Refusal>
-    ensures { IfOk result (λ all. all.items ≡ items.items ++ Left (record { rows_affected = rows_affected; last_insert_id = id }) ∷ []) }
+    ensures all { IfOk result (λ all. all.items ≡ items.items ++ Left (record { rows_affected = rows_affected; last_insert_id = id }) ∷ []) }
+    ensures wanting { IfErr result (λ refusal. refusal_error refusal ≡ Error.OutOfMemory) }
 {
     let mut items = items;
     let result = AnyQueryResult {
@@ -91,6 +98,17 @@ fn finished(items: Items, rows_affected: u64, id: Option<i64>) -> Result<Items, 
     }
 }
 
+/// The rows of a statement, and a result without a count.
+fn completed(alloc: Global, statement: &Statement, rows: &[Row]) -> Result<Items, Refusal>
+    ensures all { IfOk result (λ all. (listed : List Item) × GainsRows statement.now.columns rows.now [] listed × (all.items ≡ listed ++ Left no_count ∷ [])) }
+    ensures refused { IfErr result (λ refusal. IsUnfit (refusal_error refusal)) }
+{
+    match listed(alloc, statement, rows) {
+        Ok(items) => finished(items, 0, None),
+        Err(refusal) => Err(refusal),
+    }
+}
+
 /// Runs a text: one that begins with `SELECT ` gives its rows, any other how many rows it changed.
 pub(crate) fn run<S: Alter>(
     conn: &mut Connection<S>,
@@ -98,7 +116,8 @@ pub(crate) fn run<S: Alter>(
     text: &str,
     arguments: &Option<AnyArguments>,
 ) -> Result<Items, Refusal>
-    ensures { IfOk result (λ items. Gives (state S.Store) (is_select text.now) text.now (all_taken arguments.now) conn.old conn.new items.items) }
+    ensures gave { IfOk result (λ items. Gives (state S.Store) (is_select text.now) text.now (all_taken arguments.now) conn.old conn.new items.items) }
+    ensures refused { IfErr result (λ refusal. (refusal_error refusal ≡ Error.OutOfMemory) ⊎ RefusesQuery (state S.Store) (is_select text.now) text.now (all_taken arguments.now) conn.old conn.new (refusal_error refusal)) }
 {
     let values = lent_all(alloc, arguments)?;
     if text.as_bytes().starts_with(b"SELECT ") {
@@ -115,11 +134,14 @@ fn select<S: Alter>(
     text: &str,
     values: &[ValueRef<'_>],
 ) -> Result<Items, Refusal>
-    ensures { IfOk result (λ items. Gives (state S.Store) Bool.true text.now (bound values.now) conn.old conn.new items.items) }
+    ensures gave { IfOk result (λ items. Gives (state S.Store) Bool.true text.now (bound values.now) conn.old conn.new items.items) }
+    ensures refused { IfErr result (λ refusal. (refusal_error refusal ≡ Error.OutOfMemory) ⊎ RefusesQuery (state S.Store) Bool.true text.now (bound values.now) conn.old conn.new (refusal_error refusal)) }
 {
     let statement = prepared(conn, alloc, text)?;
-    let rows = shown(conn, alloc, text, values)?;
-    finished(listed(alloc, &statement, rows.as_slice())?, 0, None)
+    match shown(conn, alloc, text, values) {
+        Ok(rows) => completed(alloc, &statement, rows.as_slice()),
+        Err(refusal) => Err(refusal),
+    }
 }
 
 /// Runs any other text.
@@ -129,7 +151,8 @@ fn execute<S: Alter>(
     text: &str,
     values: &[ValueRef<'_>],
 ) -> Result<Items, Refusal>
-    ensures { IfOk result (λ items. Gives (state S.Store) Bool.false text.now (bound values.now) conn.old conn.new items.items) }
+    ensures gave { IfOk result (λ items. Gives (state S.Store) Bool.false text.now (bound values.now) conn.old conn.new items.items) }
+    ensures refused { IfErr result (λ refusal. (refusal_error refusal ≡ Error.OutOfMemory) ⊎ RefusesQuery (state S.Store) Bool.false text.now (bound values.now) conn.old conn.new (refusal_error refusal)) }
 {
     let rows = changed(conn, alloc, text, values)?;
     finished(VecDeque::new(alloc), rows, Some(conn.last_insert_rowid()))
@@ -141,7 +164,8 @@ pub(crate) fn perform<S: Alter>(
     alloc: Global,
     text: &str,
 ) -> Result<(), Refusal>
-    ensures { OnOk result (Ran text.now (state S.Store conn.old) (state S.Store conn.new)) }
+    ensures ran { OnOk result (Ran text.now (state S.Store conn.old) (state S.Store conn.new)) }
+    ensures refused { IfErr result (λ refusal. Refuses text.now [] (state S.Store conn.old) (state S.Store conn.new) (refusal_error refusal)) }
 {
     match changed(conn, alloc, text, &[]) {
         Ok(_) => Ok(()),
@@ -155,7 +179,8 @@ pub(crate) fn roll_back_to<S: Alter>(
     alloc: Global,
     depth: usize,
 ) -> Result<(), Refusal>
-    ensures { OnOk result (((conn.old.in_transaction ≡ Bool.false) × (conn.new ≡ conn.old)) ⊎ Ran (text_of (rollback_at (depth + 1))) (state S.Store conn.old) (state S.Store conn.new)) }
+    ensures ran { OnOk result (((conn.old.in_transaction ≡ Bool.false) × (conn.new ≡ conn.old)) ⊎ Ran (text_of (rollback_at (depth + 1))) (state S.Store conn.old) (state S.Store conn.new)) }
+    ensures refused { IfErr result (λ refusal. (refusal_error refusal ≡ Error.OutOfMemory) ⊎ Refuses (text_of (rollback_at (depth + 1))) [] (state S.Store conn.old) (state S.Store conn.new) (refusal_error refusal)) }
 {
     if conn.is_autocommit() {
         return Ok(());

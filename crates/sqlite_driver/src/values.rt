@@ -1,8 +1,9 @@
 //! Arguments as the database takes them, and its rows as those of `Any`.
-ghost use Rattle.std.specs.Prelude.{◌≡◌, IfOk, OnOk, Some, map};
+ghost use Rattle.std.specs.Prelude.{◌≡◌, IfErr, IfOk, OnOk, Some, map};
 ghost use Rattle.sqlite.specs.Values.{bound, bound_value};
 ghost use Rattle.sqlite_value.specs.Order.{column};
 ghost use Rattle.sqlite_value.specs.Value.{owned};
+ghost use Rattle.sqlite_driver.specs.Refusals.{IsUnfit, refusal_error};
 ghost use Rattle.sqlite_driver.specs.Runs.{GainsCell, GainsCells, all_taken, given, no_cells, taken, with_cell};
 
 use crate::refusal::Refusal;
@@ -60,7 +61,8 @@ pub(crate) fn lent_all(
 
 /// A text of the database, whose bytes needn't be one.
 fn text(alloc: Global, bytes: &[u8]) -> Result<UStr, Refusal>
-    ensures { IfOk result (λ text. text ≡ bytes.now) }
+    ensures read { IfOk result (λ text. text ≡ bytes.now) }
+    ensures refused { IfErr result (λ refusal. IsUnfit (refusal_error refusal)) }
 {
     match std::str::from_utf8(bytes) {
         Ok(text) => Ok(UStr::new(alloc, text)?),
@@ -70,7 +72,8 @@ fn text(alloc: Global, bytes: &[u8]) -> Result<UStr, Refusal>
 
 /// A value of the database as one of `Any`.
 fn read(alloc: Global, value: ValueRef<'_>) -> Result<AnyValueKind, Refusal>
-    ensures { IfOk result (λ cell. given (owned value.entry) ≡ Some cell) }
+    ensures read { IfOk result (λ cell. given (owned value.entry) ≡ Some cell) }
+    ensures refused { IfErr result (λ refusal. IsUnfit (refusal_error refusal)) }
 {
     match value {
         ValueRef::Null => Ok(AnyValueKind::Null(AnyTypeInfoKind::Null)),
@@ -83,7 +86,8 @@ fn read(alloc: Global, value: ValueRef<'_>) -> Result<AnyValueKind, Refusal>
 
 /// The value at a place, null where the row has none there.
 fn read_at(alloc: Global, row: &Row, at: usize) -> Result<AnyValueKind, Refusal>
-    ensures { IfOk result (λ cell. given (column row.now at) ≡ Some cell) }
+    ensures read { IfOk result (λ cell. given (column row.now at) ≡ Some cell) }
+    ensures refused { IfErr result (λ refusal. IsUnfit (refusal_error refusal)) }
 {
     match row.get_ref(at) {
         Ok(value) => read(alloc, value),
@@ -120,7 +124,8 @@ impl Cells {
 
     /// One more cell under this name, of the next of the row's values.
     fn read_next(&mut self, alloc: Global, name: &[u8], row: &Row) -> Result<(), Refusal>
-        ensures { OnOk result (GainsCell row.now name.now self.old self.new) }
+        ensures read { OnOk result (GainsCell row.now name.now self.old self.new) }
+        ensures refused { IfErr result (λ refusal. IsUnfit (refusal_error refusal)) }
     {
         let name = text(alloc, name)?;
         let cell = read_at(alloc, row, self.values.len())?;
@@ -147,7 +152,8 @@ impl Cells {
     }
 
     fn into_row(self) -> Result<AnyRow, Refusal>
-        ensures { IfOk result (λ row. row ≡ self) }
+        ensures row { IfOk result (λ row. row ≡ self) }
+        ensures refused { IfErr result (λ refusal. IsUnfit (refusal_error refusal)) }
     {
         let Cells {
             names,
@@ -166,7 +172,8 @@ impl Cells {
 
 /// A row of the database under these names of columns.
 pub(crate) fn row(alloc: Global, names: &[Bytes], row: &Row) -> Result<AnyRow, Refusal>
-    ensures { IfOk result (λ shown. GainsCells row.now names.now no_cells shown) }
+    ensures row { IfOk result (λ shown. GainsCells row.now names.now no_cells shown) }
+    ensures refused { IfErr result (λ refusal. IsUnfit (refusal_error refusal)) }
 {
     let mut cells = Cells::new(alloc);
     for name in names {

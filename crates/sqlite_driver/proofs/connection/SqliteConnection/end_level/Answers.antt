@@ -1,4 +1,5 @@
-use Rattle.std.proofs.Common.{rules}
+use Rattle.std.proofs.Common.{rules, ap, sym, subst}
+use Rattle.sqlite_driver.specs.Does.{RefusesText}
 use Rattle.sqlite_driver.proofs.TextLemmas.{ran_as}
 use Rattle.sqlite_driver.proofs.connection.SqliteConnection.end_level.Goals as goal
 
@@ -6,3 +7,7 @@ pub returns-in-Ok-clause-ends : goal.returns-in-Ok-clause-ends
 returns-in-Ok-clause-ends c = λ due is.
     let ran : _ = ran_as c.perform.result due c.args.text c.args.self.now c.perform.new.self is c.perform.ensures.ran in
     search rules
+
+pub returns-in-Err-clause-ends : goal.returns-in-Err-clause-ends
+returns-in-Err-clause-ends c = λ due is.
+    (subst (λ base. RefusesText due c.args.self.now c.in-Err.error base) (ap (λ conn. conn.base) (sym c.give_up.ensures.new)) (c.in-Err.ensures.refused due is), c.give_up.ensures.noted)

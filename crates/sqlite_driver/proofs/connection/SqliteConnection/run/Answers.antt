@@ -1,0 +1,13 @@
+-- A query that was refused once what was noted is rolled back.
+use Rattle.std.proofs.Common.{ap, sym, subst}
+use Rattle.sqlite_driver.specs.Refusals.{refusal_error}
+use Rattle.sqlite_driver.specs.Runs.{RefusesItems, all_taken}
+use Rattle.sqlite_driver.specs.declared.connection.SqliteConnection.{SqliteConnection}
+use Rattle.sqlite_driver.proofs.RunsLemmas.{refuses_settled}
+use Rattle.sqlite_driver.proofs.connection.SqliteConnection.run.Goals as goal
+
+pub returns-in-Err-run-clause-refused : goal.returns-in-Err-run-clause-refused
+returns-in-Err-run-clause-refused c =
+    let refused : _ = refuses_settled c.args.text.now (all_taken c.args.arguments.now) c.args.self.now c.settle.new.self.base c.run.new.self (refusal_error c.in-Err-run.refusal) c.in-Ok.ensures.pings.0 c.in-Err-run.ensures.refused in
+    let after : _ = subst (λ base. RefusesItems c.args.text.now (all_taken c.args.arguments.now) c.args.self.now (refusal_error c.in-Err-run.refusal) base) (ap (λ (conn : SqliteConnection). conn.base) (sym c.refuse.ensures.rest)) refused in
+    subst (λ e. RefusesItems c.args.text.now (all_taken c.args.arguments.now) c.args.self.now e c.refuse.new.self.base) (sym c.refuse.ensures.value) after
