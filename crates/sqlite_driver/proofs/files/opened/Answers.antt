@@ -1,4 +1,4 @@
-use Rattle.std.proofs.Common.{◌≡◌, rules, false, codes, sym, subst, ◌∙◌}
+use Rattle.std.proofs.Common.{◌≡◌, false, codes, sym, subst, ◌∙◌}
 use Rattle.std.specs.Str.{bytes_eq}
 use Rattle.sqlite_driver.specs.Opened.{IsFile, names_memory}
 use Rattle.sqlite_driver.proofs.RunsLemmas.{named_file}
