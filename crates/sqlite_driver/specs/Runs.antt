@@ -130,7 +130,7 @@ RefusesToPrepare text before after e = (cause : Cause) × (HasCleanDisk after �
 abbrev pub RefusesToShow : List ℕ → Row → State → State → Error → Type 0
 RefusesToShow text values before after e = (cause : Cause) × (HasCleanDisk after → FailsToQuery text values before after cause) × IsToldBy cause e
 
--- the rows of a text with these values are shown, and one of them has no form in `Any`
+-- the rows of a text with these values are shown, and the error tells of one that it has no form in `Any`
 abbrev pub ShowsUnfit : List ℕ → Row → State → State → Error → Type 0
 ShowsUnfit text values before after e = (rows : List Row) × (HasCleanDisk after → Shown text values before after rows) × (e ≡ no_kind)
 
