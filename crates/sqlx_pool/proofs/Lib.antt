@@ -5,3 +5,4 @@ pub mod ReturnsLemmas
 pub mod RefusalLemmas
 pub mod HandleLemmas
 pub mod SeenLemmas
+pub mod CheckLemmas

@@ -1,7 +1,77 @@
 -- A state stands whatever its connect options are.
-use Rattle.std.proofs.Common.{ℕ, Bool}
-use Rattle.sqlx_pool.specs.Seen.{bare}
-use Rattle.sqlx_pool.specs.State.{PoolState, IsStanding}
+use Rattle.std.proofs.Common.{◌≡◌, ◌⊎◌, ◌↔◌, ◌∙◌, ◌^◌, ◌<◌, ◌≤◌, ℕ, Bool, true, false, Option, Some, None, is_some, option_map, Result, Ok, Err, IfOk, IfErr, inl, inr, refl, sym, ap, subst}
+use Rattle.std.specs.List.{list_any}
+use Rattle.sqlx_text.specs.declared.OutOfMemory.{OutOfMemory}
+use Rattle.sqlx_text.specs.declared.error.Error.{Error}
+use Rattle.sqlx_text.specs.declared.error.Error.TheVariants as error
+use Rattle.sqlx_log.specs.EventTable.{free_at, may_open, size_at}
+use Rattle.sqlx_log.specs.Counts.{waiting_in}
+use Rattle.sqlx_log.specs.Marks.{is_open, is_shut, next_ticket, next_conn, tickets_of}
+use Rattle.sqlx_pool_core.specs.Limits.{limits_of}
+use Rattle.sqlx_pool_core.specs.declared.steps.Lent.{Lent}
+use Rattle.sqlx_pool_core.specs.Answers.{lent_conn}
+use Rattle.sqlx_pool.specs.Answers.{lent_alone}
+use Rattle.sqlx_pool.specs.declared.mark_log.MarkLog.{MarkLog}
+use Rattle.sqlx_pool.specs.MarkLog.{IsCopyOf}
+use Rattle.sqlx_pool.specs.Places.{back_if, holds_place}
+use Rattle.sqlx_pool.specs.Seen.{bare, Saw}
+use Rattle.sqlx_pool.specs.Refusals.{IsAskRefusal, IsTryRefusal}
+use Rattle.sqlx_pool.specs.State.{PoolState, IsStanding, start_of, since_start}
+use Rattle.sqlx_pool.specs.Upkeep.{has_room, IsFilled}
 
 pub standing-bare : {C O : Type 0} (levels : C → ℕ) (max : ℕ) (cuts : Bool) (state : PoolState C O) → IsStanding levels max cuts state → IsStanding levels max cuts (bare state)
 standing-bare levels max cuts state s = record { stands = s.stands; fair = s.fair; begins = s.begins; uncut = s.uncut; most = s.most; owned = s.owned; made = s.made; rest = s.rest }
+
+-- what holds of a state that stands was seen
+pub saw-here : {C O : Type 0} (levels : C → ℕ) (max : ℕ) (cuts : Bool) (state : PoolState C O) → IsStanding levels max cuts state → (P : PoolState C (Unit {0}) → Type 0) → P (bare state) → Saw levels max cuts P
+saw-here levels max cuts state s P p = (bare state, standing-bare levels max cuts state s, p)
+
+never : {A : Type 0} → false ≡ true → A
+never e = absurd cc
+
+-- what comes back of a place: it isn't kept as the pool is closed, or as no place is held
+back-why : {C : Type 0} (held shut : Bool) (raw : C) → is_some (back_if held shut (Some raw)) ≡ true → (shut ≡ true) ⊎ (held ≡ false)
+back-why true true raw e = inl refl
+back-why true false raw e = never e
+back-why false shut raw e = inr refl
+
+-- a closed pool has no place
+shut-full : {C O : Type 0} (state : PoolState C O) (shut : Bool) → list_any is_shut state.marks ≡ shut → shut ≡ true → has_room state ≡ false
+shut-full state true is e = subst (λ (b : Bool). may_open b (waiting_in (tickets_of state.marks)) (free_at (limits_of state.core.options).max_connections state.core.places state.marks) (size_at state.core.places state.marks) state.core.options.min_connections (limits_of state.core.options).max_connections (next_conn state.marks) ≡ false) (sym is) refl
+shut-full state false is e = never e
+
+-- so a connection comes back only where none may be opened, or no place is held
+pub back-filled : {C O : Type 0} (state : PoolState C O) (raw : C) (back : Option C) → back ≡ back_if (holds_place state.core) (list_any is_shut state.marks) (Some raw) → is_some back ≡ true → IsFilled state
+back-filled state raw back is some = by (back-why (holds_place state.core) (list_any is_shut state.marks) raw (sym (ap is_some is) ∙ some))
+  where
+    by : (list_any is_shut state.marks ≡ true) ⊎ (holds_place state.core ≡ false) → IsFilled state
+    by (inl shut) = inl (shut-full state (list_any is_shut state.marks) refl shut)
+    by (inr none) = inr none
+
+-- a copy of the log of a state is one of its bare state
+pub log-copied : {C O : Type 0} (state : PoolState C O) (r : Result MarkLog OutOfMemory)
+    → IfOk r (λ log. log.start.items ≡ start_of state) → IfOk r (λ log. log.lent_before ≡ state.start.lent_before) → IfOk r (λ log. log.marks.items ≡ since_start state)
+    → IfOk r (λ log. IsCopyOf (bare state) log)
+log-copied state (Ok log) start before marks = record { start = start; before = before; marks = marks }
+log-copied state (Err e) start before marks = tt
+
+-- a share of what is lent past the line doesn't change whether it is lent
+pub some-alone : {C S : Type 0} (lent : Option (Lent C × S)) → is_some (option_map lent_conn (lent_alone lent)) ≡ is_some lent
+some-alone None = refl
+some-alone (Some (lent, share)) = refl
+
+module _ {C O T : Type 0} (levels : C → ℕ) (max : ℕ) (cuts : Bool) (state : PoolState C O) (stands : IsStanding levels max cuts state) where
+  -- why an ask is refused was seen
+  pub ask-refused : (r : Result T Error) → ((r ≡ Err error.PoolClosed) ↔ (is_open state.marks ≡ false)) → ((r ≡ Err error.Exhausted) ↔ ((is_open state.marks ≡ true) × (2 ^ 63 < next_ticket state.marks)))
+      → IfErr r (λ e. (e ≡ error.PoolClosed) ⊎ ((e ≡ error.Exhausted) ⊎ (e ≡ error.OutOfMemory))) → IfErr r (IsAskRefusal (Saw levels max cuts))
+  ask-refused (Ok x) closed used why = tt
+  ask-refused (Err e) closed used (inl is) = inl (is, saw-here levels max cuts state stands _ (closed.0 (ap Err is)))
+  ask-refused (Err e) closed used (inr (inl is)) = inr (inl (is, saw-here levels max cuts state stands _ (used.0 (ap Err is)).1))
+  ask-refused (Err e) closed used (inr (inr is)) = inr (inr is)
+
+  -- why a loan past the line is refused was seen
+  pub try-refused : {P : Type 0} (r : Result T Error) → ((r ≡ Err error.Exhausted) ↔ (P × (2 ^ 62 ≤ state.booked.made)))
+      → IfErr r (λ e. (e ≡ error.Exhausted) ⊎ (e ≡ error.OutOfMemory)) → IfErr r (IsTryRefusal (Saw levels max cuts))
+  try-refused (Ok x) used why = tt
+  try-refused (Err e) used (inl is) = inl (is, saw-here levels max cuts state stands _ (used.0 (ap Err is)).1)
+  try-refused (Err e) used (inr is) = inr is

@@ -9,10 +9,6 @@ use Rattle.sqlx_traits.specs.Faults.{BeginCause}
 use Rattle.sqlx_tx.specs.Begun.{levels_after}
 use Rattle.sqlx_pool.specs.declared.begins.BeginRefusedOf.{BeginRefusedOf}
 
--- why `try_acquire` may be refused
-abbrev pub IsLendRefusal : Error → Type 0
-IsLendRefusal e = (e ≡ error.Exhausted) ⊎ (e ≡ error.OutOfMemory)
-
 -- a connection was lent
 abbrev pub has_lent : {P : Type 0} → Result (Option P) (BeginRefusedOf P) → Bool
 has_lent (Ok begun) = is_some begun

@@ -15,3 +15,4 @@ pub mod Opened
 pub mod MarkLog
 pub mod Handle
 pub mod Seen
+pub mod Upkeep

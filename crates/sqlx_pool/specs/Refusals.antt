@@ -1,8 +1,10 @@
 -- Why a client that asked gets no connection.
-use Rattle.std.specs.Prelude.{◌≡◌, ◌⊎◌, ℕ}
+use Rattle.std.specs.Prelude.{◌≡◌, ◌⊎◌, ◌^◌, ◌<◌, ◌≤◌, ℕ, ⊤, false}
 use Rattle.sqlx_text.specs.declared.error.Error.{Error}
 use Rattle.sqlx_text.specs.declared.error.Error.TheVariants as error
+use Rattle.sqlx_log.specs.Marks.{is_open, next_ticket}
 use Rattle.sqlx_pool_core.specs.PollParts.{IsForGood}
+use Rattle.sqlx_pool.specs.State.{PoolState}
 
 -- a ticket ends by the pool's rules: the pool is closed, its time is over, or the numbers are used up; or there is no such ticket
 abbrev pub IsEnd : Error → Type 0
@@ -11,3 +13,25 @@ IsEnd e = (e ≡ error.PoolClosed) ⊎ (e ≡ error.PoolTimedOut) ⊎ (e ≡ err
 -- a poll ends it so, or as its connect was refused for good, or for want of memory
 abbrev pub IsPollRefusal : ℕ → ℕ → Error → Type 0
 IsPollRefusal faults faults_now e = IsEnd e ⊎ IsForGood faults faults_now e
+
+module _ {C O : Type 0} where
+  -- the pool is closed
+  abbrev pub IsClosed : PoolState C O → Type 0
+  IsClosed state = is_open state.marks ≡ false
+
+  -- the numbers of tickets are used up
+  abbrev pub AreTicketsUsed : PoolState C O → Type 0
+  AreTicketsUsed state = 2 ^ 63 < next_ticket state.marks
+
+  -- as many loans were made as are made past the line
+  abbrev pub AreLoansUsed : PoolState C O → Type 0
+  AreLoansUsed state = 2 ^ 62 ≤ state.booked.made
+
+module _ {C : Type 0} (saw : (PoolState C (⊤) → Type 0) → Type 0) where
+  -- why an ask is refused: the pool was seen closed, its tickets' numbers were seen used up, or want of memory
+  abbrev pub IsAskRefusal : Error → Type 0
+  IsAskRefusal e = ((e ≡ error.PoolClosed) × saw IsClosed) ⊎ ((e ≡ error.Exhausted) × saw AreTicketsUsed) ⊎ (e ≡ error.OutOfMemory)
+
+  -- why a loan past the line is refused: so many loans were seen made, or want of memory
+  abbrev pub IsTryRefusal : Error → Type 0
+  IsTryRefusal e = ((e ≡ error.Exhausted) × saw AreLoansUsed) ⊎ (e ≡ error.OutOfMemory)

@@ -3,11 +3,13 @@
 
 ghost use Rattle.std.specs.Prelude.{◌≡◌, ◌==◌, ◌⊎◌, ℕ, ◌≤◌, ◌&&◌, false, not, length, IfErr, IfOk, OnErr};
 ghost use Rattle.sqlx_text.specs.declared.error.Error.{Error};
+ghost use Rattle.sqlx_pool_core.specs.Chain.{Tests, Tries};
 ghost use Rattle.sqlx_pool_core.specs.Outside.{HasRisen};
 ghost use Rattle.sqlx_pool_core.specs.PollParts.{IfAccepted, IfOpened, IfFailed, IsForGood};
-ghost use Rattle.sqlx_pool_core.specs.Giving.{is_pass};
+ghost use Rattle.sqlx_pool_core.specs.Giving.{Returns, is_pass};
 ghost use Rattle.sqlx_pool_core.specs.PollSteps.{judged};
-ghost use Rattle.sqlx_pool.specs.Checks.{IfPassed};
+ghost use Rattle.sqlx_pool.specs.Checks.{Closes, Hooks, IfPassed, ReturnsFlat, TestsFlat, TriesFlat, flat_check};
+ghost use Rattle.sqlx_pool.specs.Opened.{IfUnopened, IsCounted, TellsLevels};
 
 use sqlx_pool_core::idle_check::{self, Check, Opening};
 use sqlx_pool_core::{Idle, Lent, Outside, PoolConnectionMetadata, PoolOptions, Verdict};
@@ -24,7 +26,8 @@ pub fn tests_nothing(options: &PoolOptions) -> bool
 
 // What a check comes to where the connection's own depth is read behind it: with a level open none passes.
 fn flat<C: Depth>(check: Check, raw: &C) -> Check
-    ensures { IfPassed result (C.levels raw.now ≡ 0) }
+    ensures passed { IfPassed result (C.levels raw.now ≡ 0) }
+    ensures is { result ≡ flat_check (C.levels raw.now == 0) check }
 {
     match check {
         Check::Pass => {
@@ -52,6 +55,7 @@ pub fn passes(check: Check) -> bool
 
 // Closes a connection as a check says.
 pub fn close_by<C, O, X: Outside<C, O>>(check: Check, raw: C, out: &mut X)
+    ensures closes { Closes X.does check raw out.old out.new }
     ensures counts { (X.faults out.old ≤ X.faults out.new) × (X.refusals out.old ≤ X.refusals out.new) }
 {
     match check {
@@ -95,6 +99,7 @@ fn tested<C, O, X: Outside<C, O>>(
     moment: Moment,
     out: &mut X,
 ) -> Verdict<C>
+    ensures tests { Tests X.does X.depth options.now moment.0 idle result out.old out.new }
     ensures judged { judged result ≡ idle.lent.id }
     ensures counts { (X.faults out.old ≤ X.faults out.new) × (X.refusals out.old ≤ X.refusals out.new) }
 {
@@ -109,6 +114,7 @@ pub fn judge<C: Depth, O, X: Outside<C, O>>(
     out: &mut X,
 ) -> Verdict<C>
     ensures judged { judged result ≡ idle.lent.id }
+    ensures tests { TestsFlat X.does X.depth C.levels options.now moment.0 idle result out.old out.new }
     ensures flat { IfAccepted result (λ raw. C.levels raw ≡ 0) }
     ensures counts { (X.faults out.old ≤ X.faults out.new) × (X.refusals out.old ≤ X.refusals out.new) }
 {
@@ -129,6 +135,7 @@ pub fn judge<C: Depth, O, X: Outside<C, O>>(
 // Runs the hook after a connect, where it is set, on a new connection.
 pub fn hooked<C, O, X: Outside<C, O>>(hook: bool, raw: &mut C, out: &mut X) -> Result<(), Error>
     ensures counts { (X.faults out.old ≤ X.faults out.new) × (X.refusals out.old ≤ X.refusals out.new) }
+    ensures asked { Hooks X.does hook raw.old raw.new result out.old out.new }
     ensures refused { OnErr result (HasRisen (X.refusals out.old) (X.refusals out.new)) }
     ensures left { X.depth out.old raw.old ≡ 0 → (X.depth out.new raw.new == 0) ≡ false → HasRisen (X.refusals out.old) (X.refusals out.new) }
 {
@@ -157,6 +164,9 @@ pub fn connected<C, O, X: Outside<C, O>>(
 
 // Tries to open a connection, and closes one that its hook refuses.
 fn tried<C, O, X: Outside<C, O>>(alloc: Global, hook: bool, connect: &O, out: &mut X) -> Opening<C>
+    ensures tries { Tries X.does X.depth hook connect.now result out.old out.new }
+    ensures unopened { IfUnopened result (IsCounted X.faults X.refusals out.old out.new) }
+    ensures rests { IfOpened result (λ raw. X.depth out.new raw ≡ 0) }
     ensures cause { IfFailed result (λ e. IsForGood (X.faults out.old) (X.faults out.new) e) }
     ensures counts { (X.faults out.old ≤ X.faults out.new) × (X.refusals out.old ≤ X.refusals out.new) }
 {
@@ -171,6 +181,8 @@ pub fn try_open<C: Depth, O, X: Outside<C, O>>(
     out: &mut X,
 ) -> Opening<C>
     ensures flat { IfOpened result (λ raw. C.levels raw ≡ 0) }
+    ensures tries { TriesFlat X.does X.depth C.levels options.now.after_connect connect.now result out.old out.new }
+    ensures unopened { TellsLevels X.depth C.levels → IfUnopened result (IsCounted X.faults X.refusals out.old out.new) }
     ensures cause { IfFailed result (λ e. IsForGood (X.faults out.old) (X.faults out.new) e) }
     ensures counts { (X.faults out.old ≤ X.faults out.new) × (X.refusals out.old ≤ X.refusals out.new) }
 {
@@ -194,6 +206,7 @@ fn returned<C, O, X: Outside<C, O>>(
     meta: PoolConnectionMetadata,
     out: &mut X,
 ) -> Check
+    ensures returns { Returns X.does X.depth hook meta raw.old raw.new result out.old out.new }
     ensures counts { (X.faults out.old ≤ X.faults out.new) × (X.refusals out.old ≤ X.refusals out.new) }
 {
     idle_check::returns::<C, O, X>(hook, raw, meta, out)
@@ -207,6 +220,7 @@ pub fn may_rest<C: Depth, O, X: Outside<C, O>>(
     out: &mut X,
 ) -> Check
     ensures flat { IfPassed result (C.levels raw.new ≡ 0) }
+    ensures returns { ReturnsFlat X.does X.depth C.levels options.now.after_release meta raw.old raw.new result out.old out.new }
     ensures counts { (X.faults out.old ≤ X.faults out.new) × (X.refusals out.old ≤ X.refusals out.new) }
 {
     let check = returned::<C, O, X>(options.get_after_release(), raw, meta, out);

@@ -1,7 +1,7 @@
 //! The pool that threads share: a handle on one locked value. Each call takes the lock for one step at a time.
 
-ghost use Rattle.std.specs.Prelude.{◌≡◌, ℕ, ◌+◌, ◌^◌, ◌<◌, ◌≤◌, ◌⊎◌, List, [], ◌++◌, true, false, is_some, length, not, IfOk, IfErr, IfSome, OnErr};
-ghost use Rattle.sqlx_text.specs.declared.error.Error.{Error};
+ghost use Rattle.std.specs.Prelude.{◌≡◌, ℕ, ◌+◌, ◌^◌, ◌<◌, ◌≤◌, List, [], ◌++◌, true, false, is_some, length, not, IfOk, IfErr, IfSome, OnErr};
+ghost use Rattle.sqlx_log.specs.Answers.{lent_past_at};
 ghost use Rattle.sqlx_log.specs.EventTable.{size_at};
 ghost use Rattle.sqlx_log.specs.FairLog.{IsFair};
 ghost use Rattle.sqlx_log.specs.Marks.{is_open, idle_of};
@@ -9,7 +9,8 @@ ghost use Rattle.sqlx_pool_core.specs.Balance.{lents};
 ghost use Rattle.sqlx_pool_core.specs.MaintenanceSteps.{close_state_of};
 ghost use Rattle.sqlx_pool.specs.Booked.{CountsIf};
 ghost use Rattle.sqlx_pool.specs.Opened.{IsOpenable};
-ghost use Rattle.sqlx_pool.specs.MarkLog.{IsUncut};
+ghost use Rattle.sqlx_pool.specs.MarkLog.{IsCopyOf, IsUncut};
+ghost use Rattle.sqlx_pool.specs.Refusals.{IsAskRefusal, IsTryRefusal};
 ghost use Rattle.sqlx_pool.specs.Seen.{Saw};
 ghost use Rattle.sqlx_pool.specs.State.{since_start};
 
@@ -120,12 +121,12 @@ impl<C: Depth + Drop, O: Drop, H: Ledger, L: Loans> PoolOf<C, O, H, L> {
         now: Moment,
         client: u32,
     ) -> Result<AcquiringOf<C, O, H, L>, Error>
-        ensures { IfErr result (λ e. (e ≡ Error.PoolClosed) ⊎ ((e ≡ Error.Exhausted) ⊎ (e ≡ Error.OutOfMemory))) }
+        ensures { IfErr result (IsAskRefusal (Saw C.levels L.max L.cuts)) }
     {
         let Ok(pool) = self.try_clone() else {
             return Err(Error::OutOfMemory);
         };
-        let asked = self.lock_and_cut(rt).ask(alloc, now, client);
+        let asked = self.lock_and_cut(rt).seen_ask(alloc, now, client);
         match asked {
             Ok(ticket) => Ok(AcquiringOf::new(pool, client, ticket)),
             Err(error) => {
@@ -146,15 +147,16 @@ impl<C: Depth + Drop, O: Drop, H: Ledger, L: Loans> PoolOf<C, O, H, L> {
         tally: &mut Tally<L>,
     ) -> Result<Option<PoolConnectionOf<C, O, H, L>>, Error>
         requires { 0 < tally.old.parts }
+        ensures saw { IfOk result (λ lent. Saw C.levels L.max L.cuts (λ state. is_some lent ≡ is_some (lent_past_at L.max state.core.places state.marks))) }
         ensures tally { IfOk result (λ lent. CountsIf (is_some lent) tally.old tally.new) }
         ensures flat { IfOk result (λ lent. IfSome lent (λ conn. C.levels conn.raw ≡ 0)) }
-        ensures causes { IfErr result (λ e. (e ≡ Error.Exhausted) ⊎ (e ≡ Error.OutOfMemory)) }
+        ensures refused { IfErr result (IsTryRefusal (Saw C.levels L.max L.cuts)) }
         ensures err { OnErr result (tally.new ≡ tally.old) }
     {
         let Ok(pool) = self.try_clone() else {
             return Err(Error::OutOfMemory);
         };
-        let tried = self.lock_and_cut(rt).try_acquire(alloc, now, client, tally);
+        let tried = self.lock_and_cut(rt).seen_try(alloc, now, client, tally);
         match tried {
             Ok(Some((lent, held))) => Ok(Some(PoolConnectionOf::new(pool, client, lent, held))),
             Ok(None) => {
@@ -263,12 +265,11 @@ impl<C: Depth + Drop, O: Drop, H: Ledger, L: Loans> PoolOf<C, O, H, L> {
     /// A copy of the log: fair behind its start, for a pool of this maximum. The start is empty where the log may not be
     /// cut.
     pub fn read_log<R: Wait>(&self, rt: &R, alloc: Global) -> Result<MarkLog, OutOfMemory>
+        ensures saw { IfOk result (λ log. Saw C.levels L.max L.cuts (λ state. IsCopyOf state log)) }
         ensures start { IfOk result (λ log. L.cuts ≡ false → IsUncut log) }
         ensures fair { IfOk result (λ log. IsFair L.max log.start.items log.marks.items) }
     {
-        let guard = self.shared.locked.lock(rt);
-        guard.facts();
-        guard.read_log(alloc)
+        self.shared.locked.lock(rt).seen_log(alloc)
     }
 
     /// As `read_log`, by the tally with every part: the log has as many `Lent` marks as that has counted loans, however

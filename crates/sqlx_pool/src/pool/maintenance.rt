@@ -1,8 +1,12 @@
 //! What keeps a pool in shape, and closing it: one locked step a connection, with the connects and closes between.
 
-ghost use Rattle.std.specs.Prelude.{◌≡◌, ℕ, ◌≤◌, true, false};
+ghost use Rattle.std.specs.Prelude.{◌≡◌, ◌⊎◌, ℕ, ◌≤◌, true, false, None, length};
+ghost use Rattle.sqlx_log.specs.EventTable.{closed_at};
 ghost use Rattle.sqlx_pool_core.specs.Giving.{is_pass};
 ghost use Rattle.sqlx_pool.specs.Checks.{IfPassed};
+ghost use Rattle.sqlx_pool.specs.Opened.{IsCounted, TellsLevels};
+ghost use Rattle.sqlx_pool.specs.Seen.{Saw};
+ghost use Rattle.sqlx_pool.specs.Upkeep.{EndsKeeping, IfUnfilled, IsFilled, to_reap};
 
 use super::PoolOf;
 use crate::filled::Filled;
@@ -82,10 +86,11 @@ impl<C: Depth + Drop, O: Drop, H: Ledger, L: Loans> PoolOf<C, O, H, L> {
     /// Closes the pool: from now on it serves no ticket and keeps no connection. The idle connections are closed; their
     /// number comes back. A second close gives 0.
     pub fn close<R: Wait, X: Outside<C, O>>(&self, rt: &R, out: &mut X) -> usize
+        ensures saw { Saw C.levels L.max L.cuts (λ state. result ≡ length (closed_at state.marks)) }
         ensures counts { (X.faults out.old ≤ X.faults out.new) × (X.refusals out.old ≤ X.refusals out.new) }
     {
         let mut guard = self.shared.locked.lock(rt);
-        let idle = guard.close();
+        let idle = guard.seen_close();
         self.shared.closed.store(true, Ordering::SeqCst);
         drop(guard);
         self.notify();
@@ -102,6 +107,8 @@ impl<C: Depth + Drop, O: Drop, H: Ledger, L: Loans> PoolOf<C, O, H, L> {
         out: &mut X,
     ) -> (u32, Openings)
         ensures most { (result.0 ≤ self.now.shared.value.options.max_connections) × (result.1.opened ≤ self.now.shared.value.options.max_connections) }
+        ensures reaped { (result.0 ≡ self.now.shared.value.options.max_connections) ⊎ Saw C.levels L.max L.cuts (λ state. to_reap now state ≡ None) }
+        ensures ends { TellsLevels X.depth C.levels → EndsKeeping self.now.shared.value.options (Saw C.levels L.max L.cuts IsFilled) (IsCounted X.faults X.refusals out.old out.new) result.1 }
         ensures counts { (X.faults out.old ≤ X.faults out.new) × (X.refusals out.old ≤ X.refusals out.new) }
     {
         let reaped = self.reap_all::<R, X>(rt, now, out);
@@ -111,11 +118,12 @@ impl<C: Depth + Drop, O: Drop, H: Ledger, L: Loans> PoolOf<C, O, H, L> {
     // Closes what is to be reaped.
     fn reap_all<R: Wait, X: Outside<C, O>>(&self, rt: &R, now: Moment, out: &mut X) -> u32
         ensures most { result ≤ self.now.shared.value.options.max_connections }
+        ensures ends { (result ≡ self.now.shared.value.options.max_connections) ⊎ Saw C.levels L.max L.cuts (λ state. to_reap now state ≡ None) }
         ensures counts { (X.faults out.old ≤ X.faults out.new) × (X.refusals out.old ≤ X.refusals out.new) }
     {
         let max = self.shared.options.get_max_connections();
         for reaped in 0..max {
-            let idle = self.shared.locked.lock(rt).reap(now);
+            let idle = self.shared.locked.lock(rt).seen_reap(now);
             match idle {
                 Some(idle) => checks::close_by::<C, O, X>(Check::Close, idle.lent.raw, out),
                 None => return reaped,
@@ -157,6 +165,7 @@ impl<C: Depth + Drop, O: Drop, H: Ledger, L: Loans> PoolOf<C, O, H, L> {
         out: &mut X,
     ) -> Openings
         ensures most { result.opened ≤ self.now.shared.value.options.max_connections }
+        ensures ends { TellsLevels X.depth C.levels → EndsKeeping self.now.shared.value.options (Saw C.levels L.max L.cuts IsFilled) (IsCounted X.faults X.refusals out.old out.new) result }
         ensures counts { (X.faults out.old ≤ X.faults out.new) × (X.refusals out.old ≤ X.refusals out.new) }
     {
         let max = self.shared.options.get_max_connections();
@@ -191,9 +200,10 @@ impl<C: Depth + Drop, O: Drop, H: Ledger, L: Loans> PoolOf<C, O, H, L> {
         now: Moment,
         out: &mut X,
     ) -> Filled
+        ensures unfilled { TellsLevels X.depth C.levels → IfUnfilled result (Saw C.levels L.max L.cuts IsFilled) (IsCounted X.faults X.refusals out.old out.new) }
         ensures counts { (X.faults out.old ≤ X.faults out.new) × (X.refusals out.old ≤ X.refusals out.new) }
     {
-        let place = self.lock_and_cut(rt).minimum_place(alloc);
+        let place = self.lock_and_cut(rt).seen_place(alloc);
         match place {
             Ok(true) => self.fill_place::<R, X>(rt, alloc, now, out),
             Ok(false) => Filled::Full,
@@ -209,6 +219,7 @@ impl<C: Depth + Drop, O: Drop, H: Ledger, L: Loans> PoolOf<C, O, H, L> {
         now: Moment,
         out: &mut X,
     ) -> Filled
+        ensures unfilled { TellsLevels X.depth C.levels → IfUnfilled result (Saw C.levels L.max L.cuts IsFilled) (IsCounted X.faults X.refusals out.old out.new) }
         ensures counts { (X.faults out.old ≤ X.faults out.new) × (X.refusals out.old ≤ X.refusals out.new) }
     {
         match self.open::<R, X>(rt, alloc, out) {
@@ -238,9 +249,10 @@ impl<C: Depth + Drop, O: Drop, H: Ledger, L: Loans> PoolOf<C, O, H, L> {
         out: &mut X,
     ) -> Filled
         requires { C.levels raw ≡ 0 }
+        ensures unfilled { IfUnfilled result (Saw C.levels L.max L.cuts IsFilled) (IsCounted X.faults X.refusals out.old out.new) }
         ensures counts { (X.faults out.old ≤ X.faults out.new) × (X.refusals out.old ≤ X.refusals out.new) }
     {
-        let back = self.shared.locked.lock(rt).minimum_done(now, Some(raw));
+        let back = self.shared.locked.lock(rt).seen_done(now, raw);
         self.notify();
         match back {
             None => Filled::Opened,

@@ -1,10 +1,10 @@
 use Rattle.sqlx_pool.proofs.checks.close_by.Goals as goal
 
-pub returns-in-CloseHard : goal.returns-in-CloseHard
-returns-in-CloseHard g c = let f = g.met.X.Outside.facts _ _ _ c.close_hard.ensures in record { counts = (f.more_faults, f.more_refusals) }
+pub returns-in-CloseHard-clause-counts : goal.returns-in-CloseHard-clause-counts
+returns-in-CloseHard-clause-counts g c = let f = g.met.X.Outside.facts _ _ _ c.close_hard.ensures in (f.more_faults, f.more_refusals)
 
-pub returns-in-Pass : goal.returns-in-Pass
-returns-in-Pass g c = let f = g.met.X.Outside.facts _ _ _ c.close.ensures in record { counts = (f.more_faults, f.more_refusals) }
+pub returns-in-Pass-clause-counts : goal.returns-in-Pass-clause-counts
+returns-in-Pass-clause-counts g c = let f = g.met.X.Outside.facts _ _ _ c.close.ensures in (f.more_faults, f.more_refusals)
 
-pub returns-in-Close : goal.returns-in-Close
-returns-in-Close g c = let f = g.met.X.Outside.facts _ _ _ c.close-in-Close.ensures in record { counts = (f.more_faults, f.more_refusals) }
+pub returns-in-Close-clause-counts : goal.returns-in-Close-clause-counts
+returns-in-Close-clause-counts g c = let f = g.met.X.Outside.facts _ _ _ c.close-in-Close.ensures in (f.more_faults, f.more_refusals)
