@@ -1,6 +1,6 @@
 -- What a call saw under the lock of a family of pools, which it let go again.
 use Rattle.std.specs.Prelude.{ℕ, ⊤}
-use Rattle.sqlx_family_pool.specs.FamilyState.{FamilyState, IsStanding, family_state}
+use Rattle.sqlx_family_pool.specs.FamilyState.{FamilyState, IsNamed, IsStanding, family_state}
 
 -- a state without its connect options
 abbrev pub bare_family : {C O : Type 0} → FamilyState C O → FamilyState C (⊤)
@@ -9,3 +9,7 @@ bare_family state = family_state state.family state.logs tt state.booked
 -- of a state that stood under the lock of a family this held
 abbrev pub SawFamily : {C : Type 0} → (C → ℕ) → ℕ → (FamilyState C (⊤) → Type 0) → Type 0
 SawFamily {C = C} levels max holds = (state : FamilyState C (⊤)) × IsStanding levels max state × holds state
+
+-- so of a pool that has a name there
+abbrev pub SawIn : {C : Type 0} → (C → ℕ) → ℕ → ℕ → (FamilyState C (⊤) → Type 0) → Type 0
+SawIn levels max pool holds = SawFamily levels max (λ state. IsNamed pool state → holds state)

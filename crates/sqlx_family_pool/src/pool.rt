@@ -9,8 +9,12 @@ ghost use Rattle.sqlx_family.specs.Permits.{owned_by};
 ghost use Rattle.sqlx_pool.specs.Booked.{CountsIf};
 ghost use Rattle.sqlx_pool.specs.MarkLog.{IsUncut};
 ghost use Rattle.sqlx_pool.specs.Opened.{IsOpenable};
+ghost use Rattle.sqlx_family_pool.specs.FamilySteps.{try_lent_in};
+ghost use Rattle.sqlx_pool.specs.Refusals.{IsAskRefusal, IsTryRefusal};
+ghost use Rattle.sqlx_family_pool.specs.FamilyState.{log_of};
 ghost use Rattle.sqlx_family_pool.specs.Handles.{IsChildOf};
-ghost use Rattle.sqlx_family_pool.specs.Seen.{SawFamily};
+ghost use Rattle.sqlx_family_pool.specs.Seen.{SawFamily, SawIn};
+ghost use Rattle.sqlx_family_pool.specs.Upkeep.{AreLoansUsed, AreTicketsUsed, IsClosedIn};
 
 mod maintenance;
 mod polls;
@@ -145,7 +149,7 @@ impl<C: Depth + Drop, O: Drop, H: Ledger, L: Loans> FamilyPoolOf<C, O, H, L> {
         now: Moment,
         client: u32,
     ) -> Result<FamilyAcquiringOf<C, O, H, L>, Error>
-        ensures { IfErr result (λ e. (e ≡ Error.PoolClosed) ⊎ ((e ≡ Error.Exhausted) ⊎ (e ≡ Error.OutOfMemory))) }
+        ensures { IfErr result (IsAskRefusal (SawFamily C.levels L.max (IsClosedIn self.now.name)) (SawFamily C.levels L.max AreTicketsUsed)) }
     {
         let Ok(pool) = self.try_clone() else {
             return Err(Error::OutOfMemory);
@@ -154,7 +158,7 @@ impl<C: Depth + Drop, O: Drop, H: Ledger, L: Loans> FamilyPoolOf<C, O, H, L> {
             .shared
             .locked
             .lock(rt)
-            .ask(self.name, alloc, now, client);
+            .seen_ask(self.name, alloc, now, client);
         match asked {
             Ok(ticket) => Ok(FamilyAcquiringOf::new(pool, client, ticket)),
             Err(error) => {
@@ -176,9 +180,10 @@ impl<C: Depth + Drop, O: Drop, H: Ledger, L: Loans> FamilyPoolOf<C, O, H, L> {
         tally: &mut Tally<L>,
     ) -> Result<Option<FamilyConnectionOf<C, O, H, L>>, Error>
         requires { 0 < tally.old.parts }
+        ensures saw { let name = self.now.name in IfOk result (λ lent. SawIn C.levels L.max name (λ state. is_some lent ≡ is_some (try_lent_in name state.family))) }
         ensures tally { IfOk result (λ lent. CountsIf (is_some lent) tally.old tally.new) }
         ensures flat { IfOk result (λ lent. IfSome lent (λ conn. C.levels conn.raw ≡ 0)) }
-        ensures causes { IfErr result (λ e. (e ≡ Error.Exhausted) ⊎ (e ≡ Error.OutOfMemory)) }
+        ensures refused { IfErr result (IsTryRefusal (SawFamily C.levels L.max AreLoansUsed)) }
         ensures err { OnErr result (tally.new ≡ tally.old) }
     {
         let Ok(pool) = self.try_clone() else {
@@ -188,7 +193,7 @@ impl<C: Depth + Drop, O: Drop, H: Ledger, L: Loans> FamilyPoolOf<C, O, H, L> {
             .shared
             .locked
             .lock(rt)
-            .try_acquire(self.name, alloc, now, client, tally);
+            .seen_try(self.name, alloc, now, client, tally);
         match tried {
             Ok(Some((lent, held))) => Ok(Some(FamilyConnectionOf::new(pool, client, lent, held))),
             Ok(None) => {
@@ -249,9 +254,10 @@ impl<C: Depth + Drop, O: Drop, H: Ledger, L: Loans> FamilyPoolOf<C, O, H, L> {
 
     /// The pool's maximum, and a copy of its log, which is safe for that maximum.
     pub fn read_log<R: Wait>(&self, rt: &R, alloc: Global) -> Result<(u32, MarkLog), OutOfMemory>
+        ensures saw { IfOk result (λ read. SawIn C.levels L.max self.now.name (λ state. read.1.marks.items ≡ log_of state self.now.name)) }
         ensures uncut { IfOk result (λ read. IsUncut read.1) }
         ensures safe { IfOk result (λ read. IsSafe read.0 [] read.1.marks.items) }
     {
-        self.shared.locked.lock(rt).read_log(self.name, alloc)
+        self.shared.locked.lock(rt).seen_log(self.name, alloc)
     }
 }

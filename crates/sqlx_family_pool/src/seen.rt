@@ -1,19 +1,28 @@
 //! What a handle asks of the value under the lock, said without that value: the handle lets it go again.
 
-ghost use Rattle.std.specs.Prelude.{◌≡◌, ℕ, ◌-◌, ◌^◌, ◌≤◌, ◌⊎◌, Err, IfOk, IfErr, length};
+ghost use Rattle.std.specs.Prelude.{◌≡◌, ℕ, ◌-◌, ◌^◌, ◌<◌, ◌≤◌, ◌⊎◌, [], Err, true, is_some, IfSome, IfOk, IfErr, OnErr, length};
 ghost use Rattle.sqlx_text.specs.declared.error.Error.{Error};
+ghost use Rattle.sqlx_log.specs.FairLog.{IsSafe};
 ghost use Rattle.sqlx_pool_core.specs.Core.{size};
 ghost use Rattle.sqlx_pool_core.specs.PollSteps.{phase_for, may_cancel};
 ghost use Rattle.sqlx_family.specs.Pools.{entry_of, pool_in, counts_as_closed, new_pool};
 ghost use Rattle.sqlx_family.specs.Permits.{owned_by};
+ghost use Rattle.sqlx_family_pool.specs.FamilySteps.{try_lent_in};
+ghost use Rattle.sqlx_pool.specs.Answers.{lent_alone};
+ghost use Rattle.sqlx_pool.specs.Booked.{CountsIf};
+ghost use Rattle.sqlx_pool.specs.MarkLog.{IsUncut};
+ghost use Rattle.sqlx_pool.specs.Refusals.{IsAskRefusal, IsTryRefusal};
+ghost use Rattle.sqlx_family_pool.specs.FamilyState.{log_of};
 ghost use Rattle.sqlx_family_pool.specs.Handles.{IsChildOf};
-ghost use Rattle.sqlx_family_pool.specs.Seen.{SawFamily};
+ghost use Rattle.sqlx_family_pool.specs.Seen.{SawFamily, SawIn};
+ghost use Rattle.sqlx_family_pool.specs.Upkeep.{AreLoansUsed, AreTicketsUsed, has_room_in, IsClosedIn, IsFilledIn, to_close_in, to_reap_in};
 
 use crate::LockedFamily;
-use sqlx_pool::Loans;
-use sqlx_pool_core::PoolOptions;
-use sqlx_text::{Depth, Error};
+use sqlx_pool::{Held, Loans, MarkLog, Tally};
+use sqlx_pool_core::{Idle, Lent, PoolOptions};
+use sqlx_text::{Depth, Error, Moment, OutOfMemory};
 use std::alloc::Global;
+use std::collections::VecDeque;
 use std::sync::ledger::Ledger;
 
 impl<C: Depth, O, H: Ledger, L: Loans> LockedFamily<C, O, H, L> {
@@ -49,6 +58,91 @@ impl<C: Depth, O, H: Ledger, L: Loans> LockedFamily<C, O, H, L> {
     {
         self.facts();
         self.is_closed(pool)
+    }
+
+    // Asks for a connection of a pool.
+    pub(crate) fn seen_ask(
+        &mut self,
+        pool: u32,
+        alloc: Global,
+        now: Moment,
+        client: u32,
+    ) -> Result<u64, Error>
+        ensures { IfErr result (IsAskRefusal (SawFamily C.levels L.max (IsClosedIn pool)) (SawFamily C.levels L.max AreTicketsUsed)) }
+    {
+        self.facts();
+        self.ask(pool, alloc, now, client)
+    }
+
+    // Lends a connection of a pool past the line.
+    pub(crate) fn seen_try(
+        &mut self,
+        pool: u32,
+        alloc: Global,
+        now: Moment,
+        client: u32,
+        tally: &mut Tally<L>,
+    ) -> Result<Option<(Lent<C>, Held<H>)>, Error>
+        requires { 0 < tally.old.parts }
+        ensures saw { IfOk result (λ lent. SawIn C.levels L.max pool (λ state. is_some lent ≡ is_some (try_lent_in pool state.family))) }
+        ensures tally { IfOk result (λ lent. CountsIf (is_some lent) tally.old tally.new) }
+        ensures flat { IfOk result (λ lent. IfSome (lent_alone lent) (λ l. C.levels l.raw ≡ 0)) }
+        ensures refused { IfErr result (IsTryRefusal (SawFamily C.levels L.max AreLoansUsed)) }
+        ensures err { OnErr result (tally.new ≡ tally.old) }
+    {
+        self.facts();
+        self.try_acquire(pool, alloc, now, client, tally)
+    }
+
+    // Takes what is to be reaped first of a pool.
+    pub(crate) fn seen_reap(&mut self, pool: u32, now: Moment) -> Option<Idle<C>>
+        ensures { SawIn C.levels L.max pool (λ state. result ≡ to_reap_in pool now state) }
+    {
+        self.facts();
+        self.reap(pool, now)
+    }
+
+    // Holds a place for a connection of a pool's minimum, where there is one.
+    pub(crate) fn seen_place(&mut self, pool: u32, alloc: Global) -> Result<bool, OutOfMemory>
+        ensures { IfOk result (λ place. SawIn C.levels L.max pool (λ state. place ≡ has_room_in pool state)) }
+    {
+        self.facts();
+        self.minimum_place(pool, alloc)
+    }
+
+    // Tells of a connection that was opened for a place of a pool. It comes back where the pool keeps none.
+    pub(crate) fn seen_done(&mut self, pool: u32, now: Moment, raw: C) -> Option<C>
+        requires { C.levels raw ≡ 0 }
+        ensures { is_some result ≡ true → SawIn C.levels L.max pool (IsFilledIn pool) }
+    {
+        self.facts();
+        self.minimum_done(pool, now, Some(raw))
+    }
+
+    // Closes a pool.
+    pub(crate) fn seen_close(&mut self, pool: u32, alloc: Global) -> VecDeque<Idle<C>>
+        ensures { SawIn C.levels L.max pool (λ state. result.items ≡ to_close_in pool state) }
+    {
+        self.facts();
+        self.close(pool, alloc)
+    }
+
+    // Retires a child.
+    pub(crate) fn seen_retire(&mut self, pool: u32, alloc: Global) -> VecDeque<Idle<C>>
+        ensures { SawIn C.levels L.max pool (λ state. result.items ≡ to_close_in pool state) }
+    {
+        self.facts();
+        self.retire(pool, alloc)
+    }
+
+    // A pool's maximum, and a copy of its log.
+    pub(crate) fn seen_log(&self, pool: u32, alloc: Global) -> Result<(u32, MarkLog), OutOfMemory>
+        ensures saw { IfOk result (λ read. SawIn C.levels L.max pool (λ state. read.1.marks.items ≡ log_of state pool)) }
+        ensures uncut { IfOk result (λ read. IsUncut read.1) }
+        ensures safe { IfOk result (λ read. IsSafe read.0 [] read.1.marks.items) }
+    {
+        self.facts();
+        self.read_log(pool, alloc)
     }
 
     // Ends a ticket of a pool that waits or is in backoff.

@@ -15,7 +15,7 @@ use Rattle.sqlx_pool.specs.declared.mark_log.MarkLog.{MarkLog}
 use Rattle.sqlx_pool.specs.MarkLog.{IsCopyOf}
 use Rattle.sqlx_pool.specs.Places.{back_if, holds_place}
 use Rattle.sqlx_pool.specs.Seen.{bare, Saw}
-use Rattle.sqlx_pool.specs.Refusals.{IsAskRefusal, IsTryRefusal}
+use Rattle.sqlx_pool.specs.Refusals.{AreLoansUsed, AreTicketsUsed, IsAskRefusal, IsClosed, IsTryRefusal}
 use Rattle.sqlx_pool.specs.State.{PoolState, IsStanding, start_of, since_start}
 use Rattle.sqlx_pool.specs.Upkeep.{has_room, IsFilled}
 
@@ -63,7 +63,7 @@ some-alone (Some (lent, share)) = refl
 module _ {C O T : Type 0} (levels : C → ℕ) (max : ℕ) (cuts : Bool) (state : PoolState C O) (stands : IsStanding levels max cuts state) where
   -- why an ask is refused was seen
   pub ask-refused : (r : Result T Error) → ((r ≡ Err error.PoolClosed) ↔ (is_open state.marks ≡ false)) → ((r ≡ Err error.Exhausted) ↔ ((is_open state.marks ≡ true) × (2 ^ 63 < next_ticket state.marks)))
-      → IfErr r (λ e. (e ≡ error.PoolClosed) ⊎ ((e ≡ error.Exhausted) ⊎ (e ≡ error.OutOfMemory))) → IfErr r (IsAskRefusal (Saw levels max cuts))
+      → IfErr r (λ e. (e ≡ error.PoolClosed) ⊎ ((e ≡ error.Exhausted) ⊎ (e ≡ error.OutOfMemory))) → IfErr r (IsAskRefusal (Saw levels max cuts IsClosed) (Saw levels max cuts AreTicketsUsed))
   ask-refused (Ok x) closed used why = tt
   ask-refused (Err e) closed used (inl is) = inl (is, saw-here levels max cuts state stands _ (closed.0 (ap Err is)))
   ask-refused (Err e) closed used (inr (inl is)) = inr (inl (is, saw-here levels max cuts state stands _ (used.0 (ap Err is)).1))
@@ -71,7 +71,7 @@ module _ {C O T : Type 0} (levels : C → ℕ) (max : ℕ) (cuts : Bool) (state 
 
   -- why a loan past the line is refused was seen
   pub try-refused : {P : Type 0} (r : Result T Error) → ((r ≡ Err error.Exhausted) ↔ (P × (2 ^ 62 ≤ state.booked.made)))
-      → IfErr r (λ e. (e ≡ error.Exhausted) ⊎ (e ≡ error.OutOfMemory)) → IfErr r (IsTryRefusal (Saw levels max cuts))
+      → IfErr r (λ e. (e ≡ error.Exhausted) ⊎ (e ≡ error.OutOfMemory)) → IfErr r (IsTryRefusal (Saw levels max cuts AreLoansUsed))
   try-refused (Ok x) used why = tt
   try-refused (Err e) used (inl is) = inl (is, saw-here levels max cuts state stands _ (used.0 (ap Err is)).1)
   try-refused (Err e) used (inr is) = inr is

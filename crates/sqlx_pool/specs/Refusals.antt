@@ -27,11 +27,10 @@ module _ {C O : Type 0} where
   abbrev pub AreLoansUsed : PoolState C O → Type 0
   AreLoansUsed state = 2 ^ 62 ≤ state.booked.made
 
-module _ {C : Type 0} (saw : (PoolState C (⊤) → Type 0) → Type 0) where
-  -- why an ask is refused: the pool was seen closed, its tickets' numbers were seen used up, or want of memory
-  abbrev pub IsAskRefusal : Error → Type 0
-  IsAskRefusal e = ((e ≡ error.PoolClosed) × saw IsClosed) ⊎ ((e ≡ error.Exhausted) × saw AreTicketsUsed) ⊎ (e ≡ error.OutOfMemory)
+-- why an ask is refused: the pool was seen closed, the numbers of its tickets were seen used up, or want of memory
+abbrev pub IsAskRefusal : Type 0 → Type 0 → Error → Type 0
+IsAskRefusal closed used e = ((e ≡ error.PoolClosed) × closed) ⊎ ((e ≡ error.Exhausted) × used) ⊎ (e ≡ error.OutOfMemory)
 
-  -- why a loan past the line is refused: so many loans were seen made, or want of memory
-  abbrev pub IsTryRefusal : Error → Type 0
-  IsTryRefusal e = ((e ≡ error.Exhausted) × saw AreLoansUsed) ⊎ (e ≡ error.OutOfMemory)
+-- why a loan past the line is refused: so many loans were seen made, or want of memory
+abbrev pub IsTryRefusal : Type 0 → Error → Type 0
+IsTryRefusal used e = ((e ≡ error.Exhausted) × used) ⊎ (e ≡ error.OutOfMemory)

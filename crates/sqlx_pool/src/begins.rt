@@ -3,7 +3,7 @@
 ghost use Rattle.std.specs.Prelude.{◌≡◌, ◌<◌, ◌≤◌, ℕ, None, Some};
 ghost use Rattle.sqlx_pool.specs.Begun.{Begins, BeginsLent, BegunOnLent, has_lent, was_lent};
 ghost use Rattle.sqlx_pool.specs.Booked.{CountsIf};
-ghost use Rattle.sqlx_pool.specs.Refusals.{IsPollRefusal, IsTryRefusal};
+ghost use Rattle.sqlx_pool.specs.Refusals.{AreLoansUsed, IsPollRefusal, IsTryRefusal};
 ghost use Rattle.sqlx_pool.specs.Seen.{Saw};
 
 use crate::{BeginRefused, Clock, Loans, Pool, PoolConnection, PoolOf, Tally};
@@ -49,7 +49,7 @@ fn try_begin_by<DB: Database, H: Ledger, L: Loans, R: Wait>(
 where
     DB::Connection: Drop,
     requires { 0 < tally.old.parts }
-    ensures begins { Begins DB.TransactionManager.does DB.Connection.levels DB.Connection.faults (λ lent. lent.raw) (IsTryRefusal (Saw DB.Connection.levels L.max L.cuts)) statement result }
+    ensures begins { Begins DB.TransactionManager.does DB.Connection.levels DB.Connection.faults (λ lent. lent.raw) (IsTryRefusal (Saw DB.Connection.levels L.max L.cuts AreLoansUsed)) statement result }
     ensures tally { CountsIf (has_lent result) tally.old tally.new }
 {
     match pool.try_acquire(rt, alloc, now, client, tally) {
@@ -153,7 +153,7 @@ pub trait PoolBegin<DB: Database, H: Ledger, L: Loans> {
         tally: &mut Tally<L>,
     ) -> Result<Option<Transaction<DB, PoolConnection<DB, H, L>>>, BeginRefused<DB, H, L>>
         requires { 0 < tally.old.parts }
-        ensures begins { Begins DB.TransactionManager.does DB.Connection.levels DB.Connection.faults (λ lent. lent.raw) (IsTryRefusal (Saw DB.Connection.levels L.max L.cuts)) None result }
+        ensures begins { Begins DB.TransactionManager.does DB.Connection.levels DB.Connection.faults (λ lent. lent.raw) (IsTryRefusal (Saw DB.Connection.levels L.max L.cuts AreLoansUsed)) None result }
         ensures tally { CountsIf (has_lent result) tally.old tally.new };
 
     /// As `try_begin`, by a statement of your own.
@@ -167,7 +167,7 @@ pub trait PoolBegin<DB: Database, H: Ledger, L: Loans> {
         statement: SqlStr,
     ) -> Result<Option<Transaction<DB, PoolConnection<DB, H, L>>>, BeginRefused<DB, H, L>>
         requires { 0 < tally.old.parts }
-        ensures begins { Begins DB.TransactionManager.does DB.Connection.levels DB.Connection.faults (λ lent. lent.raw) (IsTryRefusal (Saw DB.Connection.levels L.max L.cuts)) (Some statement) result }
+        ensures begins { Begins DB.TransactionManager.does DB.Connection.levels DB.Connection.faults (λ lent. lent.raw) (IsTryRefusal (Saw DB.Connection.levels L.max L.cuts AreLoansUsed)) (Some statement) result }
         ensures tally { CountsIf (has_lent result) tally.old tally.new };
 }
 

@@ -20,13 +20,15 @@ pub trait Step {
 /// What tells that a pool is closed.
 #[derive(Drop)]
 pub struct CloseEventOf<C: Depth, O, H: Ledger, L: Loans> {
-    pool: PoolOf<C, O, H, L>,
+    pub(crate) pool: PoolOf<C, O, H, L>,
     // `do_until` was called.
     begun: bool,
 }
 
 impl<C: Depth + Drop, O: Drop, H: Ledger, L: Loans> CloseEventOf<C, O, H, L> {
-    pub(crate) fn new(pool: PoolOf<C, O, H, L>) -> Self {
+    pub(crate) fn new(pool: PoolOf<C, O, H, L>) -> Self
+        ensures { result.pool ≡ pool }
+    {
         CloseEventOf { pool, begun: false }
     }
 

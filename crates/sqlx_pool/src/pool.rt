@@ -10,7 +10,7 @@ ghost use Rattle.sqlx_pool_core.specs.MaintenanceSteps.{close_state_of};
 ghost use Rattle.sqlx_pool.specs.Booked.{CountsIf};
 ghost use Rattle.sqlx_pool.specs.Opened.{IsOpenable};
 ghost use Rattle.sqlx_pool.specs.MarkLog.{IsCopyOf, IsUncut};
-ghost use Rattle.sqlx_pool.specs.Refusals.{IsAskRefusal, IsTryRefusal};
+ghost use Rattle.sqlx_pool.specs.Refusals.{AreLoansUsed, AreTicketsUsed, IsAskRefusal, IsClosed, IsTryRefusal};
 ghost use Rattle.sqlx_pool.specs.Seen.{Saw};
 ghost use Rattle.sqlx_pool.specs.State.{since_start};
 
@@ -121,7 +121,7 @@ impl<C: Depth + Drop, O: Drop, H: Ledger, L: Loans> PoolOf<C, O, H, L> {
         now: Moment,
         client: u32,
     ) -> Result<AcquiringOf<C, O, H, L>, Error>
-        ensures { IfErr result (IsAskRefusal (Saw C.levels L.max L.cuts)) }
+        ensures { IfErr result (IsAskRefusal (Saw C.levels L.max L.cuts IsClosed) (Saw C.levels L.max L.cuts AreTicketsUsed)) }
     {
         let Ok(pool) = self.try_clone() else {
             return Err(Error::OutOfMemory);
@@ -150,7 +150,7 @@ impl<C: Depth + Drop, O: Drop, H: Ledger, L: Loans> PoolOf<C, O, H, L> {
         ensures saw { IfOk result (λ lent. Saw C.levels L.max L.cuts (λ state. is_some lent ≡ is_some (lent_past_at L.max state.core.places state.marks))) }
         ensures tally { IfOk result (λ lent. CountsIf (is_some lent) tally.old tally.new) }
         ensures flat { IfOk result (λ lent. IfSome lent (λ conn. C.levels conn.raw ≡ 0)) }
-        ensures refused { IfErr result (IsTryRefusal (Saw C.levels L.max L.cuts)) }
+        ensures refused { IfErr result (IsTryRefusal (Saw C.levels L.max L.cuts AreLoansUsed)) }
         ensures err { OnErr result (tally.new ≡ tally.old) }
     {
         let Ok(pool) = self.try_clone() else {
@@ -201,7 +201,9 @@ impl<C: Depth + Drop, O: Drop, H: Ledger, L: Loans> PoolOf<C, O, H, L> {
     }
 
     /// What tells that the pool is closed.
-    pub fn close_event(&self) -> Result<CloseEventOf<C, O, H, L>, OutOfMemory> {
+    pub fn close_event(&self) -> Result<CloseEventOf<C, O, H, L>, OutOfMemory>
+        ensures { IfOk result (λ event. event.pool.shared.value ≡ self.now.shared.value) }
+    {
         match self.try_clone() {
             Ok(pool) => Ok(CloseEventOf::new(pool)),
             Err(short) => Err(short),

@@ -10,7 +10,7 @@ ghost use Rattle.sqlx_pool_core.specs.PollSteps.{phase_for, may_cancel};
 ghost use Rattle.sqlx_pool.specs.Answers.{lent_alone};
 ghost use Rattle.sqlx_pool.specs.Booked.{CountsIf};
 ghost use Rattle.sqlx_pool.specs.MarkLog.{IsCopyOf, IsUncut};
-ghost use Rattle.sqlx_pool.specs.Refusals.{IsAskRefusal, IsTryRefusal};
+ghost use Rattle.sqlx_pool.specs.Refusals.{AreLoansUsed, AreTicketsUsed, IsAskRefusal, IsClosed, IsTryRefusal};
 ghost use Rattle.sqlx_pool.specs.Seen.{Saw};
 ghost use Rattle.sqlx_pool.specs.State.{since_start};
 ghost use Rattle.sqlx_pool.specs.Upkeep.{has_room, IsFilled, to_reap};
@@ -74,7 +74,7 @@ impl<C: Depth, O, H: Ledger, L: Loans> Locked<C, O, H, L> {
     }
     // Asks for a connection.
     pub(crate) fn seen_ask(&mut self, alloc: Global, now: Moment, client: u32) -> Result<u64, Error>
-        ensures { IfErr result (IsAskRefusal (Saw C.levels L.max L.cuts)) }
+        ensures { IfErr result (IsAskRefusal (Saw C.levels L.max L.cuts IsClosed) (Saw C.levels L.max L.cuts AreTicketsUsed)) }
     {
         self.facts();
         self.ask(alloc, now, client)
@@ -92,7 +92,7 @@ impl<C: Depth, O, H: Ledger, L: Loans> Locked<C, O, H, L> {
         ensures saw { IfOk result (λ lent. Saw C.levels L.max L.cuts (λ state. is_some lent ≡ is_some (lent_past_at L.max state.core.places state.marks))) }
         ensures tally { IfOk result (λ lent. CountsIf (is_some lent) tally.old tally.new) }
         ensures flat { IfOk result (λ lent. IfSome (lent_alone lent) (λ l. C.levels l.raw ≡ 0)) }
-        ensures refused { IfErr result (IsTryRefusal (Saw C.levels L.max L.cuts)) }
+        ensures refused { IfErr result (IsTryRefusal (Saw C.levels L.max L.cuts AreLoansUsed)) }
         ensures err { OnErr result (tally.new ≡ tally.old) }
     {
         self.facts();

@@ -1,9 +1,13 @@
 //! What keeps a pool in shape, closing it and retiring it: one locked step a connection, with the connects and closes
 //! between.
 
-ghost use Rattle.std.specs.Prelude.{◌≡◌, ℕ, ◌≤◌, true, false, IfSome};
+ghost use Rattle.std.specs.Prelude.{◌≡◌, ◌⊎◌, ℕ, ◌≤◌, true, false, None, length};
 ghost use Rattle.sqlx_pool_core.specs.Giving.{is_pass};
 ghost use Rattle.sqlx_pool.specs.Checks.{IfPassed};
+ghost use Rattle.sqlx_pool.specs.Opened.{IsCounted, TellsLevels};
+ghost use Rattle.sqlx_pool.specs.Upkeep.{EndsKeeping, IfUnfilled};
+ghost use Rattle.sqlx_family_pool.specs.Seen.{SawIn};
+ghost use Rattle.sqlx_family_pool.specs.Upkeep.{IsFilledIn, to_close_in, to_reap_in};
 
 use super::FamilyPoolOf;
 use crate::LockedFamily;
@@ -66,10 +70,11 @@ impl<C: Depth + Drop, O: Drop, H: Ledger, L: Loans> FamilyPoolOf<C, O, H, L> {
     /// number comes back. A second close gives 0. Where it is the root, each child counts as closed from now on; a child's
     /// idle connections stay until its own close.
     pub fn close<R: Wait, X: Outside<C, O>>(&self, rt: &R, alloc: Global, out: &mut X) -> usize
+        ensures saw { SawIn C.levels L.max self.now.name (λ state. result ≡ length (to_close_in self.now.name state)) }
         ensures counts { (X.faults out.old ≤ X.faults out.new) × (X.refusals out.old ≤ X.refusals out.new) }
     {
         let mut guard = self.shared.locked.lock(rt);
-        let idle = guard.close(self.name, alloc);
+        let idle = guard.seen_close(self.name, alloc);
         self.unlock(guard);
         checks::close_all::<C, O, X>(Check::Close, idle, out)
     }
@@ -78,10 +83,11 @@ impl<C: Depth + Drop, O: Drop, H: Ledger, L: Loans> FamilyPoolOf<C, O, H, L> {
     /// once. The idle connections are closed; their number comes back.
     pub fn retire<R: Wait, X: Outside<C, O>>(&self, rt: &R, alloc: Global, out: &mut X) -> usize
         requires child { 1 ≤ self.now.name }
+        ensures saw { SawIn C.levels L.max self.now.name (λ state. result ≡ length (to_close_in self.now.name state)) }
         ensures counts { (X.faults out.old ≤ X.faults out.new) × (X.refusals out.old ≤ X.refusals out.new) }
     {
         let mut guard = self.shared.locked.lock(rt);
-        let idle = guard.retire(self.name, alloc);
+        let idle = guard.seen_retire(self.name, alloc);
         self.unlock(guard);
         checks::close_all::<C, O, X>(Check::Close, idle, out)
     }
@@ -96,6 +102,8 @@ impl<C: Depth + Drop, O: Drop, H: Ledger, L: Loans> FamilyPoolOf<C, O, H, L> {
         out: &mut X,
     ) -> (u32, Openings)
         ensures most { (result.0 ≤ self.now.options.max_connections) × (result.1.opened ≤ self.now.options.max_connections) }
+        ensures reaped { (result.0 ≡ self.now.options.max_connections) ⊎ SawIn C.levels L.max self.now.name (λ state. to_reap_in self.now.name now state ≡ None) }
+        ensures ends { TellsLevels X.depth C.levels → EndsKeeping self.now.options (SawIn C.levels L.max self.now.name (IsFilledIn self.now.name)) (IsCounted X.faults X.refusals out.old out.new) result.1 }
         ensures counts { (X.faults out.old ≤ X.faults out.new) × (X.refusals out.old ≤ X.refusals out.new) }
     {
         let reaped = self.reap_all::<R, X>(rt, now, out);
@@ -105,11 +113,12 @@ impl<C: Depth + Drop, O: Drop, H: Ledger, L: Loans> FamilyPoolOf<C, O, H, L> {
     // Closes what is to be reaped.
     fn reap_all<R: Wait, X: Outside<C, O>>(&self, rt: &R, now: Moment, out: &mut X) -> u32
         ensures most { result ≤ self.now.options.max_connections }
+        ensures ends { (result ≡ self.now.options.max_connections) ⊎ SawIn C.levels L.max self.now.name (λ state. to_reap_in self.now.name now state ≡ None) }
         ensures counts { (X.faults out.old ≤ X.faults out.new) × (X.refusals out.old ≤ X.refusals out.new) }
     {
         let max = self.options.get_max_connections();
         for reaped in 0..max {
-            let idle = self.shared.locked.lock(rt).reap(self.name, now);
+            let idle = self.shared.locked.lock(rt).seen_reap(self.name, now);
             match idle {
                 Some(idle) => checks::close_by::<C, O, X>(Check::Close, idle.lent.raw, out),
                 None => return reaped,
@@ -152,6 +161,7 @@ impl<C: Depth + Drop, O: Drop, H: Ledger, L: Loans> FamilyPoolOf<C, O, H, L> {
         out: &mut X,
     ) -> Openings
         ensures most { result.opened ≤ self.now.options.max_connections }
+        ensures ends { TellsLevels X.depth C.levels → EndsKeeping self.now.options (SawIn C.levels L.max self.now.name (IsFilledIn self.now.name)) (IsCounted X.faults X.refusals out.old out.new) result }
         ensures counts { (X.faults out.old ≤ X.faults out.new) × (X.refusals out.old ≤ X.refusals out.new) }
     {
         let max = self.options.get_max_connections();
@@ -180,9 +190,10 @@ impl<C: Depth + Drop, O: Drop, H: Ledger, L: Loans> FamilyPoolOf<C, O, H, L> {
         now: Moment,
         out: &mut X,
     ) -> Filled
+        ensures unfilled { TellsLevels X.depth C.levels → IfUnfilled result (SawIn C.levels L.max self.now.name (IsFilledIn self.now.name)) (IsCounted X.faults X.refusals out.old out.new) }
         ensures counts { (X.faults out.old ≤ X.faults out.new) × (X.refusals out.old ≤ X.refusals out.new) }
     {
-        let place = self.shared.locked.lock(rt).minimum_place(self.name, alloc);
+        let place = self.shared.locked.lock(rt).seen_place(self.name, alloc);
         match place {
             Ok(true) => self.fill_place::<R, X>(rt, alloc, now, out),
             Ok(false) => Filled::Full,
@@ -198,6 +209,7 @@ impl<C: Depth + Drop, O: Drop, H: Ledger, L: Loans> FamilyPoolOf<C, O, H, L> {
         now: Moment,
         out: &mut X,
     ) -> Filled
+        ensures unfilled { TellsLevels X.depth C.levels → IfUnfilled result (SawIn C.levels L.max self.now.name (IsFilledIn self.now.name)) (IsCounted X.faults X.refusals out.old out.new) }
         ensures counts { (X.faults out.old ≤ X.faults out.new) × (X.refusals out.old ≤ X.refusals out.new) }
     {
         match self.open::<R, X>(rt, alloc, out) {
@@ -227,9 +239,12 @@ impl<C: Depth + Drop, O: Drop, H: Ledger, L: Loans> FamilyPoolOf<C, O, H, L> {
         out: &mut X,
     ) -> Filled
         requires { C.levels raw ≡ 0 }
+        ensures unfilled { IfUnfilled result (SawIn C.levels L.max self.now.name (IsFilledIn self.now.name)) (IsCounted X.faults X.refusals out.old out.new) }
         ensures counts { (X.faults out.old ≤ X.faults out.new) × (X.refusals out.old ≤ X.refusals out.new) }
     {
-        let back = self.done(rt, now, Some(raw));
+        let mut guard = self.shared.locked.lock(rt);
+        let back = guard.seen_done(self.name, now, raw);
+        self.unlock(guard);
         match back {
             None => Filled::Opened,
             Some(raw) => {
@@ -241,16 +256,9 @@ impl<C: Depth + Drop, O: Drop, H: Ledger, L: Loans> FamilyPoolOf<C, O, H, L> {
 
     // Gives a place back for which nothing was opened.
     fn let_go<R: Wait>(&self, rt: &R, now: Moment) {
-        drop(self.done(rt, now, None));
-    }
-
-    // Tells what came of a connection for which a place was held. What comes back is to be closed.
-    fn done<R: Wait>(&self, rt: &R, now: Moment, raw: Option<C>) -> Option<C>
-        requires { IfSome raw (λ conn. C.levels conn ≡ 0) }
-    {
         let mut guard = self.shared.locked.lock(rt);
-        let back = guard.minimum_done(self.name, now, raw);
+        let back = guard.minimum_done(self.name, now, None);
         self.unlock(guard);
-        back
+        drop(back);
     }
 }

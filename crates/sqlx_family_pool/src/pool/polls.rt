@@ -5,6 +5,7 @@ ghost use Rattle.sqlx_pool_core.specs.Balance.{one_if};
 ghost use Rattle.sqlx_pool_core.specs.PollParts.{IfOpened, IfFailed, IsForGood};
 ghost use Rattle.sqlx_pool.specs.Answers.{IfTried, is_fatal};
 ghost use Rattle.sqlx_pool.specs.Booked.{CountsIf};
+ghost use Rattle.sqlx_pool.specs.Opened.{IfUnopened, IsCounted, TellsLevels};
 ghost use Rattle.sqlx_pool.specs.Refusals.{IsEnd, IsPollRefusal};
 ghost use Rattle.sqlx_pool.specs.Stage.{has_lent, IfLent, IfEnded, wants_test, wants_connect};
 
@@ -155,6 +156,7 @@ impl<C: Depth + Drop, O: Drop, H: Ledger, L: Loans> FamilyPoolOf<C, O, H, L> {
         out: &mut X,
     ) -> Opening<C>
         ensures flat { IfOpened result (λ raw. C.levels raw ≡ 0) }
+        ensures unopened { TellsLevels X.depth C.levels → IfUnopened result (IsCounted X.faults X.refusals out.old out.new) }
         ensures cause { IfFailed result (λ e. IsForGood (X.faults out.old) (X.faults out.new) e) }
         ensures counts { (X.faults out.old ≤ X.faults out.new) × (X.refusals out.old ≤ X.refusals out.new) }
     {

@@ -1,0 +1,39 @@
+-- What a pool of a family has to reap, to open and to close, and why it refuses an ask or a loan past the line.
+use Rattle.std.specs.Prelude.{◌≡◌, ◌⊎◌, ◌^◌, ◌<◌, ◌≤◌, ℕ, Bool, true, false, List, Option}
+use Rattle.sqlx_text.specs.declared.Moment.{Moment}
+use Rattle.sqlx_pool_core.specs.declared.steps.Idle.{Idle}
+use Rattle.sqlx_pool_core.specs.Logs.{moment_of}
+use Rattle.sqlx_pool_core.specs.MaintenanceSteps.{close_answer, has_place_if, reap_answer}
+use Rattle.sqlx_family.specs.Pools.{counts_as_closed, pool_in}
+use Rattle.sqlx_family.specs.RootLine.{passes_in}
+use Rattle.sqlx_pool.specs.Places.{holds_place}
+use Rattle.sqlx_family_pool.specs.FamilyState.{FamilyState}
+
+module _ {C O : Type 0} where
+  -- the idle connection of a pool that is reaped first at this moment, if one is
+  abbrev pub to_reap_in : ℕ → Moment → FamilyState C O → Option (Idle C)
+  to_reap_in pool now state = let core = pool_in pool state.family in reap_answer (passes_in pool state.family) core.options (moment_of core now) core.idle
+
+  -- a connection may be opened for the minimum of a pool
+  abbrev pub has_room_in : ℕ → FamilyState C O → Bool
+  has_room_in pool state = let core = pool_in pool state.family in has_place_if (passes_in pool state.family) core.options.min_connections core
+
+  -- none may be opened for the minimum of a pool, or no place is held for one
+  abbrev pub IsFilledIn : ℕ → FamilyState C O → Type 0
+  IsFilledIn pool state = (has_room_in pool state ≡ false) ⊎ (holds_place (pool_in pool state.family) ≡ false)
+
+  -- the idle connections that a close of a pool gives back
+  abbrev pub to_close_in : ℕ → FamilyState C O → List (Idle C)
+  to_close_in pool state = let core = pool_in pool state.family in close_answer core.shut core.idle
+
+  -- the pool counts as closed
+  abbrev pub IsClosedIn : ℕ → FamilyState C O → Type 0
+  IsClosedIn pool state = counts_as_closed pool state.family ≡ true
+
+  -- the family's numbers of tickets are used up
+  abbrev pub AreTicketsUsed : FamilyState C O → Type 0
+  AreTicketsUsed state = 2 ^ 63 < state.family.shared.next_ticket
+
+  -- the family made as many loans as are made past the line
+  abbrev pub AreLoansUsed : FamilyState C O → Type 0
+  AreLoansUsed state = 2 ^ 62 ≤ state.booked.made
