@@ -1,8 +1,8 @@
 -- A new family, a new child, and a pool that only heard of its family or whose log only got room.
-use Rattle.std.proofs.Common.{◌≡◌, ℕ, zero, suc, Result, Ok, Err, OnErr, ◌+◌, ◌<◌, ◌≤◌, ◌||◌, inl, inr, Bool, true, false, List, [], ◌∷◌, ◌++◌, map, length, get_or, sum_by, nat_lt, refl, sym, ap, ◌∙◌, subst, arith, Vec, vec_items, vec_capacity}
+use Rattle.std.proofs.Common.{◌≡◌, ℕ, zero, suc, Result, Ok, Err, OnErr, ◌+◌, ◌<◌, ◌≤◌, ◌||◌, inl, inr, Bool, false, List, [], ◌∷◌, ◌++◌, map, length, get_or, refl, sym, ap, ◌∙◌, subst, arith, Vec, vec_items, vec_capacity}
 use Rattle.std.specs.Prelude.{slice_set}
 use Rattle.std.proofs.lemmas.Bool.Decides.{eqb_tells}
-use Rattle.std.proofs.lemmas.List.{get_or-set_same, get_or-set_other, get_or_append_left, get_or_push, map-set, length-set, length-map, length-append, append-nil, get_or-map, map-append}
+use Rattle.std.proofs.lemmas.List.{get_or-set_same, get_or-set_other, get_or_append_left, get_or_push, map-set, length-map, length-append, append-nil, get_or-map, map-append}
 use Rattle.std.proofs.Math.Seq.{map-set_same}
 use Rattle.std.proofs.lemmas.List.Elements.{All-nil}
 use Rattle.std.proofs.lemmas.List.Sums.{sum_by_push}
@@ -22,7 +22,7 @@ use Rattle.sqlx_family.specs.FamilyLogs.{FamilyLogs}
 use Rattle.sqlx_family.proofs.LogLemmas.{stand-stepped}
 use Rattle.sqlx_pool.specs.Booked.{Booked}
 use Rattle.sqlx_pool.specs.State.{RestFlat}
-use Rattle.sqlx_family_pool.specs.FamilyState.{family_state, log_of, held_in, tickets_in, IsKept}
+use Rattle.sqlx_family_pool.specs.FamilyState.{family_state, held_in, tickets_in, IsKept}
 use Rattle.sqlx_pool.proofs.StepLemmas.{kept-books}
 use Rattle.sqlx_family_pool.proofs.Replaces.{Replaces, replaces-with}
 use Rattle.sqlx_family_pool.proofs.StepLemmas.{room-there, written}

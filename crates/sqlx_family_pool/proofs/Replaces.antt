@@ -1,9 +1,8 @@
 -- What a step of one pool leaves of a family: that pool's core changes, and of the others at most how many permits they own.
-use Rattle.std.proofs.Common.{◌≡◌, ◌≢◌, ℕ, zero, suc, ◌+◌, ◌-◌, ◌<◌, inl, inr, Bool, true, false, List, [], ◌∷◌, length, get_or, sum_by, refl, sym, ap, ◌∙◌, subst, arith}
-use Rattle.std.specs.Prelude.{slice_set}
+use Rattle.std.proofs.Common.{◌≡◌, ◌≢◌, ℕ, zero, suc, ◌+◌, ◌-◌, ◌<◌, Bool, true, false, List, [], ◌∷◌, length, get_or, sum_by, refl, sym, ap, ◌∙◌, subst, arith}
 use Rattle.std.proofs.lemmas.List.{get_or-set_same, get_or-set_other, length-set}
 use Rattle.std.proofs.lemmas.List.Sums.{sum_by-cons}
-use Rattle.sqlx_pool_core.specs.Core.{Core, free}
+use Rattle.sqlx_pool_core.specs.Core.{Core}
 use Rattle.sqlx_pool_core.specs.Shared.{with_permits}
 use Rattle.sqlx_family.specs.declared.family.FamilyPool.{FamilyPool}
 use Rattle.sqlx_family.specs.NoPool.{no_pool}

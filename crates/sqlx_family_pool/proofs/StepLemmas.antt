@@ -34,7 +34,7 @@ use Rattle.sqlx_pool.specs.Places.{done_if_marks}
 use Rattle.sqlx_pool.specs.State.{RestFlat}
 use Rattle.sqlx_pool.proofs.LeavesLemmas.{Leaves}
 use Rattle.sqlx_pool.proofs.StepLemmas.{Books}
-use Rattle.sqlx_family_pool.specs.FamilyState.{family_state, log_of, with_made, held_in, tickets_in, IsKept}
+use Rattle.sqlx_family_pool.specs.FamilyState.{family_state, with_made, held_in, tickets_in, IsKept}
 use Rattle.sqlx_family_pool.proofs.Replaces.{Replaces, sum-but}
 
 -- ---- the permits pay for the connections that have an owner

@@ -1,5 +1,5 @@
 -- What beginning a transaction on a connection of a pool comes to.
-use Rattle.std.specs.Prelude.{◌≡◌, ◌≢◌, ◌≤◌, ◌⊎◌, ℕ, ⊤, Bool, true, Option, Some, None, is_some, Result, Ok, Err, IfErr}
+use Rattle.std.specs.Prelude.{◌≡◌, ◌≢◌, ◌≤◌, ℕ, ⊤, Bool, true, Option, Some, None, is_some, Result, Ok, Err, IfErr}
 use Rattle.sqlx_text.specs.declared.error.Error.{Error}
 use Rattle.sqlx_text.specs.declared.error.Error.TheVariants as error
 use Rattle.sqlx_text.specs.declared.sql_str.SqlStr.{SqlStr}

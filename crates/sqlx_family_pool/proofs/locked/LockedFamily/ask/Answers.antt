@@ -1,4 +1,4 @@
-use Rattle.std.proofs.Common.{◌≡◌, ℕ, ◌+◌, ◌<◌, [], ◌∷◌, ◌++◌, length, refl, ap, ◌∙◌, sym, inl, inr, arith, vec_items}
+use Rattle.std.proofs.Common.{◌≡◌, ℕ, ◌+◌, ◌<◌, [], ◌∷◌, ◌++◌, length, refl, ap, ◌∙◌, inr, arith, vec_items}
 use Rattle.sqlx_log.specs.declared.mark.Mark.TheVariants.{Asked}
 use Rattle.sqlx_pool_core.specs.declared.options.PoolOptions.{PoolOptions}
 use Rattle.sqlx_pool_core.specs.Logs.{moment_of}
@@ -7,7 +7,7 @@ use Rattle.sqlx_family.specs.Pools.{pool_in}
 use Rattle.sqlx_pool.proofs.LeavesLemmas.{asked-leaves}
 use Rattle.sqlx_pool.proofs.StepLemmas.{kept-books}
 use Rattle.sqlx_family_pool.proofs.Replaces.{replaces-put}
-use Rattle.sqlx_family_pool.proofs.StepLemmas.{in-logs, room-there, logs-grow, written}
+use Rattle.sqlx_family_pool.proofs.StepLemmas.{in-logs, logs-grow, written}
 use Rattle.sqlx_family_pool.proofs.PoolLemmas.{on-err, reserved, reserved-same, kept-heard}
 use Rattle.sqlx_family_pool.proofs.locked.LockedFamily.ask.Goals as goal
 

@@ -1,5 +1,5 @@
 use Rattle.std.proofs.Common.{◌∙◌, ap, arith, ◌∷◌, [], ◌++◌}
-use Rattle.sqlx_family_pool.proofs.PoolLemmas.{child-added, items-pushed}
+use Rattle.sqlx_family_pool.proofs.PoolLemmas.{child-added}
 use Rattle.sqlx_family_pool.proofs.locked.LockedFamily.child.Goals as goal
 
 pub invariant_of-self-2 : goal.invariant_of-self-2

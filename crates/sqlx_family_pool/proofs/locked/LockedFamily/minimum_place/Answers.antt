@@ -1,4 +1,4 @@
-use Rattle.std.proofs.Common.{◌<◌, [], ◌++◌, List, length, append-nil, refl, ap, ◌∙◌, sym, arith, vec_items}
+use Rattle.std.proofs.Common.{◌<◌, [], List, length, append-nil, refl, ap, ◌∙◌, sym, arith, vec_items}
 use Rattle.sqlx_log.specs.declared.mark.Mark.{Mark}
 use Rattle.sqlx_family.specs.Pools.{pool_in}
 use Rattle.sqlx_pool.proofs.LeavesLemmas.{placed-leaves}

@@ -1,4 +1,4 @@
-use Rattle.std.proofs.Common.{◌<◌, [], ◌∷◌, ◌++◌, List, Some, inr, length, refl, sym, ap, ◌∙◌, arith, vec_items}
+use Rattle.std.proofs.Common.{◌<◌, [], ◌∷◌, ◌++◌, List, Some, inr, length, refl, sym, ap, ◌∙◌, arith}
 use Rattle.sqlx_log.specs.declared.mark.Mark.{Mark}
 use Rattle.sqlx_log.specs.declared.mark.Mark.TheVariants.{Taken, Lent}
 use Rattle.sqlx_pool_core.specs.Logs.{moment_of}

@@ -1,4 +1,3 @@
-use Rattle.std.proofs.Common.{refl}
 use Rattle.sqlx_pool.proofs.HandleLemmas.{taken_ran}
 use Rattle.sqlx_pool.proofs.handle.executor.PoolHandleConnectionOptionsExecutor.fetch_many.Goals as goal
 
