@@ -1,4 +1,4 @@
--- What a pool of a family has to reap, to open and to close, and why it refuses an ask or a loan past the line.
+-- What a pool of a family has to reap, to open and to close, which ticket an ask gets, and why an ask or a loan past the line is refused.
 use Rattle.std.specs.Prelude.{◌≡◌, ◌⊎◌, ◌^◌, ◌<◌, ◌≤◌, ℕ, Bool, true, false, List, Option}
 use Rattle.sqlx_text.specs.declared.Moment.{Moment}
 use Rattle.sqlx_pool_core.specs.declared.steps.Idle.{Idle}
@@ -29,6 +29,10 @@ module _ {C O : Type 0} where
   -- the pool counts as closed
   abbrev pub IsClosedIn : ℕ → FamilyState C O → Type 0
   IsClosedIn pool state = counts_as_closed pool state.family ≡ true
+
+  -- the ticket of an ask: it is the one that comes next in the family
+  abbrev pub IsNextTicket : ℕ → FamilyState C O → Type 0
+  IsNextTicket ticket state = ticket ≡ state.family.shared.next_ticket
 
   -- the family's numbers of tickets are used up
   abbrev pub AreTicketsUsed : FamilyState C O → Type 0

@@ -5,7 +5,7 @@ ghost use Rattle.sqlx_pool_core.specs.Balance.{one_if};
 ghost use Rattle.sqlx_pool_core.specs.PollSteps.{phase_for, may_cancel};
 ghost use Rattle.sqlx_family.specs.Pools.{pool_in};
 ghost use Rattle.sqlx_pool.specs.Booked.{CountsIf};
-ghost use Rattle.sqlx_pool.specs.Polling.{is_ready, IfReady, IfFailed};
+ghost use Rattle.sqlx_pool.specs.Polling.{is_ready, IfReady, IfFailed, IfPending};
 ghost use Rattle.sqlx_pool.specs.Refusals.{IsEnd, IsPollRefusal};
 ghost use Rattle.sqlx_pool.specs.Stage.{has_lent, IfLent, IfEnded};
 ghost use Rattle.sqlx_family_pool.specs.Seen.{SawFamily};
@@ -31,7 +31,9 @@ pub struct FamilyAcquiringOf<C: Depth, O, H: Ledger, L: Loans> {
 }
 
 impl<C: Depth + Drop, O: Drop, H: Ledger, L: Loans> FamilyAcquiringOf<C, O, H, L> {
-    pub(crate) fn new(pool: FamilyPoolOf<C, O, H, L>, client: u32, ticket: u64) -> Self {
+    pub(crate) fn new(pool: FamilyPoolOf<C, O, H, L>, client: u32, ticket: u64) -> Self
+        ensures { (result.pool ≡ pool) × (result.client ≡ client) × (result.ticket ≡ ticket) }
+    {
         FamilyAcquiringOf {
             pool,
             client,
@@ -60,6 +62,7 @@ impl<C: Depth + Drop, O: Drop, H: Ledger, L: Loans> FamilyAcquiringOf<C, O, H, L
         requires { 0 < tally.old.parts }
         ensures tally { CountsIf (is_ready result) tally.old tally.new }
         ensures flat { IfReady result (λ conn. C.levels conn.raw ≡ 0) }
+        ensures again { IfPending result (λ waits. (waits.pool.name ≡ self.pool.name) × (waits.client ≡ self.client) × (waits.ticket ≡ self.ticket)) }
         ensures causes { IfFailed result (IsPollRefusal (X.faults out.old) (X.faults out.new)) }
         ensures counts { (X.faults out.old ≤ X.faults out.new) × (X.refusals out.old ≤ X.refusals out.new) }
     {
@@ -91,6 +94,7 @@ impl<C: Depth + Drop, O: Drop, H: Ledger, L: Loans> FamilyAcquiringOf<C, O, H, L
         ensures parts { tally.new.parts ≡ tally.old.parts }
         ensures loans { tally.new.loans + one_if (has_lent begun) ≡ tally.old.loans + one_if (is_ready result) }
         ensures flat { IfReady result (λ conn. C.levels conn.raw ≡ 0) }
+        ensures again { IfPending result (λ waits. (waits.pool.name ≡ self.pool.name) × (waits.client ≡ self.client) × (waits.ticket ≡ self.ticket)) }
         ensures causes { IfFailed result (IsPollRefusal (X.faults out.old) (X.faults out.new)) }
         ensures counts { (X.faults out.old ≤ X.faults out.new) × (X.refusals out.old ≤ X.refusals out.new) }
     {

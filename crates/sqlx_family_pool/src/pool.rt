@@ -14,7 +14,7 @@ ghost use Rattle.sqlx_pool.specs.Refusals.{IsAskRefusal, IsTryRefusal};
 ghost use Rattle.sqlx_family_pool.specs.FamilyState.{log_of};
 ghost use Rattle.sqlx_family_pool.specs.Handles.{IsChildOf};
 ghost use Rattle.sqlx_family_pool.specs.Seen.{SawFamily, SawIn};
-ghost use Rattle.sqlx_family_pool.specs.Upkeep.{AreLoansUsed, AreTicketsUsed, IsClosedIn};
+ghost use Rattle.sqlx_family_pool.specs.Upkeep.{AreLoansUsed, AreTicketsUsed, IsClosedIn, IsNextTicket};
 
 mod maintenance;
 mod polls;
@@ -149,7 +149,8 @@ impl<C: Depth + Drop, O: Drop, H: Ledger, L: Loans> FamilyPoolOf<C, O, H, L> {
         now: Moment,
         client: u32,
     ) -> Result<FamilyAcquiringOf<C, O, H, L>, Error>
-        ensures { IfErr result (IsAskRefusal (SawFamily C.levels L.max (IsClosedIn self.now.name)) (SawFamily C.levels L.max AreTicketsUsed)) }
+        ensures asked { IfOk result (λ waits. (waits.pool.name ≡ self.now.name) × (waits.client ≡ client) × SawFamily C.levels L.max (IsNextTicket waits.ticket)) }
+        ensures refused { IfErr result (IsAskRefusal (SawFamily C.levels L.max (IsClosedIn self.now.name)) (SawFamily C.levels L.max AreTicketsUsed)) }
     {
         let Ok(pool) = self.try_clone() else {
             return Err(Error::OutOfMemory);

@@ -15,7 +15,7 @@ ghost use Rattle.sqlx_pool.specs.Refusals.{IsAskRefusal, IsTryRefusal};
 ghost use Rattle.sqlx_family_pool.specs.FamilyState.{log_of};
 ghost use Rattle.sqlx_family_pool.specs.Handles.{IsChildOf};
 ghost use Rattle.sqlx_family_pool.specs.Seen.{SawFamily, SawIn};
-ghost use Rattle.sqlx_family_pool.specs.Upkeep.{AreLoansUsed, AreTicketsUsed, has_room_in, IsClosedIn, IsFilledIn, to_close_in, to_reap_in};
+ghost use Rattle.sqlx_family_pool.specs.Upkeep.{AreLoansUsed, AreTicketsUsed, has_room_in, IsClosedIn, IsFilledIn, IsNextTicket, to_close_in, to_reap_in};
 
 use crate::LockedFamily;
 use sqlx_pool::{Held, Loans, MarkLog, Tally};
@@ -68,7 +68,8 @@ impl<C: Depth, O, H: Ledger, L: Loans> LockedFamily<C, O, H, L> {
         now: Moment,
         client: u32,
     ) -> Result<u64, Error>
-        ensures { IfErr result (IsAskRefusal (SawFamily C.levels L.max (IsClosedIn pool)) (SawFamily C.levels L.max AreTicketsUsed)) }
+        ensures asked { IfOk result (λ ticket. SawFamily C.levels L.max (IsNextTicket ticket)) }
+        ensures refused { IfErr result (IsAskRefusal (SawFamily C.levels L.max (IsClosedIn pool)) (SawFamily C.levels L.max AreTicketsUsed)) }
     {
         self.facts();
         self.ask(pool, alloc, now, client)

@@ -1,7 +1,7 @@
 -- What is asked of the answers of steps.
-use Rattle.std.specs.Prelude.{⊤, Bool, true, false, Option, Some, None}
+use Rattle.std.specs.Prelude.{◌≡◌, ℕ, ⊤, Bool, true, false, Option, Some, None}
 use Rattle.std.specs.List.{list_any}
-use Rattle.sqlx_log.specs.Marks.{is_shut}
+use Rattle.sqlx_log.specs.Marks.{is_open, is_shut, next_ticket}
 use Rattle.sqlx_pool_core.specs.declared.steps.Lent.{Lent}
 use Rattle.sqlx_pool_core.specs.declared.steps.Verdict.{Verdict}
 use Rattle.sqlx_pool_core.specs.declared.ticket.Phase.{Phase}
@@ -13,6 +13,10 @@ use Rattle.sqlx_pool_core.specs.declared.steps.Tried.{Tried}
 use Rattle.sqlx_pool_core.specs.declared.steps.Tried.TheVariants as tried
 use Rattle.sqlx_pool_core.specs.declared.steps.AfterConnect.{AfterConnect}
 use Rattle.sqlx_pool_core.specs.declared.steps.AfterConnect.TheVariants as connected
+
+-- the ticket of an ask: it is the one that comes next, and the pool is open
+abbrev pub IsNextTicket : {C O : Type 0} → ℕ → PoolState C O → Type 0
+IsNextTicket ticket state = (is_open state.marks ≡ true) × (ticket ≡ next_ticket state.marks)
 
 -- what a test of a connection answers in a pool, to a ticket in this phase
 abbrev pub test_answer_in : {C O : Type 0} → PoolState C O → Verdict C → Option Phase → AfterTest C

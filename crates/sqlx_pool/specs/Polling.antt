@@ -19,3 +19,8 @@ module _ {T P : Type 0} where
   abbrev pub IfFailed : Polling T P → (Error → Type 0) → Type 0
   IfFailed (polling.Failed error) Q = Q error
   IfFailed other Q = ⊤
+
+  -- Q of the ticket that is polled again later, if it is
+  abbrev pub IfPending : Polling T P → (P → Type 0) → Type 0
+  IfPending (polling.Pending again why) Q = Q again
+  IfPending other Q = ⊤

@@ -4,7 +4,7 @@ ghost use Rattle.std.specs.Prelude.{◌≡◌, ℕ, ◌+◌, ◌<◌, ◌≤◌,
 ghost use Rattle.sqlx_pool_core.specs.Balance.{one_if};
 ghost use Rattle.sqlx_pool_core.specs.PollSteps.{phase_for, may_cancel};
 ghost use Rattle.sqlx_pool.specs.Booked.{CountsIf};
-ghost use Rattle.sqlx_pool.specs.Polling.{is_ready, IfReady, IfFailed};
+ghost use Rattle.sqlx_pool.specs.Polling.{is_ready, IfReady, IfFailed, IfPending};
 ghost use Rattle.sqlx_pool.specs.Refusals.{IsEnd, IsPollRefusal};
 ghost use Rattle.sqlx_pool.specs.Seen.{Saw};
 ghost use Rattle.sqlx_pool.specs.Stage.{has_lent, IfLent, IfEnded};
@@ -37,12 +37,14 @@ pub type PoolPollOf<C, O, H, L> = Polling<PoolConnectionOf<C, O, H, L>, Acquirin
 /// otherwise.
 pub struct AcquiringOf<C: Depth, O, H: Ledger, L: Loans> {
     pool: PoolOf<C, O, H, L>,
-    client: u32,
-    ticket: u64,
+    pub(crate) client: u32,
+    pub(crate) ticket: u64,
 }
 
 impl<C: Depth + Drop, O: Drop, H: Ledger, L: Loans> AcquiringOf<C, O, H, L> {
-    pub(crate) fn new(pool: PoolOf<C, O, H, L>, client: u32, ticket: u64) -> Self {
+    pub(crate) fn new(pool: PoolOf<C, O, H, L>, client: u32, ticket: u64) -> Self
+        ensures { (result.client ≡ client) × (result.ticket ≡ ticket) }
+    {
         AcquiringOf {
             pool,
             client,
@@ -71,6 +73,7 @@ impl<C: Depth + Drop, O: Drop, H: Ledger, L: Loans> AcquiringOf<C, O, H, L> {
         requires { 0 < tally.old.parts }
         ensures tally { CountsIf (is_ready result) tally.old tally.new }
         ensures flat { IfReady result (λ conn. C.levels conn.raw ≡ 0) }
+        ensures again { IfPending result (λ waits. (waits.client ≡ self.client) × (waits.ticket ≡ self.ticket)) }
         ensures causes { IfFailed result (IsPollRefusal (X.faults out.old) (X.faults out.new)) }
         ensures counts { (X.faults out.old ≤ X.faults out.new) × (X.refusals out.old ≤ X.refusals out.new) }
     {
@@ -99,6 +102,7 @@ impl<C: Depth + Drop, O: Drop, H: Ledger, L: Loans> AcquiringOf<C, O, H, L> {
         ensures parts { tally.new.parts ≡ tally.old.parts }
         ensures loans { tally.new.loans + one_if (has_lent begun) ≡ tally.old.loans + one_if (is_ready result) }
         ensures flat { IfReady result (λ conn. C.levels conn.raw ≡ 0) }
+        ensures again { IfPending result (λ waits. (waits.client ≡ self.client) × (waits.ticket ≡ self.ticket)) }
         ensures causes { IfFailed result (IsPollRefusal (X.faults out.old) (X.faults out.new)) }
         ensures counts { (X.faults out.old ≤ X.faults out.new) × (X.refusals out.old ≤ X.refusals out.new) }
     {

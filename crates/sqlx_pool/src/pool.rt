@@ -7,6 +7,7 @@ ghost use Rattle.sqlx_log.specs.FairLog.{IsFair};
 ghost use Rattle.sqlx_log.specs.Marks.{is_open, idle_of};
 ghost use Rattle.sqlx_pool_core.specs.Balance.{lents};
 ghost use Rattle.sqlx_pool_core.specs.MaintenanceSteps.{close_state_of};
+ghost use Rattle.sqlx_pool.specs.Answers.{IsNextTicket};
 ghost use Rattle.sqlx_pool.specs.Booked.{CountsIf};
 ghost use Rattle.sqlx_pool.specs.Opened.{IsOpenable};
 ghost use Rattle.sqlx_pool.specs.MarkLog.{IsCopyOf, IsUncut};
@@ -121,7 +122,8 @@ impl<C: Depth + Drop, O: Drop, H: Ledger, L: Loans> PoolOf<C, O, H, L> {
         now: Moment,
         client: u32,
     ) -> Result<AcquiringOf<C, O, H, L>, Error>
-        ensures { IfErr result (IsAskRefusal (Saw C.levels L.max L.cuts IsClosed) (Saw C.levels L.max L.cuts AreTicketsUsed)) }
+        ensures asked { IfOk result (λ waits. (waits.client ≡ client) × Saw C.levels L.max L.cuts (IsNextTicket waits.ticket)) }
+        ensures refused { IfErr result (IsAskRefusal (Saw C.levels L.max L.cuts IsClosed) (Saw C.levels L.max L.cuts AreTicketsUsed)) }
     {
         let Ok(pool) = self.try_clone() else {
             return Err(Error::OutOfMemory);

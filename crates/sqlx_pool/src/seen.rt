@@ -7,7 +7,7 @@ ghost use Rattle.sqlx_log.specs.EventTable.{size_at, closed_at};
 ghost use Rattle.sqlx_log.specs.FairLog.{IsFair};
 ghost use Rattle.sqlx_pool_core.specs.MaintenanceSteps.{close_state_of, idle_conn};
 ghost use Rattle.sqlx_pool_core.specs.PollSteps.{phase_for, may_cancel};
-ghost use Rattle.sqlx_pool.specs.Answers.{lent_alone};
+ghost use Rattle.sqlx_pool.specs.Answers.{IsNextTicket, lent_alone};
 ghost use Rattle.sqlx_pool.specs.Booked.{CountsIf};
 ghost use Rattle.sqlx_pool.specs.MarkLog.{IsCopyOf, IsUncut};
 ghost use Rattle.sqlx_pool.specs.Refusals.{AreLoansUsed, AreTicketsUsed, IsAskRefusal, IsClosed, IsTryRefusal};
@@ -74,7 +74,8 @@ impl<C: Depth, O, H: Ledger, L: Loans> Locked<C, O, H, L> {
     }
     // Asks for a connection.
     pub(crate) fn seen_ask(&mut self, alloc: Global, now: Moment, client: u32) -> Result<u64, Error>
-        ensures { IfErr result (IsAskRefusal (Saw C.levels L.max L.cuts IsClosed) (Saw C.levels L.max L.cuts AreTicketsUsed)) }
+        ensures asked { IfOk result (λ ticket. Saw C.levels L.max L.cuts (IsNextTicket ticket)) }
+        ensures refused { IfErr result (IsAskRefusal (Saw C.levels L.max L.cuts IsClosed) (Saw C.levels L.max L.cuts AreTicketsUsed)) }
     {
         self.facts();
         self.ask(alloc, now, client)
