@@ -1,8 +1,7 @@
 -- A state stands whatever its connect options are, no pool owns more permits than its family has, a child that was added has
 -- the name that it got, and a pool that nobody added has no ticket.
-use Rattle.std.proofs.Common.{◌≡◌, ◌∙◌, ◌⊎◌, ◌↔◌, ◌^◌, ◌<◌, ℕ, ◌≤◌, ◌&&◌, Bool, true, false, not, min, nat_lt, inl, inr, Option, Some, None, is_some, Result, Ok, Err, IfOk, IfErr, OnOk, length, sum_by, ap, refl, subst, sym, arith}
+use Rattle.std.proofs.Common.{◌≡◌, ◌∙◌, ◌⊎◌, ◌^◌, ℕ, ◌≤◌, ◌&&◌, Bool, true, false, not, min, nat_lt, inl, inr, Option, Some, is_some, Result, Ok, Err, IfOk, IfErr, OnOk, length, sum_by, ap, refl, subst, sym, arith}
 use Rattle.sqlx_text.specs.declared.error.Error.{Error}
-use Rattle.sqlx_text.specs.declared.error.Error.TheVariants as error
 use Rattle.sqlx_pool_core.specs.Core.{size}
 use Rattle.std.proofs.lemmas.Bool.Decides.{leb_tells}
 use Rattle.std.proofs.lemmas.List.{get_or_past, get_or_push}
@@ -16,12 +15,11 @@ use Rattle.sqlx_family.specs.Permits.{owned_by}
 use Rattle.sqlx_family.specs.IsFamily.{permits_of}
 use Rattle.sqlx_family_pool.specs.FamilyState.{FamilyState, IsStanding}
 use Rattle.sqlx_family.specs.RootLine.{has_permit_left}
-use Rattle.sqlx_pool_core.specs.declared.steps.Lent.{Lent}
-use Rattle.sqlx_pool.specs.Answers.{lent_alone}
 use Rattle.sqlx_pool.specs.Places.{back_if, holds_place}
-use Rattle.sqlx_pool.specs.Refusals.{IsAskRefusal, IsTryRefusal}
+use Rattle.sqlx_pool.specs.Refusals.{IsTryRefusal}
+use Rattle.sqlx_pool.proofs.SeenLemmas.{back-why}
 use Rattle.sqlx_family_pool.specs.Seen.{bare_family, SawFamily}
-use Rattle.sqlx_family_pool.specs.Upkeep.{AreLoansUsed, AreTicketsUsed, has_room_in, IsClosedIn, IsFilledIn}
+use Rattle.sqlx_family_pool.specs.Upkeep.{has_room_in, IsFilledIn}
 
 pub standing-bare : {C O : Type 0} (levels : C → ℕ) (max : ℕ) (state : FamilyState C O) → IsStanding levels max state → IsStanding levels max (bare_family state)
 standing-bare levels max state s = record { each = s.each; stand = s.stand; safe = s.safe; rest = s.rest; most = s.most; owned = s.owned; made = s.made }
@@ -49,19 +47,8 @@ pub named-ok : {T E N : Type 0} (P : T → Type 0) (r : Result T E) → (N → I
 named-ok P (Ok x) f = f
 named-ok P (Err e) f = tt
 
--- a share of what is lent past the line doesn't change whether it is lent
-pub some-alone : {C S : Type 0} (lent : Option (Lent C × S)) → is_some (lent_alone lent) ≡ is_some lent
-some-alone None = refl
-some-alone (Some (lent, share)) = refl
-
 never : {A : Type 0} → false ≡ true → A
 never e = absurd cc
-
--- what comes back of a place: it isn't kept as the pool is closed, or as no place is held
-back-why : {C : Type 0} (held shut : Bool) (raw : C) → is_some (back_if held shut (Some raw)) ≡ true → (shut ≡ true) ⊎ (held ≡ false)
-back-why true true raw e = inl refl
-back-why true false raw e = never e
-back-why false shut raw e = inr refl
 
 -- a pool that counts as closed has no place
 closed-full : {C O : Type 0} (pool : ℕ) (state : FamilyState C O) (closed : Bool) → counts_as_closed pool state.family ≡ closed → closed ≡ true → has_room_in pool state ≡ false
@@ -76,22 +63,6 @@ back-filled pool state raw back is some = by (back-why (holds_place (pool_in poo
     by (inl closed) = inl (closed-full pool state (counts_as_closed pool state.family) refl closed)
     by (inr none) = inr none
 
-module _ {C O T : Type 0} (levels : C → ℕ) (max : ℕ) (state : FamilyState C O) (stands : IsStanding levels max state) where
-  -- why an ask is refused was seen
-  pub ask-refused : (pool : ℕ) (r : Result T Error) → ((r ≡ Err error.PoolClosed) ↔ (counts_as_closed pool state.family ≡ true)) → ((r ≡ Err error.Exhausted) ↔ ((counts_as_closed pool state.family ≡ false) × (2 ^ 63 < state.family.shared.next_ticket)))
-      → IfErr r (λ e. (e ≡ error.PoolClosed) ⊎ ((e ≡ error.Exhausted) ⊎ (e ≡ error.OutOfMemory))) → IfErr r (IsAskRefusal (SawFamily levels max (IsClosedIn pool)) (SawFamily levels max AreTicketsUsed))
-  ask-refused pool (Ok x) closed used why = tt
-  ask-refused pool (Err e) closed used (inl is) = inl (is, saw-here levels max state stands _ (closed.0 (ap Err is)))
-  ask-refused pool (Err e) closed used (inr (inl is)) = inr (inl (is, saw-here levels max state stands _ (used.0 (ap Err is)).1))
-  ask-refused pool (Err e) closed used (inr (inr is)) = inr (inr is)
-
-  -- why a loan past the line is refused was seen
-  pub try-refused : {P : Type 0} (r : Result T Error) → ((r ≡ Err error.Exhausted) ↔ (P × (2 ^ 62 ≤ state.booked.made)))
-      → IfErr r (λ e. (e ≡ error.Exhausted) ⊎ (e ≡ error.OutOfMemory)) → IfErr r (IsTryRefusal (SawFamily levels max AreLoansUsed))
-  try-refused (Ok x) used why = tt
-  try-refused (Err e) used (inl is) = inl (is, saw-here levels max state stands _ (used.0 (ap Err is)).1)
-  try-refused (Err e) used (inr is) = inr is
-
-  -- a pool without a name refuses no loan past the line
-  pub unnamed-try : (r : Result T Error) (x : T) → r ≡ Ok x → IfErr r (IsTryRefusal (SawFamily levels max AreLoansUsed))
-  unnamed-try r x is = subst (λ (r : Result T Error). IfErr r (IsTryRefusal (SawFamily levels max AreLoansUsed))) (sym is) tt
+-- a loan past the line that came to nothing wasn't refused
+pub not-refused : {T : Type 0} (used : Type 0) (r : Result T Error) (x : T) → r ≡ Ok x → IfErr r (IsTryRefusal used)
+not-refused {T} used r x is = subst (λ (r : Result T Error). IfErr r (IsTryRefusal used)) (sym is) tt

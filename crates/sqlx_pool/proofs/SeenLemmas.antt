@@ -1,21 +1,20 @@
 -- A state stands whatever its connect options are.
-use Rattle.std.proofs.Common.{◌≡◌, ◌⊎◌, ◌↔◌, ◌∙◌, ◌^◌, ◌<◌, ◌≤◌, ℕ, Bool, true, false, Option, Some, None, is_some, option_map, Result, Ok, Err, IfOk, IfErr, inl, inr, refl, sym, ap, subst}
+use Rattle.std.proofs.Common.{◌≡◌, ◌⊎◌, ◌∙◌, ℕ, Bool, true, false, Option, Some, None, is_some, option_map, Result, Ok, Err, IfOk, IfErr, inl, inr, refl, sym, ap, subst}
 use Rattle.std.specs.List.{list_any}
 use Rattle.sqlx_text.specs.declared.OutOfMemory.{OutOfMemory}
 use Rattle.sqlx_text.specs.declared.error.Error.{Error}
 use Rattle.sqlx_text.specs.declared.error.Error.TheVariants as error
 use Rattle.sqlx_log.specs.EventTable.{free_at, may_open, size_at}
 use Rattle.sqlx_log.specs.Counts.{waiting_in}
-use Rattle.sqlx_log.specs.Marks.{is_open, is_shut, next_ticket, next_conn, tickets_of}
+use Rattle.sqlx_log.specs.Marks.{is_shut, next_conn, tickets_of}
 use Rattle.sqlx_pool_core.specs.Limits.{limits_of}
 use Rattle.sqlx_pool_core.specs.declared.steps.Lent.{Lent}
-use Rattle.sqlx_pool_core.specs.Answers.{lent_conn}
 use Rattle.sqlx_pool.specs.Answers.{lent_alone}
 use Rattle.sqlx_pool.specs.declared.mark_log.MarkLog.{MarkLog}
 use Rattle.sqlx_pool.specs.MarkLog.{IsCopyOf}
 use Rattle.sqlx_pool.specs.Places.{back_if, holds_place}
 use Rattle.sqlx_pool.specs.Seen.{bare, Saw}
-use Rattle.sqlx_pool.specs.Refusals.{AreLoansUsed, AreTicketsUsed, IsAskRefusal, IsClosed, IsTryRefusal}
+use Rattle.sqlx_pool.specs.Refusals.{IsAskRefusal, IsTryRefusal}
 use Rattle.sqlx_pool.specs.State.{PoolState, IsStanding, start_of, since_start}
 use Rattle.sqlx_pool.specs.Upkeep.{has_room, IsFilled}
 
@@ -30,7 +29,7 @@ never : {A : Type 0} → false ≡ true → A
 never e = absurd cc
 
 -- what comes back of a place: it isn't kept as the pool is closed, or as no place is held
-back-why : {C : Type 0} (held shut : Bool) (raw : C) → is_some (back_if held shut (Some raw)) ≡ true → (shut ≡ true) ⊎ (held ≡ false)
+pub back-why : {C : Type 0} (held shut : Bool) (raw : C) → is_some (back_if held shut (Some raw)) ≡ true → (shut ≡ true) ⊎ (held ≡ false)
 back-why true true raw e = inl refl
 back-why true false raw e = never e
 back-why false shut raw e = inr refl
@@ -56,22 +55,26 @@ log-copied state (Ok log) start before marks = record { start = start; before = 
 log-copied state (Err e) start before marks = tt
 
 -- a share of what is lent past the line doesn't change whether it is lent
-pub some-alone : {C S : Type 0} (lent : Option (Lent C × S)) → is_some (option_map lent_conn (lent_alone lent)) ≡ is_some lent
+pub some-alone : {C S : Type 0} (lent : Option (Lent C × S)) → is_some (lent_alone lent) ≡ is_some lent
 some-alone None = refl
 some-alone (Some (lent, share)) = refl
 
-module _ {C O T : Type 0} (levels : C → ℕ) (max : ℕ) (cuts : Bool) (state : PoolState C O) (stands : IsStanding levels max cuts state) where
-  -- why an ask is refused was seen
-  pub ask-refused : (r : Result T Error) → ((r ≡ Err error.PoolClosed) ↔ (is_open state.marks ≡ false)) → ((r ≡ Err error.Exhausted) ↔ ((is_open state.marks ≡ true) × (2 ^ 63 < next_ticket state.marks)))
-      → IfErr r (λ e. (e ≡ error.PoolClosed) ⊎ ((e ≡ error.Exhausted) ⊎ (e ≡ error.OutOfMemory))) → IfErr r (IsAskRefusal (Saw levels max cuts IsClosed) (Saw levels max cuts AreTicketsUsed))
-  ask-refused (Ok x) closed used why = tt
-  ask-refused (Err e) closed used (inl is) = inl (is, saw-here levels max cuts state stands _ (closed.0 (ap Err is)))
-  ask-refused (Err e) closed used (inr (inl is)) = inr (inl (is, saw-here levels max cuts state stands _ (used.0 (ap Err is)).1))
-  ask-refused (Err e) closed used (inr (inr is)) = inr (inr is)
+-- nor does it matter by which of its parts it is told
+pub some-told : {A B : Type 0} (f : A → B) (x : Option A) → is_some (option_map f x) ≡ is_some x
+some-told f None = refl
+some-told f (Some x) = refl
 
-  -- why a loan past the line is refused was seen
-  pub try-refused : {P : Type 0} (r : Result T Error) → ((r ≡ Err error.Exhausted) ↔ (P × (2 ^ 62 ≤ state.booked.made)))
-      → IfErr r (λ e. (e ≡ error.Exhausted) ⊎ (e ≡ error.OutOfMemory)) → IfErr r (IsTryRefusal (Saw levels max cuts AreLoansUsed))
-  try-refused (Ok x) used why = tt
-  try-refused (Err e) used (inl is) = inl (is, saw-here levels max cuts state stands _ (used.0 (ap Err is)).1)
-  try-refused (Err e) used (inr is) = inr is
+-- why an ask is refused was seen, where each refusal is one that was seen
+pub ask-refused : {T closed used : Type 0} (r : Result T Error) → (r ≡ Err error.PoolClosed → closed) → (r ≡ Err error.Exhausted → used)
+    → IfErr r (λ e. (e ≡ error.PoolClosed) ⊎ ((e ≡ error.Exhausted) ⊎ (e ≡ error.OutOfMemory))) → IfErr r (IsAskRefusal closed used)
+ask-refused (Ok x) shut full why = tt
+ask-refused (Err e) shut full (inl is) = inl (is, shut (ap Err is))
+ask-refused (Err e) shut full (inr (inl is)) = inr (inl (is, full (ap Err is)))
+ask-refused (Err e) shut full (inr (inr is)) = inr (inr is)
+
+-- so for a loan past the line
+pub try-refused : {T used : Type 0} (r : Result T Error) → (r ≡ Err error.Exhausted → used)
+    → IfErr r (λ e. (e ≡ error.Exhausted) ⊎ (e ≡ error.OutOfMemory)) → IfErr r (IsTryRefusal used)
+try-refused (Ok x) full why = tt
+try-refused (Err e) full (inl is) = inl (is, full (ap Err is))
+try-refused (Err e) full (inr is) = inr is

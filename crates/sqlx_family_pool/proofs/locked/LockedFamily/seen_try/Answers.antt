@@ -1,7 +1,8 @@
 use Rattle.std.proofs.Common.{◌∙◌, inl, inr, is_some, length, sym, ap}
 use Rattle.std.proofs.lemmas.Result.{IfOk-weaker}
 use Rattle.std.proofs.lemmas.Bool.Decides.{leb_tells}
-use Rattle.sqlx_family_pool.proofs.SeenLemmas.{named-ok, saw-here, try-refused, unnamed-try, some-alone}
+use Rattle.sqlx_pool.proofs.SeenLemmas.{some-alone, try-refused}
+use Rattle.sqlx_family_pool.proofs.SeenLemmas.{named-ok, not-refused, saw-here}
 use Rattle.sqlx_family_pool.proofs.locked.LockedFamily.seen_try.Goals as goal
 
 pub returns-clause-saw : goal.returns-clause-saw
@@ -9,6 +10,6 @@ returns-clause-saw g c = IfOk-weaker c.try_acquire.result _ _ (λ lent is. saw-h
 
 pub returns-clause-refused : goal.returns-clause-refused
 returns-clause-refused g c = elim (leb_tells (length c.args.self.now.family.pools) c.args.pool) [
-  | inl past ↦ unnamed-try _ _ c.args.self.now c.facts.ensures c.try_acquire.result _ (c.try_acquire.ensures.unnamed past.1).0
-  | inr lt ↦ try-refused _ _ c.args.self.now c.facts.ensures c.try_acquire.result (c.try_acquire.ensures.exhausted lt.1) c.try_acquire.ensures.causes
+  | inl past ↦ not-refused _ c.try_acquire.result _ (c.try_acquire.ensures.unnamed past.1).0
+  | inr lt ↦ try-refused c.try_acquire.result (λ e. saw-here _ _ c.args.self.now c.facts.ensures _ ((c.try_acquire.ensures.exhausted lt.1).0 e).1) c.try_acquire.ensures.causes
 ]

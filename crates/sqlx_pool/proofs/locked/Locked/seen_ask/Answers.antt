@@ -6,4 +6,4 @@ pub returns-clause-asked : goal.returns-clause-asked
 returns-clause-asked g c = IfOk-weaker c.ask.result _ _ (λ ticket is. saw-here _ _ _ c.args.self.now c.facts.ensures _ is) c.ask.ensures.numbered
 
 pub returns-clause-refused : goal.returns-clause-refused
-returns-clause-refused g c = ask-refused _ _ _ c.args.self.now c.facts.ensures c.ask.result c.ask.ensures.closed c.ask.ensures.exhausted c.ask.ensures.causes
+returns-clause-refused g c = ask-refused c.ask.result (λ e. saw-here _ _ _ c.args.self.now c.facts.ensures _ (c.ask.ensures.closed.0 e)) (λ e. saw-here _ _ _ c.args.self.now c.facts.ensures _ (c.ask.ensures.exhausted.0 e).1) c.ask.ensures.causes
