@@ -2,8 +2,8 @@
 use Rattle.std.proofs.Common.{◌≡◌, IfOk, OnOk, Result, Ok, Err, ap, ◌∙◌}
 use Rattle.sqlx_script.specs.declared.reply.Reply.{Reply}
 use Rattle.mem_store.specs.Store.{Link, Session, Store}
-use Rattle.mem_client.specs.ClientActs.{Gives, left_by, reply_on}
-use Rattle.mem_client.specs.declared.acts.Act.{Act}
+use Rattle.mem_acts.specs.ClientActs.{Gives, left_by, reply_on}
+use Rattle.mem_acts.specs.declared.act.Act.{Act}
 
 module _ {E : Type 0} (act : Act) (given before after : Session) (result : Result Reply E) (is : before ≡ given) (gives : Gives act before result after) where
   told : (result : Result Reply E) → Gives act before result after → IfOk result (λ reply. reply ≡ reply_on act given)

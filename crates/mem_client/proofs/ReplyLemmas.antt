@@ -12,10 +12,10 @@ use Rattle.mem_store.specs.Store.{Session}
 use Rattle.mem_store.specs.Acts.{refusal_of, seen_by}
 use Rattle.mem_store.specs.Errors.{error_of}
 use Rattle.mem_driver.specs.Answers.{result_of}
-use Rattle.mem_client.specs.ClientActs.{Gives, GivesThis, LeavesWanting, found_reply, left_by, left_met, ran_reply, refused_reply, reply_met, reply_on}
+use Rattle.mem_acts.specs.ClientActs.{Gives, GivesThis, LeavesWanting, found_reply, left_by, left_met, ran_reply, refused_reply, reply_met, reply_on}
 use Rattle.mem_client.specs.Told.{Answered, Comes, Finds, after_met, by_refusal, found, reply_to, told_reply, written_reply}
-use Rattle.mem_client.specs.declared.acts.Act.{Act}
-use Rattle.mem_client.specs.declared.acts.Act.TheVariants.{Put, Delete, Get}
+use Rattle.mem_acts.specs.declared.act.Act.{Act}
+use Rattle.mem_acts.specs.declared.act.Act.TheVariants.{Put, Delete, Get}
 
 -- a refusal is told by its reply
 pub told_refused : (reason : Refusal) → told_reply (error_of reason) ≡ Some (refused_reply reason)

@@ -1,3 +1,2 @@
 pub mod Bound
-pub mod ClientActs
 pub mod Told

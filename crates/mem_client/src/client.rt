@@ -1,10 +1,10 @@
 //! A client at its connection.
 ghost use Rattle.std.specs.Prelude.{◌≡◌};
-ghost use Rattle.mem_client.specs.ClientActs.{Gives};
+ghost use Rattle.mem_acts.specs.ClientActs.{Gives};
 
-use crate::acts::Act;
 use crate::levels::{begin, commit, custom, give_up, rollback};
 use crate::statements::{delete, get, put};
+use mem_acts::Act;
 use mem_driver::MemSession;
 use sqlx_any::AnyConnection;
 use sqlx_script::Reply;

@@ -5,11 +5,11 @@ ghost use Rattle.sqlx_tx.specs.Begun.{levels_after};
 ghost use Rattle.mem_driver.specs.Asked.{asked};
 ghost use Rattle.mem_driver.specs.Backend.{Does};
 ghost use Rattle.mem_driver.specs.Session.{depth};
-ghost use Rattle.mem_client.specs.ClientActs.{Gives, left_by, reply_on, statement_at};
+ghost use Rattle.mem_acts.specs.ClientActs.{Gives, left_by, reply_on, statement_at};
 ghost use Rattle.mem_client.specs.Told.{Answered, reply_to};
 
-use crate::acts::Act;
 use crate::told::told;
+use mem_acts::Act;
 use mem_driver::{MemSession, SELECT_ONE, begin_at, commit_at, rollback_at};
 use sqlx_any::{Any, AnyConnection};
 use sqlx_savepoints::LevelText;

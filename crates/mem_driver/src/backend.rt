@@ -7,10 +7,9 @@ ghost use Rattle.sqlx_traits.specs.StepList.{StepCauses};
 
 use crate::asked::asked;
 use crate::counted;
-use crate::levels::begin_at;
 use crate::prepared::prepared;
 use crate::session::MemSession;
-use mem_store::{Refusal, statement_of};
+use mem_store::{Refusal, begin_at, statement_of};
 use sqlx_any::{
     Any, AnyArguments, AnyConnectionBackend, AnyRow, AnyStatement, AnyTypeInfo, Faults, Fetch,
     FetchMany, StepList,

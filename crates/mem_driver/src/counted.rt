@@ -6,8 +6,8 @@ ghost use Rattle.mem_store.specs.Undo.{CountsFall};
 ghost use Rattle.mem_driver.specs.Backend.{Does};
 ghost use Rattle.mem_driver.specs.Session.{depth, rolled_back, undo};
 
-use crate::levels::{commit_at, rollback_at};
 use crate::session::MemSession;
+use mem_store::{commit_at, rollback_at};
 use sqlx_line::Steps;
 use sqlx_text::Error;
 use std::sync::ledger::{Blank, Ledger};

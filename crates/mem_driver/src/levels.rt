@@ -2,7 +2,6 @@
 ghost use Rattle.std.specs.Prelude.{◌≡◌, ◌≢◌, ◌≤◌, ◌<◌, ◌-◌, ◌+◌, Err, Some, None, IfErr, OnErr, OnOk};
 ghost use Rattle.sqlx_text.specs.declared.error.Error.{Error};
 ghost use Rattle.sqlx_traits.specs.Faults.{BeginCause, FaultCause, HasRisen};
-ghost use Rattle.sqlx_savepoints.specs.Texts as texts;
 ghost use Rattle.mem_store.specs.Acts.{level_refusal, refusal_of};
 ghost use Rattle.mem_store.specs.Store.{state_of};
 ghost use Rattle.mem_store.specs.Undo.{Counts};
@@ -18,41 +17,6 @@ use sqlx_line::Steps;
 use sqlx_savepoints::LevelText;
 use sqlx_text::{Error, OutOfMemory, SqlStr};
 use std::sync::ledger::Ledger;
-
-/// The text that begins a level at this depth.
-pub fn begin_at(depth: usize) -> LevelText
-    ensures { result ≡ texts.begin_at depth }
-{
-    if depth == 0 {
-        LevelText::Begin
-    } else {
-        LevelText::Savepoint(depth as u64)
-    }
-}
-
-/// The text that commits the innermost level.
-pub fn commit_at(depth: usize) -> LevelText
-    requires { 1 ≤ depth }
-    ensures { result ≡ texts.commit_at depth }
-{
-    if depth == 1 {
-        LevelText::Commit
-    } else {
-        LevelText::Release(depth as u64 - 1)
-    }
-}
-
-/// The text that rolls the innermost level back.
-pub fn rollback_at(depth: usize) -> LevelText
-    requires { 1 ≤ depth }
-    ensures { result ≡ texts.rollback_at depth }
-{
-    if depth == 1 {
-        LevelText::Rollback
-    } else {
-        LevelText::RollbackTo(depth as u64 - 1)
-    }
-}
 
 impl MemSession {
     /// Begins a level by its text.

@@ -12,11 +12,10 @@ mod open;
 mod prepared;
 mod session;
 
-pub use levels::{begin_at, commit_at, rollback_at};
 pub use link::MemLink;
 pub use mem_store::{
     Answer, DELETE, GET, MemStore, PUT, Runs, SELECT_ALL, SELECT_ONE, Statement, StoreLink,
-    statement_of,
+    begin_at, commit_at, rollback_at, statement_of,
 };
 pub use session::MemSession;
 pub use sqlx_any::{Any, AnyConnection};

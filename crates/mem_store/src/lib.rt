@@ -5,6 +5,7 @@
 mod act;
 mod answer;
 pub mod laws;
+mod levels;
 mod link;
 mod refusal;
 mod rows;
@@ -18,6 +19,7 @@ mod writes;
 
 pub use act::{Act, with_arguments};
 pub use answer::Answer;
+pub use levels::{begin_at, commit_at, rollback_at};
 pub use link::StoreLink;
 pub use refusal::Refusal;
 pub use runs::Runs;

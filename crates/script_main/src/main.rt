@@ -2,7 +2,7 @@
 //! output. It stands on the player, and knows no threads and no words.
 #![tactic(auto)]
 
-use sqlx_play::{PlayError, StdSink, StdSource, play, status};
+use sqlx_play::{ByStore, PlayError, StdSink, StdSource, play_by, status};
 use std::io;
 use std::io::BufWriter;
 use std::process::ExitCode;
@@ -15,7 +15,7 @@ fn play_input(rt: &HostRuntime) -> Result<(), PlayError> {
     };
     let mut source = StdSource::new(rt.reader());
     let mut sink = StdSink::new(buffer);
-    let answer = match play(alloc, &mut source, &mut sink) {
+    let answer = match play_by::<ByStore, _, _>(alloc, &mut source, &mut sink) {
         Ok(played) => {
             drop(played);
             Ok(())

@@ -9,7 +9,7 @@ ghost use Rattle.mem_store.specs.Store.{Link};
 ghost use Rattle.sqlx_play.specs.outside.ScriptCalls.{Does, does-facts};
 ghost use Rattle.sqlx_play.specs.outside.ScriptOutside.{beside, depth_of, give_letters, is_left_open, next_connect, poll_letters, refused_by};
 
-use mem_client::{ClientLink, MemStore};
+use mem_acts::{ClientLink, MemStore};
 use sqlx_pool_core::{Outside, PoolConnectionMetadata};
 use sqlx_script::{AfterConnectAnswer, ConnectAnswer, GiveAnswers, HookAnswer, PollAnswers};
 use sqlx_text::{DatabaseFault, Error, ErrorKind, IoFault, UStr};
@@ -17,7 +17,7 @@ use std::alloc::Global;
 
 /// The outside of the pool on which a script is played. It answers by the present line, and tells these answers. The
 /// first tests of a poll, as many as its line tells, are answered by its letters, and each later one is accepted. Any
-/// other second call of a kind within a line is answered as the first was. Made by [`play`](crate::play) alone.
+/// other second call of a kind within a line is answered as the first was. Made by [`play_by`](crate::play_by) alone.
 #[derive(Drop)]
 pub struct ScriptOutside {
     pub(crate) store: MemStore,

@@ -13,7 +13,7 @@ use crate::error::PlayError;
 use crate::io::{Sink, Source};
 use crate::pour::{read_all, write_all};
 use crate::stage::{Stage, answer, new_stage, report};
-use mem_client::{ClientLink, MemStore};
+use mem_acts::{ClientLink, MemStore, Route};
 use sqlx_pool_core::PoolCore;
 use sqlx_script::{Event, cut_line, read_event, read_pool_line};
 use std::alloc::Global;
@@ -45,7 +45,7 @@ fn write_line<K: Sink, T: Display>(
 
 // Plays an event and writes its reply.
 #[tactic(auto, using(crate::proofs::scripts::Parts::none_yet))]
-fn play_event<K: Sink>(
+fn play_event<R: Route, K: Sink>(
     alloc: Global,
     stage: &mut Stage,
     event: &Event,
@@ -60,12 +60,12 @@ fn play_event<K: Sink>(
     ensures rises { K.faults sink.old ≤ K.faults sink.new }
     ensures cause { IfErr result (TextCause (λ _. ⊥) (RepliesInPart (K.written sink.old) (K.written sink.new) stage.old event.now) (K.faults sink.old) (K.faults sink.new)) }
 {
-    let reply = answer(stage, alloc, event)?;
+    let reply = answer::<R>(stage, alloc, event)?;
     write_line(line, sink, &reply)
 }
 
 // Plays the lines after the first.
-fn play_lines<K: Sink>(
+fn play_lines<R: Route, K: Sink>(
     alloc: Global,
     stage: &mut Stage,
     text: &[u8],
@@ -89,7 +89,7 @@ fn play_lines<K: Sink>(
             Some(event) if event.moment.0 >= last => event,
             _ => return Err(PlayError::ScriptLine(number)),
         };
-        if let Err(error) = play_event(alloc, stage, &event, reply, sink) {
+        if let Err(error) = play_event::<R, K>(alloc, stage, &event, reply, sink) {
             return Err(error);
         }
         rest = after;
@@ -112,7 +112,11 @@ fn played_on(stage: Stage) -> Played
 }
 
 // Plays a script that was read whole.
-fn play_text<K: Sink>(alloc: Global, text: &[u8], sink: &mut K) -> Result<Played, PlayError>
+fn play_text<R: Route, K: Sink>(
+    alloc: Global,
+    text: &[u8],
+    sink: &mut K,
+) -> Result<Played, PlayError>
     requires { length text.now ≤ limit }
     ensures ok { IfOk result (λ played. Plays text.now (K.written sink.old) (K.written sink.new) played.core played.store) }
     ensures rises { K.faults sink.old ≤ K.faults sink.new }
@@ -127,7 +131,7 @@ fn play_text<K: Sink>(alloc: Global, text: &[u8], sink: &mut K) -> Result<Played
     };
     let mut stage = new_stage(alloc, pool)?;
     let mut reply = String::new(alloc);
-    if let Err(error) = play_lines(alloc, &mut stage, rest, &mut reply, sink) {
+    if let Err(error) = play_lines::<R, K>(alloc, &mut stage, rest, &mut reply, sink) {
         drop(stage);
         return Err(error);
     }
@@ -139,7 +143,7 @@ fn play_text<K: Sink>(alloc: Global, text: &[u8], sink: &mut K) -> Result<Played
 }
 
 // Reads a script to its end and plays it.
-fn play_source<S: Source, K: Sink>(
+fn play_source<R: Route, S: Source, K: Sink>(
     alloc: Global,
     source: &mut S,
     sink: &mut K,
@@ -151,12 +155,13 @@ fn play_source<S: Source, K: Sink>(
     ensures cause { IfErr result (PlayCause (shown S.left S.faults source.old source.new K.written K.faults sink.old sink.new)) }
 {
     let text = read_all(alloc, source)?;
-    play_text(alloc, &text, sink)
+    play_text::<R, K>(alloc, &text, sink)
 }
 
-/// Reads a script to its end, plays it, and writes each reply and the closing report.
+/// Reads a script to its end, plays it, and writes each reply and the closing report. The acts of clients take the way
+/// R to the database; the replies are the same by any.
 #[tactic(auto, using(crate::proofs::scripts::Complete::is_complete))]
-pub fn play<S: Source, K: Sink>(
+pub fn play_by<R: Route, S: Source, K: Sink>(
     alloc: Global,
     source: &mut S,
     sink: &mut K,
@@ -171,5 +176,5 @@ pub fn play<S: Source, K: Sink>(
     ensures reads_rise { S.faults source.old ≤ S.faults source.new }
     ensures writes_rise { K.faults sink.old ≤ K.faults sink.new }
 {
-    play_source(alloc, source, sink)
+    play_source::<R, S, K>(alloc, source, sink)
 }

@@ -14,7 +14,7 @@ mod upkeep;
 use crate::error::PlayError;
 use crate::outside::ScriptOutside;
 use crate::stage::loans::lent::LentList;
-use mem_client::{ClientLink, MemStore};
+use mem_acts::{ClientLink, MemStore, Route};
 use sqlx_pool_core::{PoolCore, PoolOptions};
 use sqlx_script::{Event, PoolLine, Reply, Report, Step};
 use std::alloc::Global;
@@ -67,7 +67,7 @@ pub fn new_stage(alloc: Global, pool: PoolLine) -> Result<Stage, PlayError>
 }
 
 /// One event on the stage.
-pub fn answer(stage: &mut Stage, alloc: Global, event: &Event) -> Result<Reply, PlayError>
+pub fn answer<R: Route>(stage: &mut Stage, alloc: Global, event: &Event) -> Result<Reply, PlayError>
     requires few { has_few_opens event.now.step ≡ true }
     requires numbers { numbers_of stage.old ≤ 2 ^ 62 }
     requires in_order { last_of stage.old ≤ event.now.moment.0 }
@@ -128,7 +128,7 @@ pub fn answer(stage: &mut Stage, alloc: Global, event: &Event) -> Result<Reply, 
         | Step::Get { .. }
         | Step::Commit { .. }
         | Step::Rollback { .. }
-        | Step::GiveUp { .. } => loans::statements::play(stage, alloc, event),
+        | Step::GiveUp { .. } => loans::statements::play::<R>(stage, alloc, event),
     }
 }
 

@@ -4,12 +4,14 @@
 mod command;
 mod crowd;
 mod make;
+mod play;
 mod program;
 mod worker;
 
 pub use command::{Command, command_of};
+pub use play::play;
 pub use program::run;
 pub use sqlx_play::{
     Failed, MemSink, MemSource, PlayError, Played, ScriptOutside, Sink, Source, StdSink, StdSource,
-    SureSink, SureSource, laws, play, status,
+    SureSink, SureSource, laws, play_by, status,
 };

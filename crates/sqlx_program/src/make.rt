@@ -8,8 +8,9 @@ ghost use Rattle.sqlx_play.specs.Causes.{TextCause, WrotePart};
 ghost use Rattle.sqlx_program.specs.MadeRuns.{Summarizes, summary_due};
 ghost use Rattle.sqlx_play.specs.declared.error.PlayError.TheVariants.{OutOfMemory as out_of_memory};
 
+use crate::play::play;
 use sqlx_made::{made_script, made_summary};
-use sqlx_play::{PlayError, Sink, SureSink, SureSource, play, write_all};
+use sqlx_play::{PlayError, Sink, SureSink, SureSource, write_all};
 use std::alloc::Global;
 
 // Plays the made script in memory.

@@ -1,11 +1,12 @@
-//! Plays recorded scripts, and tells which of them come out otherwise than recorded.
+//! Plays recorded scripts by each way to the database, and tells which of them come out otherwise than recorded.
 //! The file `folders` names the folders that are played; a folder's `list` has a line for each script: its name, and what it is to end with.
 #![tactic(auto)]
 
 mod outcome;
 
+use mem_client::ByDriver;
 use outcome::outcome;
-use sqlx_play::{PlayError, SureSink, SureSource, play};
+use sqlx_play::{ByStore, PlayError, Route, SureSink, SureSource, play_by};
 use std::alloc::Global;
 use std::{fs, io};
 
@@ -27,13 +28,17 @@ impl Tally {
 }
 
 // Plays a script. The pool and the database that it leaves are let go.
-fn played(alloc: Global, source: &mut SureSource, sink: &mut SureSink) -> Result<(), PlayError> {
-    drop(play(alloc, source, sink)?);
+fn played<R: Route>(
+    alloc: Global,
+    source: &mut SureSource,
+    sink: &mut SureSink,
+) -> Result<(), PlayError> {
+    drop(play_by::<R, _, _>(alloc, source, sink)?);
     Ok(())
 }
 
 // Plays a script, and tells a difference from its record.
-fn play_one(
+fn play_one<R: Route>(
     rt: &HostRuntime,
     folder: &str,
     name: &str,
@@ -45,7 +50,7 @@ fn play_one(
     let replies = fs::read(rt, format!(in alloc; "{folder}/{name}.out")?)?;
     let mut source = SureSource::new(script);
     let mut sink = SureSink::new(alloc);
-    let answer = played(alloc, &mut source, &mut sink);
+    let answer = played::<R>(alloc, &mut source, &mut sink);
     let came = outcome(alloc, &answer)?;
     let replies_agree = sink.written() == replies.as_slice();
     let is_same = replies_agree && came.as_str() == wanted;
@@ -60,22 +65,31 @@ fn play_one(
 }
 
 // Plays the scripts of a folder's list.
-fn play_folder(rt: &HostRuntime, folder: &str, tally: &mut Tally) -> io::Result<()> {
+fn play_folder<R: Route>(rt: &HostRuntime, folder: &str, tally: &mut Tally) -> io::Result<()> {
     let list = fs::read_to_string(rt, format!(in rt.alloc(); "{folder}/list")?)?;
     for line in list.lines() {
         match line.split_once(' ') {
-            Some((name, wanted)) => play_one(rt, folder, name, wanted, tally)?,
+            Some((name, wanted)) => play_one::<R>(rt, folder, name, wanted, tally)?,
             None => println!(rt; "{folder}: a line of the list says nothing: {line}")?,
         }
     }
     Ok(())
 }
 
-fn main(rt: HostRuntime) -> io::Result<()> {
+// Plays the scripts of all folders by one way to the database.
+fn play_all<R: Route>(rt: &HostRuntime, way: &str) -> io::Result<()> {
     let mut tally = Tally { same: 0, other: 0 };
-    let folders = fs::read_to_string(&rt, "folders")?;
+    let folders = fs::read_to_string(rt, "folders")?;
     for folder in folders.lines() {
-        play_folder(&rt, folder, &mut tally)?;
+        play_folder::<R>(rt, folder, &mut tally)?;
     }
-    println!(rt; "{} as recorded, {} otherwise", tally.same, tally.other)
+    println!(rt;
+        "{way}: {} as recorded, {} otherwise",
+        tally.same, tally.other
+    )
+}
+
+fn main(rt: HostRuntime) -> io::Result<()> {
+    play_all::<ByDriver>(&rt, "by the driver")?;
+    play_all::<ByStore>(&rt, "straight to the store")
 }

@@ -25,10 +25,10 @@ use Rattle.sqlx_brackets.specs.Links.{linked_after, named_at, moved, SavepointsA
 use Rattle.sqlx_brackets.specs.Events.{others_open, reply_of, change_by, level, ok, deep, busy, not_held, invalid_save_point}
 use Rattle.sqlx_brackets.specs.Events as bracket
 use Rattle.sqlx_brackets.proofs.Linking.{savepoints_read_alike}
-use Rattle.mem_client.specs.declared.acts.Act.{Act}
-use Rattle.mem_client.specs.declared.acts.Act.TheVariants.{Begin, Custom, Put, Delete, Get, Commit, Rollback, GiveUp}
+use Rattle.mem_acts.specs.declared.act.Act.{Act}
+use Rattle.mem_acts.specs.declared.act.Act.TheVariants.{Begin, Custom, Put, Delete, Get, Commit, Rollback, GiveUp}
 use Rattle.sqlx_rules.specs.ScriptLevels.{met_of, written_reply}
-use Rattle.mem_client.specs.ClientActs.{statement_at, found_reply, reply_met, left_met, reply_within, left_within, reply_on, left_by}
+use Rattle.mem_acts.specs.ClientActs.{statement_at, found_reply, reply_met, left_met, reply_within, left_within, reply_on, left_by}
 use Rattle.sqlx_play.specs.events.StatementRuns.{answer_for, act_on, IsMet}
 use Rattle.sqlx_play.proofs.statements.Leaves.{Leaves, session_at, leaves-none, leaves-read, leaves-moved, leaves-written}
 

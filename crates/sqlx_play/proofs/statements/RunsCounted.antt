@@ -13,10 +13,10 @@ use Rattle.sqlx_script.specs.declared.reply.Reply.{Reply}
 use Rattle.sqlx_script.specs.declared.reply.Reply.TheVariants as reply
 use Rattle.sqlx_play.specs.declared.error.PlayError.{PlayError}
 use Rattle.sqlx_play.specs.declared.stage.Stage.{Stage}
-use Rattle.mem_client.specs.declared.acts.Act.{Act}
-use Rattle.mem_client.specs.declared.acts.Act.TheVariants as act
+use Rattle.mem_acts.specs.declared.act.Act.{Act}
+use Rattle.mem_acts.specs.declared.act.Act.TheVariants as act
 use Rattle.sqlx_play.specs.declared.stage.loans.statements.Statement.{Statement}
-use Rattle.mem_client.specs.ClientActs.{statement_at, refused_reply, found_reply, reply_met, left_met, reply_within, reply_on, left_by}
+use Rattle.mem_acts.specs.ClientActs.{statement_at, refused_reply, found_reply, reply_met, left_met, reply_within, reply_on, left_by}
 use Rattle.sqlx_play.specs.ScriptRuns.{runs_after}
 use Rattle.sqlx_play.specs.events.StatementRuns.{done_by, Runs, at_work}
 

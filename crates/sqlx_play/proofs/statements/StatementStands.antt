@@ -33,7 +33,7 @@ use Rattle.sqlx_rules.specs.Tries.{Tries, tried, tries_of}
 use Rattle.sqlx_play.specs.stage.LinksStand.{LinksStand, IsLinkOf}
 use Rattle.sqlx_play.specs.stage.StageStands.{StageStands, IsTried}
 use Rattle.sqlx_play.specs.events.PlaysEvent.{PlaysEvent}
-use Rattle.mem_client.specs.ClientActs.{reply_on, left_by}
+use Rattle.mem_acts.specs.ClientActs.{reply_on, left_by}
 use Rattle.sqlx_play.specs.events.StatementRuns.{act_on, answer_for, IsMet}
 use Rattle.sqlx_play.specs.stage.LentLinks.{is_lent}
 use Rattle.sqlx_play.proofs.links.LentTaken.{none-counted}

@@ -12,9 +12,9 @@ use Rattle.sqlx_script.specs.declared.step.Step.{Step}
 use Rattle.sqlx_script.specs.declared.step.Step.TheVariants.{Begin, Custom, Put, Del, Get, Commit, Rollback, GiveUp}
 use Rattle.sqlx_script.specs.declared.reply.Reply.{Reply}
 use Rattle.sqlx_script.specs.declared.reply.Reply.TheVariants.{NotHeld}
-use Rattle.mem_client.specs.declared.acts.Act.{Act}
-use Rattle.mem_client.specs.declared.acts.Act.TheVariants as act
-use Rattle.mem_client.specs.ClientActs.{reply_on, left_by}
+use Rattle.mem_acts.specs.declared.act.Act.{Act}
+use Rattle.mem_acts.specs.declared.act.Act.TheVariants as act
+use Rattle.mem_acts.specs.ClientActs.{reply_on, left_by}
 use Rattle.sqlx_play.specs.declared.stage.Stage.{Stage}
 use Rattle.sqlx_play.specs.declared.stage.loans.statements.Statement.{Statement}
 use Rattle.sqlx_rules.specs.ScriptLevels as levels

@@ -1,10 +1,10 @@
 //! What a client does on a connection that it owns, as the script's letter lets it.
 ghost use Rattle.std.specs.Prelude.{◌≡◌, IfOk, OnOk, IfErr};
-ghost use Rattle.mem_client.specs.ClientActs.{reply_on, left_by};
+ghost use Rattle.mem_acts.specs.ClientActs.{reply_on, left_by};
 ghost use Rattle.sqlx_play.specs.events.StatementRuns as spec;
 
 use crate::error::PlayError;
-use mem_client::{Act, Answer, ClientLink, MemStore, Reply};
+use mem_acts::{Act, Answer, ClientLink, MemStore, Reply, Route};
 use sqlx_script::StatementAnswer;
 use sqlx_text::OutOfMemory;
 use std::alloc::Global;
@@ -20,7 +20,7 @@ fn answer_for(answer: StatementAnswer) -> Answer
 }
 
 /// Does it on a link of the store, where it lies, unless memory is wanting.
-pub fn run_on(
+pub fn run_on<R: Route>(
     store: &mut MemStore,
     alloc: Global,
     link: &mut ClientLink,
@@ -32,7 +32,7 @@ pub fn run_on(
     ensures store { OnOk result (store.new ≡ (left_by act (record { store = store.old; link = link.old; answer = spec.answer_for answer })).store) }
     ensures memory { IfErr result (λ e. e ≡ PlayError.OutOfMemory) }
 {
-    match link.run(alloc, store, act, answer_for(answer)) {
+    match R::run(alloc, store, link, act, answer_for(answer)) {
         Ok(reply) => Ok(reply),
         Err(OutOfMemory) => Err(PlayError::OutOfMemory),
     }

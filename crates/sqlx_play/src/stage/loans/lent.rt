@@ -11,7 +11,7 @@ ghost use Rattle.sqlx_play.specs.stage.LentLinks.{is_lent, number_of};
 use super::acts::run_on;
 use super::statements::Statement;
 use crate::error::PlayError;
-use mem_client::{ClientLink, MemStore};
+use mem_acts::{ClientLink, MemStore, Route};
 use sqlx_numbered::{Notes, Numbering};
 use sqlx_pool_core::Lent;
 use sqlx_script::Reply;
@@ -106,7 +106,7 @@ impl LentList {
     }
 
     /// Runs a statement on its connection's link, where that lies.
-    pub fn run(
+    pub fn run<R: Route>(
         &mut self,
         store: &mut MemStore,
         alloc: Global,
@@ -121,6 +121,6 @@ impl LentList {
             .notes
             .find::<Lent<ClientLink>, LentList>(&self.places, conn)?;
         let lent = self.places[place].as_mut()?;
-        Some(run_on(store, alloc, &mut lent.raw, statement.act, statement.answer))
+        Some(run_on::<R>(store, alloc, &mut lent.raw, statement.act, statement.answer))
     }
 }

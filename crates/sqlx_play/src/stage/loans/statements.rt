@@ -9,7 +9,7 @@ ghost use Rattle.sqlx_play.specs.stage.StageStands.{last_of};
 
 use crate::error::PlayError;
 use crate::stage::Stage;
-use mem_client::Act;
+use mem_acts::{Act, Route};
 use sqlx_script::{Event, Reply, StatementAnswer, Step};
 use std::alloc::Global;
 
@@ -84,7 +84,7 @@ fn statement_of(step: &Step) -> Option<Statement>
 }
 
 /// Does the statement, and answers `NotHeld` where the client doesn't own the connection.
-fn run(stage: &mut Stage, alloc: Global, statement: Statement) -> Result<Reply, PlayError>
+fn run<R: Route>(stage: &mut Stage, alloc: Global, statement: Statement) -> Result<Reply, PlayError>
     ensures ok { IfOk result (Runs stage.old stage.new statement) }
     ensures core { stage.new.core ≡ stage.old.core }
     ensures pool { stage.new.pool ≡ stage.old.pool }
@@ -98,14 +98,14 @@ fn run(stage: &mut Stage, alloc: Global, statement: Statement) -> Result<Reply, 
     {
         return Ok(Reply::NotHeld);
     }
-    match stage.lent.run(&mut stage.out.store, alloc, statement) {
+    match stage.lent.run::<R>(&mut stage.out.store, alloc, statement) {
         Some(ran) => ran,
         None => Ok(Reply::NotHeld),
     }
 }
 
 /// One statement.
-pub fn play(stage: &mut Stage, alloc: Global, event: &Event) -> Result<Reply, PlayError>
+pub fn play<R: Route>(stage: &mut Stage, alloc: Global, event: &Event) -> Result<Reply, PlayError>
     requires acts { acts event.now.step ≡ true }
     requires in_order { last_of stage.old ≤ event.now.moment.0 }
     ensures ok { IfOk result (PlaysEvent stage.old stage.new event.now) }
@@ -114,5 +114,5 @@ pub fn play(stage: &mut Stage, alloc: Global, event: &Event) -> Result<Reply, Pl
     let Some(statement) = statement_of(&event.step) else {
         return Ok(Reply::NotHeld);
     };
-    run(stage, alloc, statement)
+    run::<R>(stage, alloc, statement)
 }

@@ -3,7 +3,7 @@ ghost use Rattle.std.specs.Prelude.{◌≡◌, [], ◌∷◌, ◌++◌, IfOk, On
 
 use crate::error::PlayError;
 use crate::stage::loans::lent::LentList;
-use mem_client::ClientLink;
+use mem_acts::ClientLink;
 use sqlx_pool_core::Lent;
 use sqlx_script::Reply;
 

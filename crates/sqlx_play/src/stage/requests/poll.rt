@@ -11,7 +11,7 @@ use crate::error::PlayError;
 use crate::outside::{ScriptOutside, refused_by};
 use crate::stage::Stage;
 use crate::stage::loans::lent::LentList;
-use mem_client::ClientLink;
+use mem_acts::ClientLink;
 use sqlx_pool_core::Polled;
 use sqlx_script::{ConnectAnswer, PollAnswers, Reply};
 use sqlx_text::Moment;

@@ -7,7 +7,7 @@ ghost use Rattle.sqlx_play.specs.stage.EventFrame.{Frame};
 ghost use Rattle.sqlx_play.specs.stage.StageStands.{last_of};
 
 use crate::stage::Stage;
-use mem_client::{ClientLink, MemStore};
+use mem_acts::{ClientLink, MemStore};
 use sqlx_pool_core::Idle;
 use sqlx_script::Reply;
 use sqlx_text::Moment;

@@ -6,14 +6,14 @@ use Rattle.sqlx_pool_core.specs.declared.steps.Lent.{Lent}
 use Rattle.mem_store.specs.Store.{Link, Store}
 use Rattle.sqlx_script.specs.declared.reply.Reply.{Reply}
 use Rattle.sqlx_play.specs.declared.stage.loans.statements.Statement.{Statement}
-use Rattle.mem_client.specs.ClientActs.{reply_on}
+use Rattle.mem_acts.specs.ClientActs.{reply_on}
 use Rattle.sqlx_play.specs.events.StatementRuns.{RunsThere, at_work, left_at}
 use Rattle.sqlx_play.specs.stage.LentLinks.{is_lent, number_of}
 use Rattle.sqlx_play.proofs.links.LentPlaces.{standing}
 use Rattle.sqlx_play.proofs.stage.loans.lent.LentList.run.Goals as goal
 
 pub returns-in_err-place-clause-none : goal.returns-in_err-place-clause-none
-returns-in_err-place-clause-none c =
+returns-in_err-place-clause-none g c =
     let none = rw c.deref.ensures.value at (rw c.in_err-place.was at c.find.ensures.none) in
     rw (← c.self.view_is, c.from_residual.ensures) (record {
       none = ap (λ n. find (is_lent n) (items_at c.self.inside.places.items)) (sym c.from-conn.ensures) ∙ find-none number_of c.from-conn.result c.self.inside.places.items none;
@@ -22,7 +22,7 @@ returns-in_err-place-clause-none c =
     })
 
 pub index_mut-requires : goal.index_mut-requires
-index_mut-requires c =
+index_mut-requires g c =
     let there = c.in_ok-place.ensures.some in
     let within = got-within c.deref.result.now c.in_ok-place.place there.thing there.stands in
     let len = c.deref.ensures.len in
@@ -45,13 +45,13 @@ runs s places place own link old new (Ok r) split is told left store = record {
 runs s places place own link old new (Err e) split is told left store = tt
 
 pub returns-in_err-lent-clause-none : goal.returns-in_err-lent-clause-none
-returns-in_err-lent-clause-none c =
+returns-in_err-lent-clause-none g c =
     let there = rw c.deref.ensures.value at c.in_ok-place.ensures.some in
     let stands = standing c.self.inside.places.items c.in_ok-place.place (Some there.thing) c.index_mut.result.now there.stands c.index_mut.ensures.value in
     absurd (let both : false ≡ true = c.in_err-lent.ensures.variant ∙ ap is_some stands in cc)
 
 pub invariant_of-self-2 : goal.invariant_of-self-2
-invariant_of-self-2 c = λ t.
+invariant_of-self-2 g c = λ t.
     let there = rw c.deref.ensures.value at c.in_ok-place.ensures.some in
     let stands = standing c.self.inside.places.items c.in_ok-place.place (Some there.thing) c.index_mut.result.now there.stands c.index_mut.ensures.value in
     let e : Some c.in_ok-lent.lent.now ≡ Some there.thing = c.in_ok-lent.ensures.value ∙ stands in
@@ -59,7 +59,7 @@ invariant_of-self-2 c = λ t.
     noted-changed number_of c.self.inside.places.items (get nat_eq c.self.inside.notes.noted) c.in_ok-place.place there.thing _ there.stands (ap number_of own) (c.self.invariant t)
 
 pub returns-clause-ran : goal.returns-clause-ran
-returns-clause-ran c =
+returns-clause-ran g c =
     let there = rw c.deref.ensures.value at c.in_ok-place.ensures.some in
     let stands = standing c.self.inside.places.items c.in_ok-place.place (Some there.thing) c.index_mut.result.now there.stands c.index_mut.ensures.value in
     let e : Some c.in_ok-lent.lent.now ≡ Some there.thing = c.in_ok-lent.ensures.value ∙ stands in

@@ -1,5 +1,5 @@
 use Rattle.mem_client.proofs.LinkLemmas.{gives_link, gives_reply, gives_store}
-use Rattle.mem_client.proofs.link.run_between.Goals as goal
+use Rattle.mem_client.proofs.by_driver.run_between.Goals as goal
 
 pub returns-clause-reply : goal.returns-clause-reply
 returns-clause-reply c = gives_reply c.args.act _ c.at_work-conn.result.backend.work c.run_act-reply.new.conn.backend.work c.run_act-reply.result c.at_work-conn.ensures c.run_act-reply.ensures

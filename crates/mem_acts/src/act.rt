@@ -1,6 +1,6 @@
 //! The acts of a client.
 ghost use Rattle.std.specs.Prelude.{◌≡◌};
-ghost use Rattle.mem_client.specs.ClientActs as spec;
+ghost use Rattle.mem_acts.specs.ClientActs as spec;
 
 /// What a client does on a connection.
 #[derive(Clone, Copy)]
@@ -25,7 +25,7 @@ pub enum Act {
 
 impl Act {
     /// Whether it ends a level.
-    pub(crate) fn needs_level(&self) -> bool
+    pub fn needs_level(&self) -> bool
         ensures { result ≡ spec.needs_level self.now }
     {
         matches!(self, Act::Commit | Act::Rollback | Act::GiveUp)

@@ -11,8 +11,8 @@ use Rattle.mem_store.specs.Store.{Session}
 use Rattle.mem_store.specs.Acts.{refusal_of, after_act, seen_by, after_start_rollback}
 use Rattle.sqlx_script.specs.declared.reply.Reply.{Reply}
 use Rattle.sqlx_script.specs.declared.reply.Reply.TheVariants as reply
-use Rattle.mem_client.specs.declared.acts.Act.{Act}
-use Rattle.mem_client.specs.declared.acts.Act.TheVariants.{Begin, Custom, Put, Delete, Get, Commit, Rollback, GiveUp}
+use Rattle.mem_acts.specs.declared.act.Act.{Act}
+use Rattle.mem_acts.specs.declared.act.Act.TheVariants.{Begin, Custom, Put, Delete, Get, Commit, Rollback, GiveUp}
 
 -- whether the act ends a level
 abbrev pub needs_level : Act → Bool
