@@ -267,7 +267,10 @@ fn tends<C: Depth + Drop, O: Drop, H: Ledger, L: Loans, R: Wait, X: Outside<C, O
 ) -> u64 {
     match act {
         Act::Shut => pool.close::<R, X>(rt, out) as u64,
-        Act::Fill => u64::from(pool.keep_minimum::<R, X>(rt, alloc, Moment(now), out).opened),
+        Act::Fill => u64::from(
+            pool.keep_minimum::<R, X>(rt, alloc, Moment(now), out)
+                .opened,
+        ),
         _ => u64::from(pool.reap::<R, X>(rt, alloc, Moment(now), out).0),
     }
 }

@@ -61,7 +61,9 @@ impl<H: Ledger, L: Loans, R: Wait + Drop> Outside<Conn, ()> for Closer<H, L, R> 
 
     fn ping(&mut self, _conn: &mut Conn) -> Result<(), Error> {
         self.pings = self.pings.saturating_add(1);
-        if let Closing::Ping = self.closing && self.pings == 2 {
+        if let Closing::Ping = self.closing
+            && self.pings == 2
+        {
             self.closes();
         }
         Ok(())
@@ -165,7 +167,11 @@ fn closed_amid<H: Ledger, L: Loans, R: Wait + Abort + Copy + Drop>(
     performs::<Conn, (), H, L, R, Closer<H, L, R>>(
         &rt, alloc, &pool, script, &mut out, &mut tally,
     )?;
-    let Counts { opened, closed, closed_hard } = out.counts;
+    let Counts {
+        opened,
+        closed,
+        closed_hard,
+    } = out.counts;
     assert_eq!(rt; [opened, closed, closed_hard], [1, 1, 0]);
     Ok(())
 }

@@ -96,7 +96,10 @@ fn many<C: Depth + Drop, O: Drop, H: Ledger, L: Loans, R: Wait + Abort, X: Outsi
     let log = pool.audit_log(rt, alloc, tally)?;
     let behind = log.marks().len();
     let short = is_short(&log, behind, cuts.most, cuts.loans);
-    assert!(rt; short && tally.loans() == cuts.loans, "the audit has all loans");
+    assert!(rt;
+        short && tally.loans() == cuts.loans,
+        "the audit has all loans"
+    );
     Ok(())
 }
 

@@ -295,7 +295,6 @@ fn borrows<DB: Database, W: Acts<DB>, H: Ledger, L: Loans>(
     acquired::<DB, W>(alloc, lent, third, false)
 }
 
-
 // Works on a connection that the pool lends, and returns it.
 fn lent_for<
     DB: Database,

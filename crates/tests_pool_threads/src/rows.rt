@@ -305,7 +305,10 @@ fn sets_options<H: Ledger, L: Loans, R: Wait + Abort>(
     let first = *pool.connect_options(rt)?;
     pool.set_connect_options(rt, alloc, 7)?;
     let second = *pool.connect_options(rt)?;
-    assert_eq!(rt; [u64::from(first), u64::from(second), tally.loans()], [5, 7, 0]);
+    assert_eq!(rt;
+        [u64::from(first), u64::from(second), tally.loans()],
+        [5, 7, 0]
+    );
     Ok(())
 }
 

@@ -13,7 +13,9 @@ pub fn options_of(max: u32) -> PoolOptions
     requires { 1 ≤ max }
     ensures { IsOpenable result max }
 {
-    PoolOptions::new().max_connections(max).idle_timeout(Some(5))
+    PoolOptions::new()
+        .max_connections(max)
+        .idle_timeout(Some(5))
 }
 
 /// A new pool of so many, and the tally of its loans.

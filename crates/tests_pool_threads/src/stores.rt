@@ -176,13 +176,7 @@ fn by_a_handle<
     L: Loans,
     R: Wait + Abort + Copy + Drop,
     X: Outside<DB::Connection, DB::Options> + Drop,
->(
-    rt: R,
-    alloc: Global,
-    out: X,
-    held: Blank,
-    loans: Blank,
-) -> Result<[u64; 3], Fail>
+>(rt: R, alloc: Global, out: X, held: Blank, loans: Blank) -> Result<[u64; 3], Fail>
 where
     DB::Connection: Executor<DB> + Drop,
     Work: Acts<DB>,

@@ -278,7 +278,10 @@ fn times_out<H: Ledger, L: Loans, R: Wait + Abort>(
         &mut out,
         &mut tally,
     );
-    assert_eq!(rt; [said, tally.loans(), pool.log_len(rt) as u64], [TIMED_OUT, 0, 2]);
+    assert_eq!(rt;
+        [said, tally.loans(), pool.log_len(rt) as u64],
+        [TIMED_OUT, 0, 2]
+    );
     Ok(())
 }
 

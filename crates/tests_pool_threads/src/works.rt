@@ -27,11 +27,7 @@ impl<B: AnyConnectionBackend> Acts<Any<B>> for Work {
         worked::<B, AnyConnection<B>>(alloc, conn, self)
     }
 
-    fn work_on<E: Executor<Any<B>>>(
-        self,
-        alloc: Global,
-        on: &mut E,
-    ) -> Result<Option<i64>, Error> {
+    fn work_on<E: Executor<Any<B>>>(self, alloc: Global, on: &mut E) -> Result<Option<i64>, Error> {
         worked::<B, E>(alloc, on, self)
     }
 }
