@@ -2,6 +2,7 @@
 
 ghost use Rattle.std.specs.Prelude.{◌≡◌, ◌+◌, ◌<◌, ◌≤◌};
 
+use crate::same::same_three;
 use sqlx_pool::*;
 use sqlx_pool_core::Outside;
 use sqlx_text::{Depth, Error, Moment};
@@ -121,8 +122,8 @@ fn closed(closed: Result<Openings, Error>) -> u64 {
     }
 }
 
-/// Asks.
-pub fn asks<C: Depth + Drop, O: Drop, H: Ledger, L: Loans, R: Wait>(
+// Asks.
+fn asks<C: Depth + Drop, O: Drop, H: Ledger, L: Loans, R: Wait>(
     rt: &R,
     alloc: Global,
     pool: &PoolOf<C, O, H, L>,
@@ -138,8 +139,8 @@ pub fn asks<C: Depth + Drop, O: Drop, H: Ledger, L: Loans, R: Wait>(
     }
 }
 
-/// Polls the ticket at hand.
-pub fn polls<C: Depth + Drop, O: Drop, H: Ledger, L: Loans, R: Wait, X: Outside<C, O>>(
+// Polls the ticket at hand.
+fn polls<C: Depth + Drop, O: Drop, H: Ledger, L: Loans, R: Wait, X: Outside<C, O>>(
     rt: &R,
     alloc: Global,
     hand: HandOf<C, O, H, L>,
@@ -237,8 +238,8 @@ fn leaves<C: Depth + Drop, O: Drop, H: Ledger, L: Loans, R: Wait, X: Outside<C, 
     }
 }
 
-/// Spends what is at hand.
-pub fn lets_go<C: Depth + Drop, O: Drop, H: Ledger, L: Loans, R: Wait, X: Outside<C, O>>(
+// Spends what is at hand.
+fn lets_go<C: Depth + Drop, O: Drop, H: Ledger, L: Loans, R: Wait, X: Outside<C, O>>(
     rt: &R,
     alloc: Global,
     hand: HandOf<C, O, H, L>,
@@ -418,12 +419,40 @@ pub fn plays<C: Depth + Drop, O: Drop, H: Ledger, L: Loans, R: Wait + Abort, X: 
         let (next, said) = turn::<C, O, H, L, R, X>(rt, alloc, pool, hands, *row, out, tally);
         hands = next;
         let marks = pool.log_len(rt);
-        assert_eq!(rt; said, row.3);
-        assert_eq!(rt; marks, row.4);
+        same_three(
+            rt,
+            [row.2, said, marks as u64],
+            [row.2, row.3, row.4 as u64],
+        );
     }
     let Hands { first, second } = hands;
     lets_go::<C, O, H, L, R, X>(rt, alloc, first, 0, out);
     lets_go::<C, O, H, L, R, X>(rt, alloc, second, 0, out);
+}
+
+/// Asks and polls: the connection. A ticket that waits is given up.
+pub fn lend<C: Depth + Drop, O: Drop, H: Ledger, L: Loans, R: Wait, X: Outside<C, O>>(
+    rt: &R,
+    alloc: Global,
+    pool: &PoolOf<C, O, H, L>,
+    client: u32,
+    now: u64,
+    out: &mut X,
+    tally: &mut Tally<L>,
+) -> Option<PoolConnectionOf<C, O, H, L>>
+    requires { 0 < tally.old.parts }
+    ensures parts { tally.new.parts ≡ tally.old.parts }
+    ensures loans { tally.new.loans ≤ tally.old.loans + 1 }
+{
+    let (hand, _) = asks(rt, alloc, pool, client, now);
+    let (hand, _) = polls::<C, O, H, L, R, X>(rt, alloc, hand, now, out, tally);
+    match hand {
+        Hand::Loan(conn) => Some(conn),
+        hand => {
+            lets_go::<C, O, H, L, R, X>(rt, alloc, hand, now, out);
+            None
+        }
+    }
 }
 
 /// Asks, polls and returns: the word of the return.
@@ -440,13 +469,8 @@ pub fn loan<C: Depth + Drop, O: Drop, H: Ledger, L: Loans, R: Wait, X: Outside<C
     ensures parts { tally.new.parts ≡ tally.old.parts }
     ensures loans { tally.new.loans ≤ tally.old.loans + 1 }
 {
-    let (hand, _) = asks(rt, alloc, pool, client, now);
-    let (hand, _) = polls::<C, O, H, L, R, X>(rt, alloc, hand, now, out, tally);
-    match hand {
-        Hand::Loan(conn) => ends::<C, O, H, L, R, X>(rt, alloc, conn, Act::Return, now, out),
-        hand => {
-            lets_go::<C, O, H, L, R, X>(rt, alloc, hand, now, out);
-            NONE
-        }
+    match lend::<C, O, H, L, R, X>(rt, alloc, pool, client, now, out, tally) {
+        Some(conn) => ends::<C, O, H, L, R, X>(rt, alloc, conn, Act::Return, now, out),
+        None => NONE,
     }
 }

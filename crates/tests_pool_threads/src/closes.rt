@@ -6,6 +6,7 @@ ghost use Rattle.sqlx_pool_core.specs.Calls as call;
 use crate::clients::*;
 use crate::outside::{Conn, Counts, new_counts};
 use crate::rows::{Script, performs};
+use crate::same::same_three;
 use crate::setup::pool_of;
 use sqlx_pool::*;
 use sqlx_pool_core::Outside;
@@ -143,8 +144,35 @@ ended 2
     loans: 1,
 };
 
-// A script in a new pool of one, by an outside that closes it: the connection at hand is closed.
+// A script in a pool of one, by an outside that closes it: the connection at hand is closed.
 fn closed_amid<H: Ledger, L: Loans, R: Wait + Abort + Copy + Drop>(
+    rt: R,
+    alloc: Global,
+    pool: &PoolOf<Conn, (), H, L>,
+    closing: Closing,
+    script: &Script,
+    tally: &mut Tally<L>,
+) -> Result<(), Fail>
+    requires { 0 < tally.old.parts }
+{
+    let mut out = Closer {
+        rt,
+        pool: pool.try_clone()?,
+        closing,
+        pings: 0,
+        counts: new_counts(),
+    };
+    let played = performs::<Conn, (), H, L, R, Closer<H, L, R>>(
+        &rt, alloc, pool, script, &mut out, tally,
+    );
+    let counts = [out.counts.opened, out.counts.closed, out.counts.closed_hard];
+    drop(out);
+    same_three(&rt, counts, [1, 1, 0]);
+    played
+}
+
+// The same in a new pool.
+fn closed_in_one<H: Ledger, L: Loans, R: Wait + Abort + Copy + Drop>(
     rt: R,
     alloc: Global,
     closing: Closing,
@@ -157,23 +185,7 @@ fn closed_amid<H: Ledger, L: Loans, R: Wait + Abort + Copy + Drop>(
     requires loans { (loans.name ≡ L.name) × (loans.parts ≡ L.parts) × (loans.parts ≡ 2 ^ 32) }
 {
     let (pool, mut tally) = pool_of::<Conn, (), H, L>(alloc, 1, (), held, loans)?;
-    let mut out = Closer {
-        rt,
-        pool: pool.try_clone()?,
-        closing,
-        pings: 0,
-        counts: new_counts(),
-    };
-    performs::<Conn, (), H, L, R, Closer<H, L, R>>(
-        &rt, alloc, &pool, script, &mut out, &mut tally,
-    )?;
-    let Counts {
-        opened,
-        closed,
-        closed_hard,
-    } = out.counts;
-    assert_eq!(rt; [opened, closed, closed_hard], [1, 1, 0]);
-    Ok(())
+    closed_amid::<H, L, R>(rt, alloc, &pool, closing, script, &mut tally)
 }
 
 // The same, with ledgers.
@@ -183,7 +195,7 @@ fn closed_in<R: Wait + Abort + Copy + Drop>(
     closing: Closing,
     script: &Script,
 ) -> Result<(), Fail> {
-    closed_amid::<Brand, Brand, R>(
+    closed_in_one::<Brand, Brand, R>(
         rt,
         alloc,
         closing,

@@ -5,6 +5,7 @@ ghost use Rattle.std.specs.Prelude.{◌≡◌, ◌^◌, ◌<◌, true};
 use crate::clients::{KEPT, loan};
 use crate::marks::lent;
 use crate::outside::{Conn, Counts, new_counts};
+use crate::same::same;
 use crate::setup::pool_of;
 use sqlx_pool::*;
 use sqlx_pool_core::Outside;
@@ -43,11 +44,13 @@ const BY_ITSELF: Cuts = Cuts {
     most: 66,
 };
 
-// Whether a log has few marks behind a short start, as many as were counted, and has counted so many loans.
-fn is_short(log: &MarkLog, behind: usize, most: usize, loans: u64) -> bool {
+// A log has few marks behind a short start, as many as were counted, and has counted so many loans. It is let go.
+fn is_short<R: Abort>(rt: &R, log: MarkLog, behind: usize, most: usize, loans: u64) {
     let marks = log.marks();
     let all = log.lent_before().saturating_add(lent(marks));
-    log.start_len() <= 6 && marks.len() == behind && behind <= most && all == loans
+    let short = log.start_len() <= 6 && marks.len() == behind && behind <= most;
+    drop(log);
+    assert!(rt; short && all == loans, "{behind} marks, {all} loans");
 }
 
 // One loan, which is given back, and a cut where it is due: what the log says then.
@@ -65,14 +68,13 @@ fn a_loan<C: Depth + Drop, O: Drop, H: Ledger, L: Loans, R: Wait + Abort, X: Out
     ensures { tally.new.parts ≡ tally.old.parts }
 {
     let kept = loan::<C, O, H, L, R, X>(rt, alloc, pool, 1, at, out, tally);
-    assert_eq!(rt; kept, KEPT);
+    same(rt, kept, KEPT);
     if cuts.each {
         pool.cut_log(rt);
     }
     let behind = pool.log_len(rt);
     let log = pool.read_log(rt, alloc)?;
-    let short = is_short(&log, behind, cuts.most, at.saturating_add(1));
-    assert!(rt; short, "behind {at} loans");
+    is_short(rt, log, behind, cuts.most, at.saturating_add(1));
     Ok(())
 }
 
@@ -95,11 +97,8 @@ fn many<C: Depth + Drop, O: Drop, H: Ledger, L: Loans, R: Wait + Abort, X: Outsi
     }
     let log = pool.audit_log(rt, alloc, tally)?;
     let behind = log.marks().len();
-    let short = is_short(&log, behind, cuts.most, cuts.loans);
-    assert!(rt;
-        short && tally.loans() == cuts.loans,
-        "the audit has all loans"
-    );
+    is_short(rt, log, behind, cuts.most, cuts.loans);
+    same(rt, tally.loans(), cuts.loans);
     Ok(())
 }
 
@@ -119,7 +118,7 @@ fn counts<H: Ledger, L: Loans, R: Wait + Abort>(
     let (pool, mut tally) = pool_of::<Conn, (), H, L>(alloc, 1, (), held, loans)?;
     let mut out = new_counts();
     many::<Conn, (), H, L, R, Counts>(rt, alloc, &pool, cuts, &mut out, &mut tally)?;
-    assert_eq!(rt; out.opened, 1);
+    same(rt, out.opened, 1);
     Ok(())
 }
 

@@ -2,7 +2,8 @@
 
 ghost use Rattle.std.specs.Prelude.{◌≡◌, ◌<◌};
 
-use crate::clients::{Hand, asks, lets_go, polls};
+use crate::clients::lend;
+use crate::same::same_read;
 use crate::works::Acts;
 use sqlx_any::Database;
 use sqlx_pool::*;
@@ -58,6 +59,20 @@ fn after(
     }
 }
 
+// What was done last, where nothing was refused.
+fn last_of(
+    first: Result<Option<i64>, Error>,
+    last: Result<Option<i64>, Error>,
+) -> Result<Option<i64>, Error> {
+    match first {
+        Ok(_) => last,
+        Err(error) => {
+            drop(last);
+            Err(error)
+        }
+    }
+}
+
 // Returns the connection of a refused begin, where there is one.
 fn returned<DB: Database, H: Ledger, L: Loans, R: Wait, X: Outside<DB::Connection, DB::Options>>(
     rt: &R,
@@ -75,17 +90,17 @@ where
     error
 }
 
-// Works in a level on what was acquired, where it could be begun, and ends the level.
-fn acquired<'c, DB: Database, W: Acts<DB>>(
+// Works in a level on what is acquired, where it can be begun, and ends the level.
+fn acquired<'c, DB: Database, W: Acts<DB>, A: Acquire<DB, Holder = Borrowed<'c, DB>>>(
     alloc: Global,
-    begun: Result<Transaction<DB, Borrowed<'c, DB>>, (Error, Option<Borrowed<'c, DB>>)>,
+    of: A,
     work: W,
     keeps: bool,
 ) -> Result<Option<i64>, Error>
 where
     DB::Connection: 'c,
 {
-    match begun {
+    match of.begin(alloc) {
         Ok(level) => {
             let (holder, done) = worked_in::<DB, W, Borrowed<'c, DB>>(alloc, level, work, keeps);
             let Borrowed(_conn) = holder;
@@ -122,65 +137,6 @@ pub enum By {
     Trying(Option<Text>),
 }
 
-// Waits for a connection and begins a level on it.
-fn waits<DB: Database, H: Ledger, L: Loans, R: Wait, X: Outside<DB::Connection, DB::Options>>(
-    rt: &R,
-    alloc: Global,
-    pool: &Pool<DB, H, L>,
-    with: Option<Text>,
-    out: &mut X,
-    tally: &mut Tally<L>,
-) -> Result<Transaction<DB, PoolConnection<DB, H, L>>, BeginRefused<DB, H, L>>
-where
-    DB::Connection: Drop,
-    requires { 0 < tally.old.parts }
-    ensures { tally.new.parts ≡ tally.old.parts }
-{
-    let mut clock = FixedClock(Moment(0));
-    match with {
-        None => PoolBegin::<DB, H, L>::begin::<R, FixedClock, X>(
-            pool, rt, alloc, &mut clock, 1, out, tally,
-        ),
-        Some(text) => PoolBegin::<DB, H, L>::begin_with::<R, FixedClock, X>(
-            pool,
-            rt,
-            alloc,
-            &mut clock,
-            1,
-            out,
-            tally,
-            text.sql(),
-        ),
-    }
-}
-
-// Begins a level on the first idle connection.
-fn tries<DB: Database, H: Ledger, L: Loans, R: Wait>(
-    rt: &R,
-    alloc: Global,
-    pool: &Pool<DB, H, L>,
-    with: Option<Text>,
-    tally: &mut Tally<L>,
-) -> Result<Option<Transaction<DB, PoolConnection<DB, H, L>>>, BeginRefused<DB, H, L>>
-where
-    DB::Connection: Drop,
-    requires { 0 < tally.old.parts }
-    ensures { tally.new.parts ≡ tally.old.parts }
-{
-    match with {
-        None => PoolBegin::<DB, H, L>::try_begin::<R>(pool, rt, alloc, Moment(0), 1, tally),
-        Some(text) => PoolBegin::<DB, H, L>::try_begin_with::<R>(
-            pool,
-            rt,
-            alloc,
-            Moment(0),
-            1,
-            tally,
-            text.sql(),
-        ),
-    }
-}
-
 // A level that was tried; none is `NotHeld` without a connection.
 fn of_tried<T, P>(tried: Result<Option<T>, BeginRefusedOf<P>>) -> Result<T, BeginRefusedOf<P>> {
     match tried {
@@ -195,7 +151,7 @@ fn of_tried<T, P>(tried: Result<Option<T>, BeginRefusedOf<P>>) -> Result<T, Begi
     }
 }
 
-// Begins a level on a connection of the pool.
+// Begins a level on a connection of the pool: one that is waited for, or the first idle one.
 fn begun<DB: Database, H: Ledger, L: Loans, R: Wait, X: Outside<DB::Connection, DB::Options>>(
     rt: &R,
     alloc: Global,
@@ -209,9 +165,34 @@ where
     requires { 0 < tally.old.parts }
     ensures { tally.new.parts ≡ tally.old.parts }
 {
+    let now = Moment(0);
+    let mut clock = FixedClock(now);
     match by {
-        By::Waiting(with) => waits::<DB, H, L, R, X>(rt, alloc, pool, with, out, tally),
-        By::Trying(with) => of_tried(tries::<DB, H, L, R>(rt, alloc, pool, with, tally)),
+        By::Waiting(None) => PoolBegin::<DB, H, L>::begin::<R, FixedClock, X>(
+            pool, rt, alloc, &mut clock, 1, out, tally,
+        ),
+        By::Waiting(Some(text)) => PoolBegin::<DB, H, L>::begin_with::<R, FixedClock, X>(
+            pool,
+            rt,
+            alloc,
+            &mut clock,
+            1,
+            out,
+            tally,
+            text.sql(),
+        ),
+        By::Trying(None) => of_tried(PoolBegin::<DB, H, L>::try_begin::<R>(
+            pool, rt, alloc, now, 1, tally,
+        )),
+        By::Trying(Some(text)) => of_tried(PoolBegin::<DB, H, L>::try_begin_with::<R>(
+            pool,
+            rt,
+            alloc,
+            now,
+            1,
+            tally,
+            text.sql(),
+        )),
     }
 }
 
@@ -241,8 +222,7 @@ where
     match begun::<DB, H, L, R, X>(rt, alloc, pool, by, out, tally) {
         Ok(level) => {
             let mut level = level;
-            let inner = Acquire::<DB>::begin(&mut level, alloc);
-            let done = acquired::<DB, W>(alloc, inner, work, true);
+            let done = acquired::<DB, W, _>(alloc, &mut level, work, true);
             let (conn, answer) = ended::<DB, PoolConnection<DB, H, L>>(alloc, level, keeps);
             let _ = conn.return_to_pool::<R, X>(rt, alloc, Moment(0), out);
             after(done, answer)
@@ -258,8 +238,7 @@ fn nested<DB: Database, W: Acts<DB>>(
     work: W,
 ) -> Result<Option<i64>, Error> {
     let mut level = calls::begin::<DB>(alloc, conn)?;
-    let inner = Acquire::<DB>::begin(&mut level, alloc);
-    let done = acquired::<DB, W>(alloc, inner, work, true);
+    let done = acquired::<DB, W, _>(alloc, &mut level, work, true);
     let (holder, answer) = ended::<DB, Borrowed<'_, DB>>(alloc, level, true);
     let Borrowed(_conn) = holder;
     after(done, answer)
@@ -288,11 +267,11 @@ fn borrows<DB: Database, W: Acts<DB>, H: Ledger, L: Loans>(
     second: W,
     third: W,
 ) -> Result<Option<i64>, Error> {
-    let lent = Acquire::<DB>::begin(&mut *conn, alloc);
-    acquired::<DB, W>(alloc, lent, first, true)?;
-    nested::<DB, W>(alloc, Hold::<DB>::conn_mut(conn), second)?;
-    let lent = Acquire::<DB>::begin(Borrowed(Hold::<DB>::conn_mut(conn)), alloc);
-    acquired::<DB, W>(alloc, lent, third, false)
+    let first = acquired::<DB, W, _>(alloc, &mut *conn, first, true);
+    let second = nested::<DB, W>(alloc, Hold::<DB>::conn_mut(conn), second);
+    let borrowed = Borrowed(Hold::<DB>::conn_mut(conn));
+    let third = acquired::<DB, W, _>(alloc, borrowed, third, false);
+    last_of(first, last_of(second, third))
 }
 
 // Works on a connection that the pool lends, and returns it.
@@ -316,21 +295,14 @@ where
     requires { 0 < tally.old.parts }
     ensures { tally.new.parts ≡ tally.old.parts }
 {
-    let (hand, _) = asks(rt, alloc, pool, 1, 0);
-    let (hand, _) = polls::<DB::Connection, DB::Options, H, L, R, X>(
-        rt, alloc, hand, 0, out, tally,
-    );
-    match hand {
-        Hand::Loan(conn) => {
+    match lend::<DB::Connection, DB::Options, H, L, R, X>(rt, alloc, pool, 1, 0, out, tally) {
+        Some(conn) => {
             let mut conn = conn;
             let done = work.work(alloc, Hold::<DB>::conn_mut(&mut conn));
             let _ = conn.return_to_pool::<R, X>(rt, alloc, Moment(0), out);
             done
         }
-        hand => {
-            lets_go::<DB::Connection, DB::Options, H, L, R, X>(rt, alloc, hand, 0, out);
-            Err(Error::PoolTimedOut)
-        }
+        None => Err(Error::PoolTimedOut),
     }
 }
 
@@ -340,8 +312,8 @@ pub const NOTHING: i64 = -1;
 /// No level was begun.
 pub const FAILED: i64 = -2;
 
-// What was done as a number. Other errors stay what they are.
-fn number(done: Result<Option<i64>, Error>) -> Result<i64, Error> {
+/// What was done as a number. Other errors stay what they are.
+pub fn number(done: Result<Option<i64>, Error>) -> Result<i64, Error> {
     match done {
         Ok(read) => Ok(read.unwrap_or(NOTHING)),
         Err(error) => {
@@ -355,7 +327,6 @@ fn number(done: Result<Option<i64>, Error>) -> Result<i64, Error> {
 }
 
 /// How a level is begun, if one is; what is done, whether the level is kept, and what is read.
-#[derive(Clone, Copy)]
 pub struct Done<W>(pub Option<By>, pub W, pub bool, pub i64);
 
 // Works as a row says.
@@ -370,7 +341,7 @@ fn does<
     rt: &R,
     alloc: Global,
     pool: &Pool<DB, H, L>,
-    row: Done<W>,
+    row: &Done<W>,
     out: &mut X,
     tally: &mut Tally<L>,
 ) -> Result<Option<i64>, Error>
@@ -379,10 +350,9 @@ where
     requires { 0 < tally.old.parts }
     ensures { tally.new.parts ≡ tally.old.parts }
 {
-    let Done(by, work, keeps, _) = row;
-    match by {
-        Some(by) => works::<DB, W, H, L, R, X>(rt, alloc, pool, by, work, keeps, out, tally),
-        None => lent_for::<DB, W, H, L, R, X>(rt, alloc, pool, work, out, tally),
+    match row.0 {
+        Some(by) => works::<DB, W, H, L, R, X>(rt, alloc, pool, by, row.1, row.2, out, tally),
+        None => lent_for::<DB, W, H, L, R, X>(rt, alloc, pool, row.1, out, tally),
     }
 }
 
@@ -408,8 +378,8 @@ where
     ensures { tally.new.parts ≡ tally.old.parts }
 {
     for row in rows {
-        let done = number(does::<DB, W, H, L, R, X>(rt, alloc, pool, *row, out, tally))?;
-        assert_eq!(rt; done, row.3);
+        let done = number(does::<DB, W, H, L, R, X>(rt, alloc, pool, row, out, tally))?;
+        same_read(rt, done, row.3);
     }
     Ok(())
 }
@@ -450,19 +420,5 @@ where
             let _ = conn.return_to_pool::<R, X>(rt, alloc, Moment(0), out);
         }
     }
-    after_both(lent, done)
-}
-
-// What was done last, where nothing was refused.
-fn after_both(
-    lent: Result<Option<i64>, Error>,
-    done: Result<Option<i64>, Error>,
-) -> Result<Option<i64>, Error> {
-    match lent {
-        Ok(_) => done,
-        Err(error) => {
-            drop(done);
-            Err(error)
-        }
-    }
+    last_of(lent, done)
 }

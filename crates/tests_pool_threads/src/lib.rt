@@ -19,6 +19,8 @@ mod outside;
 #[cfg(test)]
 mod rows;
 #[cfg(test)]
+mod same;
+#[cfg(test)]
 mod setup;
 #[cfg(test)]
 mod stores;

@@ -1,8 +1,10 @@
 //! A pool's log as text, a line for each mark.
 
+use crate::same::same_text;
 use sqlx_pool::{Loans, Mark, PoolOf};
 use sqlx_text::Depth;
 use std::alloc::{AllocError, Global};
+use std::process::Abort;
 use std::sync::Wait;
 use std::sync::ledger::Ledger;
 use std::test::*;
@@ -59,14 +61,17 @@ fn text_of(alloc: Global, marks: &[Mark]) -> Result<String, AllocError> {
     Ok(text)
 }
 
-/// The marks of a pool's log, a line for each.
-pub fn lines<C: Depth + Drop, O: Drop, H: Ledger, L: Loans, R: Wait>(
+/// Sees that the log of a pool says so.
+pub fn tells<C: Depth + Drop, O: Drop, H: Ledger, L: Loans, R: Wait + Abort>(
     rt: &R,
     alloc: Global,
     pool: &PoolOf<C, O, H, L>,
-) -> Result<String, Fail> {
+    wanted: &str,
+) -> Result<(), Fail> {
     let log = pool.read_log(rt, alloc)?;
-    Ok(text_of(alloc, log.marks())?)
+    let text = text_of(alloc, log.marks())?;
+    same_text(rt, &text, wanted);
+    Ok(())
 }
 
 /// How many loans these marks make.

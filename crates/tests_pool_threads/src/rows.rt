@@ -3,8 +3,9 @@
 ghost use Rattle.std.specs.Prelude.{◌≡◌, ◌^◌, ◌<◌};
 
 use crate::clients::*;
-use crate::marks::lines;
+use crate::marks::tells;
 use crate::outside::{Conn, Counts, new_counts};
+use crate::same::{same, same_three};
 use crate::setup::pool_of;
 use sqlx_pool::*;
 use sqlx_pool_core::Outside;
@@ -35,10 +36,8 @@ pub fn performs<C: Depth + Drop, O: Drop, H: Ledger, L: Loans, R: Wait + Abort, 
     requires { 0 < tally.old.parts }
 {
     plays::<C, O, H, L, R, X>(rt, alloc, pool, script.rows, out, tally);
-    let text = lines(rt, alloc, pool)?;
-    assert_eq!(rt; text.as_str(), script.log);
-    assert_eq!(rt; tally.loans(), script.loans);
-    Ok(())
+    same(rt, tally.loans(), script.loans);
+    tells(rt, alloc, pool, script.log)
 }
 
 /// Plays a script in a new pool of one.
@@ -76,8 +75,8 @@ fn counts<H: Ledger, L: Loans, R: Wait + Abort>(
     Ok(out)
 }
 
-// The same, with ledgers: how many were opened, and how many closed.
-fn counted<R: Wait + Abort>(rt: &R, alloc: Global, script: &Script) -> Result<[u64; 2], Fail> {
+// The same, with ledgers: how many were opened, closed, and closed hard.
+fn counted<R: Wait + Abort>(rt: &R, alloc: Global, script: &Script) -> Result<[u64; 3], Fail> {
     let out = counts::<Brand, Brand, R>(
         rt,
         alloc,
@@ -85,7 +84,7 @@ fn counted<R: Wait + Abort>(rt: &R, alloc: Global, script: &Script) -> Result<[u
         Blank::new(1 << 32),
         Blank::new(1 << 32),
     )?;
-    Ok([out.opened, out.closed])
+    Ok([out.opened, out.closed, out.closed_hard])
 }
 
 // When the second ticket of the last rows times out, and when a ticket of then does.
@@ -165,7 +164,7 @@ ended 7
 
 #[test]
 fn a_pool_of_one(rt: HostRuntime) -> Result<(), Fail> {
-    assert_eq!(rt; counted(&rt, rt.alloc(), &WAY)?, [4, 2]);
+    same_three(&rt, counted(&rt, rt.alloc(), &WAY)?, [4, 2, 0]);
     Ok(())
 }
 
@@ -183,7 +182,7 @@ const SHUT: Script = Script {
 
 #[test]
 fn a_close_while_a_ticket_waits(rt: HostRuntime) -> Result<(), Fail> {
-    assert_eq!(rt; counted(&rt, rt.alloc(), &SHUT)?, [0, 0]);
+    same_three(&rt, counted(&rt, rt.alloc(), &SHUT)?, [0, 0, 0]);
     Ok(())
 }
 
@@ -216,7 +215,7 @@ closed 1
 
 #[test]
 fn a_ticket_that_waits(rt: HostRuntime) -> Result<(), Fail> {
-    assert_eq!(rt; counted(&rt, rt.alloc(), &SERVED)?, [1, 1]);
+    same_three(&rt, counted(&rt, rt.alloc(), &SERVED)?, [1, 1, 0]);
     Ok(())
 }
 
@@ -261,7 +260,7 @@ fn opens_first<C: Depth + Drop, O: Drop, H: Ledger, L: Loans, R: Wait + Abort, X
         held,
         loans,
     )?;
-    assert_eq!(rt; pool.options().get_min_connections(), 2);
+    same(rt, u64::from(pool.options().get_min_connections()), 2);
     performs::<C, O, H, L, R, X>(rt, alloc, &pool, &FIRST, out, &mut tally)
 }
 
@@ -305,9 +304,10 @@ fn sets_options<H: Ledger, L: Loans, R: Wait + Abort>(
     let first = *pool.connect_options(rt)?;
     pool.set_connect_options(rt, alloc, 7)?;
     let second = *pool.connect_options(rt)?;
-    assert_eq!(rt;
+    same_three(
+        rt,
         [u64::from(first), u64::from(second), tally.loans()],
-        [5, 7, 0]
+        [5, 7, 0],
     );
     Ok(())
 }

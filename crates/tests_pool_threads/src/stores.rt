@@ -5,6 +5,7 @@ ghost use Rattle.std.specs.Prelude.{◌≡◌, ◌^◌, ◌<◌, ◌≤◌};
 
 use crate::levels::*;
 use crate::rows::{WAY, in_one};
+use crate::same::{same, same_read, same_three};
 use crate::works::{Acts, Work};
 use mem_driver::MemStore;
 use shared_mem_driver::{SharedMem, SharedMemConnection, SharedMemConnector};
@@ -136,7 +137,7 @@ where
     requires loans { (loans.name ≡ L.name) × (loans.parts ≡ L.parts) × (loans.parts ≡ 2 ^ 32) }
 {
     let (pool, mut tally) = Pool::<DB, H, L>::connect_lazy(alloc, "mem:", held, loans)?;
-    assert_eq!(rt; pool.size(rt), 0);
+    same(rt, u64::from(pool.size(rt)), 0);
     if let Trial::Queries = trial {
         does_all::<DB, Work, H, L, R, X>(rt, alloc, &pool, QUERIES, out, &mut tally)?;
     } else {
@@ -150,8 +151,8 @@ where
             Work::Get(2),
             out,
             &mut tally,
-        )?;
-        assert_eq!(rt; read, Some(8));
+        );
+        same_read(rt, number(read)?, 8);
     }
     Ok([
         u64::from(pool.size(rt)),
@@ -195,10 +196,10 @@ where
         loans,
     )?;
     let mut handle = pool.with(rt, FixedClock(Moment(0)), 1, out, tally);
-    let read = calls::<DB, _>(alloc, &mut handle)?;
-    assert_eq!(rt; read, Some(5));
+    let read = number(calls::<DB, _>(alloc, &mut handle));
     let (_clock, out, tally) = handle.into_parts();
     drop(out);
+    same_read(&rt, read?, 5);
     Ok([
         u64::from(pool.size(&rt)),
         pool.num_idle(&rt) as u64,
@@ -268,18 +269,18 @@ fn tried<R: Wait + Abort + Copy + Drop>(
 
 #[test]
 fn queries_through_a_pool(rt: HostRuntime) -> Result<(), Fail> {
-    assert_eq!(rt; tried(rt, rt.alloc(), Trial::Queries)?, [1, 1, 3]);
+    same_three(&rt, tried(rt, rt.alloc(), Trial::Queries)?, [1, 1, 3]);
     Ok(())
 }
 
 #[test]
 fn levels_on_a_pool_over_a_store(rt: HostRuntime) -> Result<(), Fail> {
-    assert_eq!(rt; tried(rt, rt.alloc(), Trial::Levels)?, [0, 0, 6]);
+    same_three(&rt, tried(rt, rt.alloc(), Trial::Levels)?, [0, 0, 6]);
     Ok(())
 }
 
 #[test]
 fn a_pool_as_an_executor(rt: HostRuntime) -> Result<(), Fail> {
-    assert_eq!(rt; tried(rt, rt.alloc(), Trial::Handle)?, [1, 1, 2]);
+    same_three(&rt, tried(rt, rt.alloc(), Trial::Handle)?, [1, 1, 2]);
     Ok(())
 }

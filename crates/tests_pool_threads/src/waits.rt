@@ -4,7 +4,8 @@ ghost use Rattle.std.specs.Prelude.{◌≡◌, ℕ, ◌+◌, ◌^◌, ◌<◌, �
 
 use crate::clients::*;
 use crate::outside::{Conn, Counts, new_counts};
-use crate::setup::{options_of, pool_of};
+use crate::same::same_three;
+use crate::setup::pool_of;
 use sqlx_pool::*;
 use sqlx_pool_core::Outside;
 use sqlx_text::{Depth, Moment};
@@ -149,13 +150,8 @@ fn worker<H: Ledger, L: Loans, R: Wait>(
     (tally, said)
 }
 
-// What came of two clients: their last words, how many loans their tallies have, and how many marks the log.
-#[derive(Clone, Copy)]
-struct Came {
-    words: [u64; 2],
-    loans: u64,
-    marks: usize,
-}
+// What came of two clients: the last word of the second, how many loans their tallies have, and how many marks the log.
+type Came = [u64; 3];
 
 // Two clients in threads of their own, in a new pool of so many.
 fn two<H: Ledger + Send + Sync, L: Loans + Send + Sync, R: Wait + Threads + Sync>(
@@ -176,7 +172,7 @@ fn two<H: Ledger + Send + Sync, L: Loans + Send + Sync, R: Wait + Threads + Sync
     let one = all.split();
     let other = all.split();
     let shared = &pool;
-    let ((one, said), (other, told)) = join(
+    let ((one, _), (other, said)) = join(
         rt,
         move || -> (Tally<L>, u64)
             requires { one ≡ record { parts = 1; loans = 0 } }
@@ -189,11 +185,7 @@ fn two<H: Ledger + Send + Sync, L: Loans + Send + Sync, R: Wait + Threads + Sync
     );
     all.add(one);
     all.add(other);
-    Ok(Came {
-        words: [said, told],
-        loans: all.loans(),
-        marks: pool.log_len(rt),
-    })
+    Ok([said, all.loans(), pool.log_len(rt) as u64])
 }
 
 // The same, with ledgers.
@@ -220,36 +212,35 @@ fn in_threads<R: Wait + Threads + Sync>(
 #[test]
 fn two_threads_get_a_connection_each(rt: HostRuntime) -> Result<(), Fail> {
     let came = in_threads(&rt, rt.alloc(), 2, Work::Once, Work::Once)?;
-    assert_eq!(rt; came.loans, 2);
+    same_three(&rt, came, [KEPT, 2, 12]);
     Ok(())
 }
 
 #[test]
 fn two_threads_wait_for_one_connection(rt: HostRuntime) -> Result<(), Fail> {
     let came = in_threads(&rt, rt.alloc(), 1, Work::Often, Work::Often)?;
-    assert_eq!(rt; came.loans, 400);
-    assert_eq!(rt; came.marks, 2400);
+    same_three(&rt, came, [KEPT, 400, 2400]);
     Ok(())
 }
 
 #[test]
 fn a_return_wakes_who_waits(rt: HostRuntime) -> Result<(), Fail> {
     let came = in_threads(&rt, rt.alloc(), 1, Work::Hold(Act::Return), Work::Come)?;
-    assert_eq!(rt; came.words, [KEPT, KEPT]);
+    same_three(&rt, came, [KEPT, 2, 12]);
     Ok(())
 }
 
 #[test]
 fn a_detach_wakes_who_waits(rt: HostRuntime) -> Result<(), Fail> {
     let came = in_threads(&rt, rt.alloc(), 1, Work::Hold(Act::Detach), Work::Come)?;
-    assert_eq!(rt; came.words, [0, KEPT]);
+    same_three(&rt, came, [KEPT, 2, 12]);
     Ok(())
 }
 
 #[test]
 fn a_close_wakes_who_waits(rt: HostRuntime) -> Result<(), Fail> {
     let came = in_threads(&rt, rt.alloc(), 1, Work::Hold(Act::Shut), Work::Come)?;
-    assert_eq!(rt; came.words, [CLOSED, POOL_CLOSED]);
+    same_three(&rt, came, [POOL_CLOSED, 1, 9]);
     Ok(())
 }
 
@@ -278,10 +269,8 @@ fn times_out<H: Ledger, L: Loans, R: Wait + Abort>(
         &mut out,
         &mut tally,
     );
-    assert_eq!(rt;
-        [said, tally.loans(), pool.log_len(rt) as u64],
-        [TIMED_OUT, 0, 2]
-    );
+    let came = [said, tally.loans(), pool.log_len(rt) as u64];
+    same_three(rt, came, [TIMED_OUT, 0, 2]);
     Ok(())
 }
 
