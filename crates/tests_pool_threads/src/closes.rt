@@ -110,7 +110,7 @@ impl<H: Ledger, L: Loans, R: Wait + Drop> Outside<Conn, ()> for Closer<H, L, R> 
 }
 
 // A pool that is closed while it connects.
-const IN_CONNECT: Script = Script {
+const IN_CONNECT: Script<'static> = Script {
     rows: &[
         Row(1, Act::Ask, 0, 1, 1),
         Row(1, Act::Poll, 0, POOL_CLOSED, 4),
@@ -120,7 +120,7 @@ const IN_CONNECT: Script = Script {
 };
 
 // One that is closed while it pings the connection of its first loan.
-const IN_PING: Script = Script {
+const IN_PING: Script<'static> = Script {
     rows: &[
         Row(1, Act::Ask, 0, 1, 1),
         Row(1, Act::Poll, 0, LENT, 5),
@@ -150,7 +150,7 @@ fn closed_amid<H: Ledger, L: Loans, R: Wait + Abort + Copy + Drop>(
     alloc: Global,
     pool: &PoolOf<Conn, (), H, L>,
     closing: Closing,
-    script: &Script,
+    script: &Script<'_>,
     tally: &mut Tally<L>,
 ) -> Result<(), Fail>
     requires { 0 < tally.old.parts }
@@ -176,7 +176,7 @@ fn closed_in_one<H: Ledger, L: Loans, R: Wait + Abort + Copy + Drop>(
     rt: R,
     alloc: Global,
     closing: Closing,
-    script: &Script,
+    script: &Script<'_>,
     held: Blank,
     loans: Blank,
 ) -> Result<(), Fail>
@@ -185,7 +185,10 @@ fn closed_in_one<H: Ledger, L: Loans, R: Wait + Abort + Copy + Drop>(
     requires loans { (loans.name ≡ L.name) × (loans.parts ≡ L.parts) × (loans.parts ≡ 2 ^ 32) }
 {
     let (pool, mut tally) = pool_of::<Conn, (), H, L>(alloc, 1, (), held, loans)?;
-    closed_amid::<H, L, R>(rt, alloc, &pool, closing, script, &mut tally)
+    let played = closed_amid::<H, L, R>(rt, alloc, &pool, closing, script, &mut tally);
+    drop(pool);
+    drop(tally);
+    played
 }
 
 // The same, with ledgers.
@@ -193,7 +196,7 @@ fn closed_in<R: Wait + Abort + Copy + Drop>(
     rt: R,
     alloc: Global,
     closing: Closing,
-    script: &Script,
+    script: &Script<'_>,
 ) -> Result<(), Fail> {
     closed_in_one::<Brand, Brand, R>(
         rt,

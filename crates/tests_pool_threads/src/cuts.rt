@@ -117,9 +117,11 @@ fn counts<H: Ledger, L: Loans, R: Wait + Abort>(
 {
     let (pool, mut tally) = pool_of::<Conn, (), H, L>(alloc, 1, (), held, loans)?;
     let mut out = new_counts();
-    many::<Conn, (), H, L, R, Counts>(rt, alloc, &pool, cuts, &mut out, &mut tally)?;
+    let cut = many::<Conn, (), H, L, R, Counts>(rt, alloc, &pool, cuts, &mut out, &mut tally);
+    drop(pool);
+    drop(tally);
     same(rt, out.opened, 1);
-    Ok(())
+    cut
 }
 
 // The same, with ledgers.

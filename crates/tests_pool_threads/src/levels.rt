@@ -90,17 +90,17 @@ where
     error
 }
 
-// Works in a level on what is acquired, where it can be begun, and ends the level.
-fn acquired<'c, DB: Database, W: Acts<DB>, A: Acquire<DB, Holder = Borrowed<'c, DB>>>(
+// Works in a level on what was acquired, where it could be begun, and ends the level.
+fn in_begun<'c, DB: Database, W: Acts<DB>>(
     alloc: Global,
-    of: A,
+    begun: Result<Transaction<DB, Borrowed<'c, DB>>, (Error, Option<Borrowed<'c, DB>>)>,
     work: W,
     keeps: bool,
 ) -> Result<Option<i64>, Error>
 where
     DB::Connection: 'c,
 {
-    match of.begin(alloc) {
+    match begun {
         Ok(level) => {
             let (holder, done) = worked_in::<DB, W, Borrowed<'c, DB>>(alloc, level, work, keeps);
             let Borrowed(_conn) = holder;
@@ -112,6 +112,19 @@ where
             Err(error)
         }
     }
+}
+
+// The same on what is acquired now.
+fn acquired<'c, DB: Database, W: Acts<DB>, A: Acquire<DB, Holder = Borrowed<'c, DB>>>(
+    alloc: Global,
+    of: A,
+    work: W,
+    keeps: bool,
+) -> Result<Option<i64>, Error>
+where
+    DB::Connection: 'c,
+{
+    in_begun::<DB, W>(alloc, of.begin(alloc), work, keeps)
 }
 
 /// The text of a begin: one that begins, and one that doesn't.
@@ -238,7 +251,8 @@ fn nested<DB: Database, W: Acts<DB>>(
     work: W,
 ) -> Result<Option<i64>, Error> {
     let mut level = calls::begin::<DB>(alloc, conn)?;
-    let done = acquired::<DB, W, _>(alloc, &mut level, work, true);
+    let inner = Acquire::<DB>::begin(&mut level, alloc);
+    let done = in_begun::<DB, W>(alloc, inner, work, true);
     let (holder, answer) = ended::<DB, Borrowed<'_, DB>>(alloc, level, true);
     let Borrowed(_conn) = holder;
     after(done, answer)
@@ -263,14 +277,12 @@ fn in_either<DB: Database, W: Acts<DB>, T: Hold<DB>>(
 fn borrows<DB: Database, W: Acts<DB>, H: Ledger, L: Loans>(
     alloc: Global,
     conn: &mut PoolConnection<DB, H, L>,
-    first: W,
-    second: W,
-    third: W,
+    works: [W; 3],
 ) -> Result<Option<i64>, Error> {
-    let first = acquired::<DB, W, _>(alloc, &mut *conn, first, true);
-    let second = nested::<DB, W>(alloc, Hold::<DB>::conn_mut(conn), second);
+    let first = acquired::<DB, W, _>(alloc, &mut *conn, works[0], true);
+    let second = nested::<DB, W>(alloc, Hold::<DB>::conn_mut(conn), works[1]);
     let borrowed = Borrowed(Hold::<DB>::conn_mut(conn));
-    let third = acquired::<DB, W, _>(alloc, borrowed, third, false);
+    let third = acquired::<DB, W, _>(alloc, borrowed, works[2], false);
     last_of(first, last_of(second, third))
 }
 
@@ -329,13 +341,13 @@ pub fn number(done: Result<Option<i64>, Error>) -> Result<i64, Error> {
 /// How a level is begun, if one is; what is done, whether the level is kept, and what is read.
 pub struct Done<W>(pub Option<By>, pub W, pub bool, pub i64);
 
-// Works as a row says.
+// Works as a row says, and sees what was read.
 fn does<
     DB: Database,
     W: Acts<DB>,
     H: Ledger,
     L: Loans,
-    R: Wait,
+    R: Wait + Abort,
     X: Outside<DB::Connection, DB::Options>,
 >(
     rt: &R,
@@ -344,16 +356,17 @@ fn does<
     row: &Done<W>,
     out: &mut X,
     tally: &mut Tally<L>,
-) -> Result<Option<i64>, Error>
+) -> Result<(), Error>
 where
     DB::Connection: Drop,
     requires { 0 < tally.old.parts }
     ensures { tally.new.parts ≡ tally.old.parts }
 {
-    match row.0 {
+    let done = match row.0 {
         Some(by) => works::<DB, W, H, L, R, X>(rt, alloc, pool, by, row.1, row.2, out, tally),
         None => lent_for::<DB, W, H, L, R, X>(rt, alloc, pool, row.1, out, tally),
-    }
+    };
+    reads(rt, done, row.3)
 }
 
 /// Works row by row.
@@ -378,20 +391,19 @@ where
     ensures { tally.new.parts ≡ tally.old.parts }
 {
     for row in rows {
-        let done = number(does::<DB, W, H, L, R, X>(rt, alloc, pool, row, out, tally))?;
-        same_read(rt, done, row.3);
+        does::<DB, W, H, L, R, X>(rt, alloc, pool, row, out, tally)?;
     }
     Ok(())
 }
 
 /// Four works on one connection of the pool: three on what it lends, as it is and as one that is borrowed, of which the
-/// third is read, and one over a `MaybePoolConnection` of it; the connection is then closed by its return.
+/// third is read, and one over a `MaybePoolConnection` of it, whose number is wanted; the connection is then closed by its return.
 pub fn either<
     DB: Database,
     W: Acts<DB>,
     H: Ledger,
     L: Loans,
-    R: Wait,
+    R: Wait + Abort,
     X: Outside<DB::Connection, DB::Options>,
 >(
     rt: &R,
@@ -399,17 +411,22 @@ pub fn either<
     pool: &Pool<DB, H, L>,
     lent: [W; 3],
     last: W,
+    wanted: i64,
     out: &mut X,
     tally: &mut Tally<L>,
-) -> Result<Option<i64>, Error>
+) -> Result<(), Error>
 where
     DB::Connection: Drop,
     requires { 0 < tally.old.parts }
 {
     let mut clock = FixedClock(Moment(0));
-    let mut conn = pool.acquire_wait::<R, FixedClock, X>(rt, alloc, &mut clock, 1, out, tally)?;
-    let [first, second, third] = lent;
-    let lent = borrows::<DB, W, H, L>(alloc, &mut conn, first, second, third);
+    let mut conn = match pool.acquire_wait::<R, FixedClock, X>(
+        rt, alloc, &mut clock, 1, out, tally,
+    ) {
+        Ok(conn) => conn,
+        Err(error) => return Err(error),
+    };
+    let lent = borrows::<DB, W, H, L>(alloc, &mut conn, lent);
     let holder = MaybePoolConnectionOf::PoolConnection(conn);
     let (holder, done) = in_either::<DB, W, _>(alloc, holder, last);
     match holder {
@@ -420,5 +437,16 @@ where
             let _ = conn.return_to_pool::<R, X>(rt, alloc, Moment(0), out);
         }
     }
-    last_of(lent, done)
+    reads(rt, last_of(lent, done), wanted)
+}
+
+// What was done, where nothing was refused, is this number.
+fn reads<R: Abort>(rt: &R, done: Result<Option<i64>, Error>, wanted: i64) -> Result<(), Error> {
+    match number(done) {
+        Ok(read) => {
+            same_read(rt, read, wanted);
+            Ok(())
+        }
+        Err(error) => Err(error),
+    }
 }

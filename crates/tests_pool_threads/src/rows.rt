@@ -9,7 +9,7 @@ use crate::same::{same, same_three};
 use crate::setup::pool_of;
 use sqlx_pool::*;
 use sqlx_pool_core::Outside;
-use sqlx_text::{Depth, Moment};
+use sqlx_text::{Depth, Moment, OutOfMemory};
 use std::alloc::Global;
 use std::marker::Brand;
 use std::process::Abort;
@@ -18,9 +18,9 @@ use std::sync::ledger::{Blank, Ledger};
 use std::test::*;
 
 /// Rows, what the log says behind them, and how many loans were made.
-pub struct Script {
-    pub rows: &'static [Row],
-    pub log: &'static str,
+pub struct Script<'s> {
+    pub rows: &'s [Row],
+    pub log: &'s str,
     pub loans: u64,
 }
 
@@ -29,7 +29,7 @@ pub fn performs<C: Depth + Drop, O: Drop, H: Ledger, L: Loans, R: Wait + Abort, 
     rt: &R,
     alloc: Global,
     pool: &PoolOf<C, O, H, L>,
-    script: &Script,
+    script: &Script<'_>,
     out: &mut X,
     tally: &mut Tally<L>,
 ) -> Result<(), Fail>
@@ -45,7 +45,7 @@ pub fn in_one<C: Depth + Drop, O: Drop, H: Ledger, L: Loans, R: Wait + Abort, X:
     rt: &R,
     alloc: Global,
     connect: O,
-    script: &Script,
+    script: &Script<'_>,
     out: &mut X,
     held: Blank,
     loans: Blank,
@@ -55,14 +55,17 @@ pub fn in_one<C: Depth + Drop, O: Drop, H: Ledger, L: Loans, R: Wait + Abort, X:
     requires loans { (loans.name ≡ L.name) × (loans.parts ≡ L.parts) × (loans.parts ≡ 2 ^ 32) }
 {
     let (pool, mut tally) = pool_of::<C, O, H, L>(alloc, 1, connect, held, loans)?;
-    performs::<C, O, H, L, R, X>(rt, alloc, &pool, script, out, &mut tally)
+    let played = performs::<C, O, H, L, R, X>(rt, alloc, &pool, script, out, &mut tally);
+    drop(pool);
+    drop(tally);
+    played
 }
 
 // The same where nothing is refused: what was opened and closed.
 fn counts<H: Ledger, L: Loans, R: Wait + Abort>(
     rt: &R,
     alloc: Global,
-    script: &Script,
+    script: &Script<'_>,
     held: Blank,
     loans: Blank,
 ) -> Result<Counts, Fail>
@@ -76,7 +79,7 @@ fn counts<H: Ledger, L: Loans, R: Wait + Abort>(
 }
 
 // The same, with ledgers: how many were opened, closed, and closed hard.
-fn counted<R: Wait + Abort>(rt: &R, alloc: Global, script: &Script) -> Result<[u64; 3], Fail> {
+fn counted<R: Wait + Abort>(rt: &R, alloc: Global, script: &Script<'_>) -> Result<[u64; 3], Fail> {
     let out = counts::<Brand, Brand, R>(
         rt,
         alloc,
@@ -93,7 +96,7 @@ const LATE: u64 = 30_000_000_016;
 /// A pool of one, call by call: a second client waits in vain; a connection past the line is detached, that of a loan is
 /// closed, and one is kept and reaped beyond the limit; a leaked one keeps its permit, so that a ticket times out, and
 /// another ends by the close; a closed pool refuses to be asked.
-pub const WAY: Script = Script {
+pub const WAY: Script<'static> = Script {
     rows: &[
         Row(1, Act::Ask, 0, 1, 1),
         Row(1, Act::Poll, 0, LENT, 5),
@@ -169,7 +172,7 @@ fn a_pool_of_one(rt: HostRuntime) -> Result<(), Fail> {
 }
 
 // A ticket is asked before the pool is closed, and polled afterwards; a step of a closed pool isn't polled.
-const SHUT: Script = Script {
+const SHUT: Script<'static> = Script {
     rows: &[
         Row(2, Act::Ask, 0, 1, 1),
         Row(2, Act::Shut, 0, 0, 2),
@@ -187,7 +190,7 @@ fn a_close_while_a_ticket_waits(rt: HostRuntime) -> Result<(), Fail> {
 }
 
 // A ticket waits while the only connection is out, and is served when that one comes back.
-const SERVED: Script = Script {
+const SERVED: Script<'static> = Script {
     rows: &[
         Row(1, Act::Ask, 0, 1, 1),
         Row(1, Act::Poll, 0, LENT, 5),
@@ -220,7 +223,7 @@ fn a_ticket_that_waits(rt: HostRuntime) -> Result<(), Fail> {
 }
 
 // The first connections are opened with the pool and lie idle, and are closed with it.
-const FIRST: Script = Script {
+const FIRST: Script<'static> = Script {
     rows: &[
         Row(1, Act::Size, 0, 2, 4),
         Row(1, Act::Idle, 0, 2, 4),
@@ -261,7 +264,10 @@ fn opens_first<C: Depth + Drop, O: Drop, H: Ledger, L: Loans, R: Wait + Abort, X
         loans,
     )?;
     same(rt, u64::from(pool.options().get_min_connections()), 2);
-    performs::<C, O, H, L, R, X>(rt, alloc, &pool, &FIRST, out, &mut tally)
+    let played = performs::<C, O, H, L, R, X>(rt, alloc, &pool, &FIRST, out, &mut tally);
+    drop(pool);
+    drop(tally);
+    played
 }
 
 // The same where nothing is refused.
@@ -289,35 +295,58 @@ fn a_pool_that_connects(rt: HostRuntime) -> Result<(), Fail> {
     )
 }
 
+// The connect options.
+fn option<C: Depth + Drop, H: Ledger, L: Loans, R: Wait>(
+    rt: &R,
+    pool: &PoolOf<C, u32, H, L>,
+) -> Result<u64, OutOfMemory> {
+    let options = pool.connect_options(rt)?;
+    let option = u64::from(*options);
+    drop(options);
+    Ok(option)
+}
+
 // The connect options are read back as they were set.
+fn resets<C: Depth + Drop, H: Ledger, L: Loans, R: Wait + Abort>(
+    rt: &R,
+    alloc: Global,
+    pool: &PoolOf<C, u32, H, L>,
+    set: u32,
+) -> Result<(), OutOfMemory> {
+    pool.set_connect_options(rt, alloc, set)?;
+    same(rt, option(rt, pool)?, u64::from(set));
+    Ok(())
+}
+
+// The same in a new pool, which has those that it was made with.
 fn sets_options<H: Ledger, L: Loans, R: Wait + Abort>(
     rt: &R,
     alloc: Global,
     held: Blank,
     loans: Blank,
-) -> Result<(), Fail>
+) -> Result<[u64; 2], OutOfMemory>
     requires max { L.max ≡ 1 }
     requires held { (held.name ≡ H.name) × (held.parts ≡ H.parts) × (held.parts ≡ 2 ^ 32) }
     requires loans { (loans.name ≡ L.name) × (loans.parts ≡ L.parts) × (loans.parts ≡ 2 ^ 32) }
 {
     let (pool, tally) = pool_of::<Conn, u32, H, L>(alloc, 1, 5, held, loans)?;
-    let first = *pool.connect_options(rt)?;
-    pool.set_connect_options(rt, alloc, 7)?;
-    let second = *pool.connect_options(rt)?;
-    same_three(
-        rt,
-        [u64::from(first), u64::from(second), tally.loans()],
-        [5, 7, 0],
-    );
-    Ok(())
+    let first = option(rt, &pool);
+    let set = resets(rt, alloc, &pool, 7);
+    let loans = tally.loans();
+    drop(pool);
+    drop(tally);
+    set?;
+    Ok([first?, loans])
 }
 
 #[test]
 fn options_that_are_set(rt: HostRuntime) -> Result<(), Fail> {
-    sets_options::<Brand, Brand, HostRuntime>(
+    let [first, loans] = sets_options::<Brand, Brand, HostRuntime>(
         &rt,
         rt.alloc(),
         Blank::new(1 << 32),
         Blank::new(1 << 32),
-    )
+    )?;
+    same_three(&rt, [first, loans, 0], [5, 0, 0]);
+    Ok(())
 }

@@ -30,7 +30,7 @@ pub fn pool_of<C: Depth + Drop, O: Drop, H: Ledger, L: Loans>(
     requires some { 1 ≤ max }
     requires held { (held.name ≡ H.name) × (held.parts ≡ H.parts) × (held.parts ≡ 2 ^ 32) }
     requires loans { (loans.name ≡ L.name) × (loans.parts ≡ L.parts) × (loans.parts ≡ 2 ^ 32) }
-    ensures all { IfOk result (λ made. made.1.parts ≡ L.parts) }
+    ensures tally { IfOk result (λ made. made.1 ≡ record { parts = L.parts; loans = 0 }) }
     ensures some { IfOk result (λ made. 0 < made.1.parts) }
 {
     options_of(max).connect_lazy_with::<C, O, H, L>(alloc, connect, held, loans)

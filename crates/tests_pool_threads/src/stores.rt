@@ -5,14 +5,14 @@ ghost use Rattle.std.specs.Prelude.{◌≡◌, ◌^◌, ◌<◌, ◌≤◌};
 
 use crate::levels::*;
 use crate::rows::{WAY, in_one};
-use crate::same::{same, same_read, same_three};
+use crate::same::{same_read, same_three};
 use crate::works::{Acts, Work};
 use mem_driver::MemStore;
 use shared_mem_driver::{SharedMem, SharedMemConnection, SharedMemConnector};
 use sqlx_any::{ConnectOptions, Connector, Database, Executor};
 use sqlx_pool::*;
 use sqlx_pool_core::Outside;
-use sqlx_text::{Error, Moment};
+use sqlx_text::{Depth, Error, Moment};
 use std::alloc::Global;
 use std::marker::Brand;
 use std::process::Abort;
@@ -54,13 +54,15 @@ fn way_of_a_store<H: Ledger, L: Loans, R: Wait + Abort + Copy + Drop>(
     requires loans { (loans.name ≡ L.name) × (loans.parts ≡ L.parts) × (loans.parts ≡ 2 ^ 32) }
 {
     let mut connector = SharedMemConnector::new(alloc, rt, MemStore::new(alloc))?;
-    way_over::<SharedMem<R>, SharedMemConnector<R>, H, L, R>(
+    let went = way_over::<SharedMem<R>, SharedMemConnector<R>, H, L, R>(
         &rt,
         alloc,
         &mut connector,
         held,
         loans,
-    )
+    );
+    drop(connector);
+    went
 }
 
 #[test]
@@ -113,8 +115,45 @@ const LEVELS: &[Done<Work>] = &[
     ),
 ];
 
-// A pool that opens its connections as they are asked for: how many connections there are and are idle at the end, and
-// how many loans there were.
+// How many connections there are, how many are idle, and how many loans were made.
+fn numbers<C: Depth + Drop, O: Drop, H: Ledger, L: Loans, R: Wait>(
+    rt: &R,
+    pool: &PoolOf<C, O, H, L>,
+    tally: &Tally<L>,
+) -> [u64; 3] {
+    let size = u64::from(pool.size(rt));
+    [size, pool.num_idle(rt) as u64, tally.loans()]
+}
+
+// The works of a trial.
+fn tried_on<
+    DB: Database,
+    H: Ledger,
+    L: Loans,
+    R: Wait + Abort,
+    X: Outside<DB::Connection, DB::Options>,
+>(
+    rt: &R,
+    alloc: Global,
+    pool: &Pool<DB, H, L>,
+    trial: Trial,
+    out: &mut X,
+    tally: &mut Tally<L>,
+) -> Result<(), Error>
+where
+    DB::Connection: Drop,
+    Work: Acts<DB>,
+    requires { 0 < tally.old.parts }
+{
+    if let Trial::Queries = trial {
+        return does_all::<DB, Work, H, L, R, X>(rt, alloc, pool, QUERIES, out, tally);
+    }
+    does_all::<DB, Work, H, L, R, X>(rt, alloc, pool, LEVELS, out, tally)?;
+    let lent = [Work::Put(2, 7), Work::Put(2, 8), Work::Get(2)];
+    either::<DB, Work, H, L, R, X>(rt, alloc, pool, lent, Work::Get(2), 8, out, tally)
+}
+
+// A pool that opens its connections as they are asked for: its numbers at the end.
 fn lazily<
     DB: Database,
     H: Ledger,
@@ -128,7 +167,7 @@ fn lazily<
     out: &mut X,
     held: Blank,
     loans: Blank,
-) -> Result<[u64; 3], Fail>
+) -> Result<[u64; 3], Error>
 where
     DB::Connection: Drop,
     Work: Acts<DB>,
@@ -137,28 +176,15 @@ where
     requires loans { (loans.name ≡ L.name) × (loans.parts ≡ L.parts) × (loans.parts ≡ 2 ^ 32) }
 {
     let (pool, mut tally) = Pool::<DB, H, L>::connect_lazy(alloc, "mem:", held, loans)?;
-    same(rt, u64::from(pool.size(rt)), 0);
-    if let Trial::Queries = trial {
-        does_all::<DB, Work, H, L, R, X>(rt, alloc, &pool, QUERIES, out, &mut tally)?;
-    } else {
-        does_all::<DB, Work, H, L, R, X>(rt, alloc, &pool, LEVELS, out, &mut tally)?;
-        let lent = [Work::Put(2, 7), Work::Put(2, 8), Work::Get(2)];
-        let read = either::<DB, Work, H, L, R, X>(
-            rt,
-            alloc,
-            &pool,
-            lent,
-            Work::Get(2),
-            out,
-            &mut tally,
-        );
-        same_read(rt, number(read)?, 8);
+    same_three(rt, numbers(rt, &pool, &tally), [0, 0, 0]);
+    let tried = tried_on::<DB, H, L, R, X>(rt, alloc, &pool, trial, out, &mut tally);
+    let numbers = numbers(rt, &pool, &tally);
+    drop(pool);
+    drop(tally);
+    match tried {
+        Ok(()) => Ok(numbers),
+        Err(error) => Err(error),
     }
-    Ok([
-        u64::from(pool.size(rt)),
-        pool.num_idle(rt) as u64,
-        tally.loans(),
-    ])
 }
 
 // A key is written by one call of an executor and read by another.
@@ -170,14 +196,40 @@ where
     Acts::<DB>::work_on(Work::Get(1), alloc, on)
 }
 
-// A pool that opens a connection at first, as an executor, whose calls are loans: the same numbers.
+// The pool as an executor, whose calls are loans: what is read, and the tally.
+fn handled<
+    DB: Database,
+    H: Ledger,
+    L: Loans,
+    R: Wait + Drop,
+    X: Outside<DB::Connection, DB::Options> + Drop,
+>(
+    rt: R,
+    alloc: Global,
+    pool: &Pool<DB, H, L>,
+    out: X,
+    tally: Tally<L>,
+) -> (Result<i64, Error>, Tally<L>)
+where
+    DB::Connection: Executor<DB> + Drop,
+    Work: Acts<DB>,
+    requires { 0 < tally.parts }
+{
+    let mut handle = pool.with(rt, FixedClock(Moment(0)), 1, out, tally);
+    let read = number(calls::<DB, _>(alloc, &mut handle));
+    let (_clock, out, tally) = handle.into_parts();
+    drop(out);
+    (read, tally)
+}
+
+// A pool that opens a connection at first, as an executor: its numbers at the end.
 fn by_a_handle<
     DB: Database,
     H: Ledger,
     L: Loans,
     R: Wait + Abort + Copy + Drop,
     X: Outside<DB::Connection, DB::Options> + Drop,
->(rt: R, alloc: Global, out: X, held: Blank, loans: Blank) -> Result<[u64; 3], Fail>
+>(rt: R, alloc: Global, out: X, held: Blank, loans: Blank) -> Result<[u64; 3], Error>
 where
     DB::Connection: Executor<DB> + Drop,
     Work: Acts<DB>,
@@ -186,25 +238,34 @@ where
     requires loans { (loans.name ≡ L.name) × (loans.parts ≡ L.parts) × (loans.parts ≡ 2 ^ 32) }
 {
     let mut out = out;
-    let (pool, tally) = Pool::<DB, H, L>::connect::<R, X>(
-        &rt,
-        alloc,
-        "mem:",
-        Moment(0),
-        &mut out,
-        held,
-        loans,
-    )?;
-    let mut handle = pool.with(rt, FixedClock(Moment(0)), 1, out, tally);
-    let read = number(calls::<DB, _>(alloc, &mut handle));
-    let (_clock, out, tally) = handle.into_parts();
-    drop(out);
-    same_read(&rt, read?, 5);
-    Ok([
-        u64::from(pool.size(&rt)),
-        pool.num_idle(&rt) as u64,
-        tally.loans(),
-    ])
+    match Pool::<DB, H, L>::connect::<R, X>(&rt, alloc, "mem:", Moment(0), &mut out, held, loans) {
+        Ok((pool, tally)) => {
+            let (read, tally) = handled::<DB, H, L, R, X>(rt, alloc, &pool, out, tally);
+            let numbers = numbers(&rt, &pool, &tally);
+            drop(pool);
+            drop(tally);
+            read_five(&rt, read, numbers)
+        }
+        Err(error) => {
+            drop(out);
+            Err(error)
+        }
+    }
+}
+
+// The numbers, where five was read.
+fn read_five<R: Abort>(
+    rt: &R,
+    read: Result<i64, Error>,
+    numbers: [u64; 3],
+) -> Result<[u64; 3], Error> {
+    match read {
+        Ok(read) => {
+            same_read(rt, read, 5);
+            Ok(numbers)
+        }
+        Err(error) => Err(error),
+    }
 }
 
 // A trial by the connections of a connector.
@@ -215,7 +276,7 @@ fn over<DB: Database, K: Connector<DB>, H: Ledger, L: Loans, R: Wait + Abort + C
     connector: &mut K,
     held: Blank,
     loans: Blank,
-) -> Result<[u64; 3], Fail>
+) -> Result<[u64; 3], Error>
 where
     DB::Connection: Executor<DB> + Drop,
     Work: Acts<DB>,
@@ -242,20 +303,22 @@ fn over_a_store<H: Ledger, L: Loans, R: Wait + Abort + Copy + Drop>(
     trial: Trial,
     held: Blank,
     loans: Blank,
-) -> Result<[u64; 3], Fail>
+) -> Result<[u64; 3], Error>
     requires max { L.max ≡ 10 }
     requires held { (held.name ≡ H.name) × (held.parts ≡ H.parts) × (held.parts ≡ 2 ^ 32) }
     requires loans { (loans.name ≡ L.name) × (loans.parts ≡ L.parts) × (loans.parts ≡ 2 ^ 32) }
 {
     let mut connector = SharedMemConnector::new(alloc, rt, MemStore::new(alloc))?;
-    over::<SharedMem<R>, SharedMemConnector<R>, H, L, R>(
+    let tried = over::<SharedMem<R>, SharedMemConnector<R>, H, L, R>(
         rt,
         alloc,
         trial,
         &mut connector,
         held,
         loans,
-    )
+    );
+    drop(connector);
+    tried
 }
 
 // The same, with ledgers.
@@ -263,7 +326,7 @@ fn tried<R: Wait + Abort + Copy + Drop>(
     rt: R,
     alloc: Global,
     trial: Trial,
-) -> Result<[u64; 3], Fail> {
+) -> Result<[u64; 3], Error> {
     over_a_store::<Brand, Brand, R>(rt, alloc, trial, Blank::new(1 << 32), Blank::new(1 << 32))
 }
 
