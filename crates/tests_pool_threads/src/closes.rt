@@ -3,11 +3,14 @@
 ghost use Rattle.std.specs.Prelude.{◌≡◌, ◌^◌, ◌<◌};
 ghost use Rattle.sqlx_pool_core.specs.Calls as call;
 
+use crate::clients::*;
 use crate::outside::{Conn, Counts, new_counts};
-use crate::rows::{lend_and_return, lines};
+use crate::rows::{Script, performs};
+use crate::same::same_three;
+use crate::setup::pool_of;
 use sqlx_pool::*;
 use sqlx_pool_core::Outside;
-use sqlx_text::{Error, Moment};
+use sqlx_text::Error;
 use std::alloc::Global;
 use std::marker::Brand;
 use std::process::Abort;
@@ -18,8 +21,9 @@ use std::test::*;
 // In which call the pool is closed.
 #[derive(Clone, Copy)]
 enum Closing {
-    Never,
+    // In the first connect.
     Connect,
+    // In the second ping, of which the first is that of a return.
     Ping,
 }
 
@@ -29,7 +33,14 @@ struct Closer<H: Ledger, L: Loans, R: Wait + Drop> {
     rt: R,
     pool: PoolOf<Conn, (), H, L>,
     closing: Closing,
+    pings: u64,
     counts: Counts,
+}
+
+impl<H: Ledger, L: Loans, R: Wait + Drop> Closer<H, L, R> {
+    fn closes(&mut self) {
+        self.pool.close::<R, Counts>(&self.rt, &mut self.counts);
+    }
 }
 
 impl<H: Ledger, L: Loans, R: Wait + Drop> Outside<Conn, ()> for Closer<H, L, R> {
@@ -41,16 +52,20 @@ impl<H: Ledger, L: Loans, R: Wait + Drop> Outside<Conn, ()> for Closer<H, L, R> 
 
     ghost does = { call.Facts (λ _. 0) (λ _. 0) (λ _ _. 0) (λ _. Unit {0}) };
 
-    fn connect(&mut self, alloc: Global, options: &()) -> Result<Conn, Error> {
+    fn connect(&mut self, _alloc: Global, _options: &()) -> Result<Conn, Error> {
         if let Closing::Connect = self.closing {
-            self.pool.close::<R, Counts>(&self.rt, &mut self.counts);
+            self.closes();
         }
-        self.counts.connect(alloc, options)
+        self.counts.opened = self.counts.opened.saturating_add(1);
+        Ok(Conn { depth: 0 })
     }
 
     fn ping(&mut self, _conn: &mut Conn) -> Result<(), Error> {
-        if let Closing::Ping = self.closing {
-            self.pool.close::<R, Counts>(&self.rt, &mut self.counts);
+        self.pings = self.pings.saturating_add(1);
+        if let Closing::Ping = self.closing
+            && self.pings == 2
+        {
+            self.closes();
         }
         Ok(())
     }
@@ -83,51 +98,37 @@ impl<H: Ledger, L: Loans, R: Wait + Drop> Outside<Conn, ()> for Closer<H, L, R> 
         0
     }
 
-    fn close(&mut self, conn: Conn) {
-        self.counts.close(conn);
+    fn close(&mut self, _conn: Conn) {
+        self.counts.closed = self.counts.closed.saturating_add(1);
     }
 
-    fn close_hard(&mut self, conn: Conn) {
-        self.counts.close_hard(conn);
+    fn close_hard(&mut self, _conn: Conn) {
+        self.counts.closed_hard = self.counts.closed_hard.saturating_add(1);
     }
 
     ghost facts = { λ _ _ _ h. h };
 }
 
-// Asks and polls once: whether the ticket ended as that of a closed pool.
-fn is_closed_meanwhile<H: Ledger, L: Loans, R: Wait + Drop>(
-    rt: &R,
-    alloc: Global,
-    pool: &PoolOf<Conn, (), H, L>,
-    out: &mut Closer<H, L, R>,
-    tally: &mut Tally<L>,
-) -> Result<bool, Error>
-    requires { 0 < tally.old.parts }
-    ensures { tally.new.parts ≡ tally.old.parts }
-{
-    let asked = pool.acquire(rt, alloc, Moment(0), 1)?;
-    match asked.poll::<R, Closer<H, L, R>>(rt, alloc, Moment(0), out, tally) {
-        Polling::Failed(error) => {
-            let closed = matches!(&error, Error::PoolClosed);
-            drop(error);
-            Ok(closed)
-        }
-        Polling::Pending(asked, _) => {
-            asked.cancel(rt);
-            Ok(false)
-        }
-        Polling::Ready(conn) => {
-            conn.return_to_pool::<R, Closer<H, L, R>>(rt, alloc, Moment(0), out);
-            Ok(false)
-        }
-    }
-}
+// A pool that is closed while it connects.
+const IN_CONNECT: Script<'static> = Script {
+    rows: &[
+        Row(1, Act::Ask, 0, 1, 1),
+        Row(1, Act::Poll, 0, POOL_CLOSED, 4),
+    ],
+    log: "asked 1 1 30000000000\nleft 1\nshut\nended 1\n",
+    loans: 0,
+};
 
-// What the log says of a pool that is closed while it connects.
-const IN_CONNECT: &str = "asked 1 1 30000000000\nleft 1\nshut\nended 1\n";
-
-// What it says of one that is closed while it pings the connection of its first loan.
-const IN_PING: &str = "asked 1 1 30000000000
+// One that is closed while it pings the connection of its first loan.
+const IN_PING: Script<'static> = Script {
+    rows: &[
+        Row(1, Act::Ask, 0, 1, 1),
+        Row(1, Act::Poll, 0, LENT, 5),
+        Row(1, Act::Return, 0, KEPT, 6),
+        Row(1, Act::Ask, 0, 2, 7),
+        Row(1, Act::Poll, 0, POOL_CLOSED, 12),
+    ],
+    log: "asked 1 1 30000000000
 left 1
 opened 1 0
 lent 1 1
@@ -139,22 +140,43 @@ taken 1
 shut
 closed 1
 ended 2
-";
+",
+    loans: 1,
+};
 
-// What the log says at the end.
-fn log_of(closing: Closing) -> &'static str {
-    match closing {
-        Closing::Never => "",
-        Closing::Connect => IN_CONNECT,
-        Closing::Ping => IN_PING,
-    }
-}
-
-// A new pool of one, and an outside that closes it.
+// A script in a pool of one, by an outside that closes it: the connection at hand is closed.
 fn closed_amid<H: Ledger, L: Loans, R: Wait + Abort + Copy + Drop>(
     rt: R,
     alloc: Global,
+    pool: &PoolOf<Conn, (), H, L>,
     closing: Closing,
+    script: &Script<'_>,
+    tally: &mut Tally<L>,
+) -> Result<(), Fail>
+    requires { 0 < tally.old.parts }
+{
+    let mut out = Closer {
+        rt,
+        pool: pool.try_clone()?,
+        closing,
+        pings: 0,
+        counts: new_counts(),
+    };
+    let played = performs::<Conn, (), H, L, R, Closer<H, L, R>>(
+        &rt, alloc, pool, script, &mut out, tally,
+    );
+    let counts = [out.counts.opened, out.counts.closed, out.counts.closed_hard];
+    drop(out);
+    same_three(&rt, counts, [1, 1, 0]);
+    played
+}
+
+// The same in a new pool.
+fn closed_in_one<H: Ledger, L: Loans, R: Wait + Abort + Copy + Drop>(
+    rt: R,
+    alloc: Global,
+    closing: Closing,
+    script: &Script<'_>,
     held: Blank,
     loans: Blank,
 ) -> Result<(), Fail>
@@ -162,50 +184,36 @@ fn closed_amid<H: Ledger, L: Loans, R: Wait + Abort + Copy + Drop>(
     requires held { (held.name ≡ H.name) × (held.parts ≡ H.parts) × (held.parts ≡ 2 ^ 32) }
     requires loans { (loans.name ≡ L.name) × (loans.parts ≡ L.parts) × (loans.parts ≡ 2 ^ 32) }
 {
-    let options = PoolOptions::new().max_connections(1);
-    let (pool, tally) = options.connect_lazy_with::<Conn, (), H, L>(alloc, (), held, loans)?;
-    let mut tally = tally;
-    let mut out = Closer {
+    let (pool, mut tally) = pool_of::<Conn, (), H, L>(alloc, 1, (), held, loans)?;
+    let played = closed_amid::<H, L, R>(rt, alloc, &pool, closing, script, &mut tally);
+    drop(pool);
+    drop(tally);
+    played
+}
+
+// The same, with ledgers.
+fn closed_in<R: Wait + Abort + Copy + Drop>(
+    rt: R,
+    alloc: Global,
+    closing: Closing,
+    script: &Script<'_>,
+) -> Result<(), Fail> {
+    closed_in_one::<Brand, Brand, R>(
         rt,
-        pool: pool.try_clone()?,
-        closing: Closing::Never,
-        counts: new_counts(),
-    };
-    if let Closing::Ping = closing {
-        let kept = lend_and_return::<Conn, (), H, L, R, Closer<H, L, R>>(
-            &rt, alloc, &pool, 0, 0, &mut out, &mut tally,
-        );
-        assert!(rt; kept, "a connection is idle");
-    }
-    out.closing = closing;
-    let closed = is_closed_meanwhile(&rt, alloc, &pool, &mut out, &mut tally)?;
-    assert!(rt; closed, "the ticket ends by the close");
-    assert!(rt;
-        out.counts.opened == 1 && out.counts.closed == 1 && out.counts.closed_hard == 0,
-        "the connection at hand is closed"
-    );
-    assert_eq!(rt; lines(&rt, alloc, &pool)?.as_str(), log_of(closing));
-    Ok(())
+        alloc,
+        closing,
+        script,
+        Blank::new(1 << 32),
+        Blank::new(1 << 32),
+    )
 }
 
 #[test]
 fn a_close_while_a_poll_connects(rt: HostRuntime) -> Result<(), Fail> {
-    closed_amid::<Brand, Brand, HostRuntime>(
-        rt,
-        rt.alloc(),
-        Closing::Connect,
-        Blank::new(1 << 32),
-        Blank::new(1 << 32),
-    )
+    closed_in(rt, rt.alloc(), Closing::Connect, &IN_CONNECT)
 }
 
 #[test]
 fn a_close_while_a_poll_pings(rt: HostRuntime) -> Result<(), Fail> {
-    closed_amid::<Brand, Brand, HostRuntime>(
-        rt,
-        rt.alloc(),
-        Closing::Ping,
-        Blank::new(1 << 32),
-        Blank::new(1 << 32),
-    )
+    closed_in(rt, rt.alloc(), Closing::Ping, &IN_PING)
 }

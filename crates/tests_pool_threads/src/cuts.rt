@@ -2,9 +2,14 @@
 
 ghost use Rattle.std.specs.Prelude.{◌≡◌, ◌^◌, ◌<◌, true};
 
+use crate::clients::{KEPT, loan};
+use crate::marks::lent;
 use crate::outside::{Conn, Counts, new_counts};
-use crate::rows::lend_and_return;
+use crate::same::same;
+use crate::setup::pool_of;
 use sqlx_pool::*;
+use sqlx_pool_core::Outside;
+use sqlx_text::Depth;
 use std::alloc::Global;
 use std::marker::Brand;
 use std::process::Abort;
@@ -12,35 +17,96 @@ use std::sync::Wait;
 use std::sync::ledger::{Blank, Ledger};
 use std::test::*;
 
-// One loan, which is given back, and a cut: what the log says then.
-fn a_loan_and_a_cut<H: Ledger, L: Loans, R: Wait + Abort>(
+// How a log is cut, and how many loans are made.
+#[derive(Clone, Copy)]
+struct Cuts {
+    loans: u64,
+    // It is cut after each loan.
+    each: bool,
+    // From how many marks on the pool cuts by itself.
+    limit: Option<usize>,
+    // How many marks it has behind its start at most.
+    most: usize,
+}
+
+const EACH: Cuts = Cuts {
+    loans: 100,
+    each: true,
+    limit: None,
+    most: 0,
+};
+
+// The log is no longer than the limit and the marks of a loan.
+const BY_ITSELF: Cuts = Cuts {
+    loans: 3000,
+    each: false,
+    limit: Some(60),
+    most: 66,
+};
+
+// A log has few marks behind a short start, as many as were counted, and has counted so many loans. It is let go.
+fn is_short<R: Abort>(rt: &R, log: MarkLog, behind: usize, most: usize, loans: u64) {
+    let marks = log.marks();
+    let all = log.lent_before().saturating_add(lent(marks));
+    let short = log.start_len() <= 6 && marks.len() == behind && behind <= most;
+    drop(log);
+    assert!(rt; short && all == loans, "{behind} marks, {all} loans");
+}
+
+// One loan, which is given back, and a cut where it is due: what the log says then.
+fn a_loan<C: Depth + Drop, O: Drop, H: Ledger, L: Loans, R: Wait + Abort, X: Outside<C, O>>(
     rt: &R,
     alloc: Global,
-    pool: &PoolOf<Conn, (), H, L>,
+    pool: &PoolOf<C, O, H, L>,
+    cuts: Cuts,
     at: u64,
-    out: &mut Counts,
+    out: &mut X,
     tally: &mut Tally<L>,
 ) -> Result<(), Fail>
     requires parts { 0 < tally.old.parts }
     requires cuts { L.cuts ≡ true }
-    requires few { at < 2 ^ 32 }
     ensures { tally.new.parts ≡ tally.old.parts }
 {
-    let kept = lend_and_return::<Conn, (), H, L, R, Counts>(rt, alloc, pool, at, at, out, tally);
-    assert!(rt; kept, "the connection is kept");
-    pool.cut_log(rt);
-    assert!(rt; pool.log_len(rt) == 0, "nothing is behind the start");
+    let kept = loan::<C, O, H, L, R, X>(rt, alloc, pool, 1, at, out, tally);
+    same(rt, kept, KEPT);
+    if cuts.each {
+        pool.cut_log(rt);
+    }
+    let behind = pool.log_len(rt);
     let log = pool.read_log(rt, alloc)?;
-    assert!(rt; log.start_len() <= 6, "the start is short");
-    assert!(rt; log.marks().is_empty(), "no mark is behind it");
-    assert!(rt; log.lent_before() == at + 1, "each loan is counted");
+    is_short(rt, log, behind, cuts.most, at.saturating_add(1));
     Ok(())
 }
 
-// A hundred of them, and the log that the tally with every part tells of.
-fn hundred_loans<H: Ledger, L: Loans, R: Wait + Abort>(
+// Many of them, and the log that the tally with every part tells of.
+fn many<C: Depth + Drop, O: Drop, H: Ledger, L: Loans, R: Wait + Abort, X: Outside<C, O>>(
     rt: &R,
     alloc: Global,
+    pool: &PoolOf<C, O, H, L>,
+    cuts: Cuts,
+    out: &mut X,
+    tally: &mut Tally<L>,
+) -> Result<(), Fail>
+    requires parts { 0 < tally.old.parts }
+    requires all { tally.old.parts ≡ L.parts }
+    requires cuts { L.cuts ≡ true }
+{
+    pool.set_log_limit(rt, cuts.limit);
+    for at in 0..cuts.loans {
+        a_loan::<C, O, H, L, R, X>(rt, alloc, pool, cuts, at, out, tally)?;
+    }
+    let log = pool.audit_log(rt, alloc, tally)?;
+    let behind = log.marks().len();
+    is_short(rt, log, behind, cuts.most, cuts.loans);
+    same(rt, tally.loans(), cuts.loans);
+    Ok(())
+}
+
+// The same in a new pool: one connection served all loans.
+fn counts<H: Ledger, L: Loans, R: Wait + Abort>(
+    rt: &R,
+    alloc: Global,
+    cuts: Cuts,
     held: Blank,
     loans: Blank,
 ) -> Result<(), Fail>
@@ -49,104 +115,26 @@ fn hundred_loans<H: Ledger, L: Loans, R: Wait + Abort>(
     requires held { (held.name ≡ H.name) × (held.parts ≡ H.parts) × (held.parts ≡ 2 ^ 32) }
     requires loans { (loans.name ≡ L.name) × (loans.parts ≡ L.parts) × (loans.parts ≡ 2 ^ 32) }
 {
-    let options = PoolOptions::new().max_connections(1);
-    let (pool, tally) = options.connect_lazy_with::<Conn, (), H, L>(alloc, (), held, loans)?;
-    let mut tally = tally;
+    let (pool, mut tally) = pool_of::<Conn, (), H, L>(alloc, 1, (), held, loans)?;
     let mut out = new_counts();
-    for at in 0..100u64 {
-        a_loan_and_a_cut::<H, L, R>(rt, alloc, &pool, at, &mut out, &mut tally)?;
-    }
-    let log = pool.audit_log(rt, alloc, &mut tally)?;
-    assert!(rt; log.lent_before() == 100, "the audit has all loans");
-    assert!(rt; tally.loans() == 100, "and so has the tally");
-    assert!(rt; out.opened == 1, "one connection served them");
-    Ok(())
+    let cut = many::<Conn, (), H, L, R, Counts>(rt, alloc, &pool, cuts, &mut out, &mut tally);
+    drop(pool);
+    drop(tally);
+    same(rt, out.opened, 1);
+    cut
+}
+
+// The same, with ledgers.
+fn cut<R: Wait + Abort>(rt: &R, alloc: Global, cuts: Cuts) -> Result<(), Fail> {
+    counts::<Brand, Brand, R>(rt, alloc, cuts, Blank::new(1 << 32), Blank::new(1 << 32))
 }
 
 #[test]
 fn a_log_that_is_cut_after_each_loan(rt: HostRuntime) -> Result<(), Fail> {
-    hundred_loans::<Brand, Brand, HostRuntime>(
-        &rt,
-        rt.alloc(),
-        Blank::new(1 << 32),
-        Blank::new(1 << 32),
-    )
-}
-
-// How many loans the pool that cuts by itself makes, and by how many marks its log is one to be cut.
-const LOANS: u64 = 3000;
-
-const LIMIT: usize = 60;
-
-// One loan, which is given back: the log is no longer than the limit and the marks of a loan, and its start is short.
-fn a_loan_and_a_look<H: Ledger, L: Loans, R: Wait + Abort>(
-    rt: &R,
-    alloc: Global,
-    pool: &PoolOf<Conn, (), H, L>,
-    out: &mut Counts,
-    tally: &mut Tally<L>,
-) -> Result<(), Fail>
-    requires { 0 < tally.old.parts }
-    ensures { tally.new.parts ≡ tally.old.parts }
-{
-    let kept = lend_and_return::<Conn, (), H, L, R, Counts>(rt, alloc, pool, 0, 0, out, tally);
-    assert!(rt; kept, "the connection is kept");
-    let behind = pool.log_len(rt);
-    assert!(rt; behind <= LIMIT + 6, "few marks are behind the start");
-    let log = pool.read_log(rt, alloc)?;
-    assert!(rt; log.start_len() <= 6, "the start is short");
-    assert!(rt;
-        log.marks().len() == behind,
-        "what is read is what was counted"
-    );
-    Ok(())
-}
-
-// Many loans in a pool that cuts by itself, and the log that the tally with every part tells of.
-fn cuts_by_itself<H: Ledger, L: Loans, R: Wait + Abort>(
-    rt: &R,
-    alloc: Global,
-    held: Blank,
-    loans: Blank,
-) -> Result<(), Fail>
-    requires max { L.max ≡ 1 }
-    requires cuts { L.cuts ≡ true }
-    requires held { (held.name ≡ H.name) × (held.parts ≡ H.parts) × (held.parts ≡ 2 ^ 32) }
-    requires loans { (loans.name ≡ L.name) × (loans.parts ≡ L.parts) × (loans.parts ≡ 2 ^ 32) }
-{
-    let options = PoolOptions::new().max_connections(1);
-    let (pool, tally) = options.connect_lazy_with::<Conn, (), H, L>(alloc, (), held, loans)?;
-    pool.set_log_limit(rt, Some(LIMIT));
-    let mut tally = tally;
-    let mut out = new_counts();
-    for _at in 0..LOANS {
-        a_loan_and_a_look::<H, L, R>(rt, alloc, &pool, &mut out, &mut tally)?;
-    }
-    let log = pool.audit_log(rt, alloc, &mut tally)?;
-    let behind = lent(log.marks());
-    assert!(rt; behind < LOANS, "most loans are forgotten");
-    assert!(rt;
-        log.lent_before().saturating_add(behind) == LOANS && tally.loans() == LOANS,
-        "the audit has all loans"
-    );
-    assert!(rt; out.opened == 1, "one connection served them");
-    Ok(())
-}
-
-// How many loans these marks make.
-fn lent(marks: &[Mark]) -> u64 {
-    marks
-        .iter()
-        .filter(|m| matches!(m, Mark::Lent { .. }))
-        .count() as u64
+    cut(&rt, rt.alloc(), EACH)
 }
 
 #[test]
 fn a_pool_that_cuts_its_log(rt: HostRuntime) -> Result<(), Fail> {
-    cuts_by_itself::<Brand, Brand, HostRuntime>(
-        &rt,
-        rt.alloc(),
-        Blank::new(1 << 32),
-        Blank::new(1 << 32),
-    )
+    cut(&rt, rt.alloc(), BY_ITSELF)
 }

@@ -5,22 +5,28 @@
 #![tactic(auto)]
 
 #[cfg(test)]
-mod begins;
+mod clients;
 #[cfg(test)]
 mod closes;
 #[cfg(test)]
 mod cuts;
 #[cfg(test)]
-mod handles;
+mod levels;
+#[cfg(test)]
+mod marks;
 #[cfg(test)]
 mod outside;
 #[cfg(test)]
 mod rows;
 #[cfg(test)]
-mod shared;
+mod same;
+#[cfg(test)]
+mod setup;
+#[cfg(test)]
+mod stores;
 #[cfg(test)]
 mod traits;
 #[cfg(test)]
-mod two_threads;
-#[cfg(test)]
 mod waits;
+#[cfg(test)]
+mod works;

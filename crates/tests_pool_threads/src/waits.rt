@@ -1,10 +1,14 @@
-//! Calls that wait for a connection.
+//! Clients in threads of their own, and calls that wait for a connection.
 
 ghost use Rattle.std.specs.Prelude.{◌≡◌, ℕ, ◌+◌, ◌^◌, ◌<◌, ◌≤◌};
 
+use crate::clients::*;
 use crate::outside::{Conn, Counts, new_counts};
+use crate::same::same_three;
+use crate::setup::pool_of;
 use sqlx_pool::*;
-use sqlx_text::{Error, Moment};
+use sqlx_pool_core::Outside;
+use sqlx_text::{Depth, Moment};
 use std::alloc::Global;
 use std::marker::Brand;
 use std::process::Abort;
@@ -13,100 +17,235 @@ use std::sync::ledger::{Blank, Ledger};
 use std::test::*;
 use std::thread::{Threads, join};
 
-type Conns<H, L> = PoolOf<Conn, (), H, L>;
-
-// How many loans each of two threads makes.
+// How many loans a client makes that waits often.
 const LOANS: u32 = 200;
 
-// Waits for a connection and returns it, with a clock that stands at 0. An error is let go.
-fn wait_once<H: Ledger, L: Loans, R: Wait>(
+// What a client in a thread of its own does.
+#[derive(Clone, Copy)]
+enum Work {
+    // Asks and polls once, and returns the connection.
+    Once,
+    // Waits for a connection and returns it, often.
+    Often,
+    // Holds a connection until another client has asked, and ends its loan by the act.
+    Hold(Act),
+    // Waits for a connection that another client holds, and returns it.
+    Come,
+}
+
+// Waits for a connection by a clock that stands still, and ends its loan: the word of that, or of the error.
+fn wait_once<C: Depth + Drop, O: Drop, H: Ledger, L: Loans, R: Wait, X: Outside<C, O>>(
     rt: &R,
     alloc: Global,
-    pool: &Conns<H, L>,
+    pool: &PoolOf<C, O, H, L>,
     client: u32,
-    out: &mut Counts,
+    now: u64,
+    act: Act,
+    until: usize,
+    out: &mut X,
     tally: &mut Tally<L>,
-)
+) -> u64
     requires { 0 < tally.old.parts }
     ensures parts { tally.new.parts ≡ tally.old.parts }
     ensures loans { tally.new.loans ≤ tally.old.loans + 1 }
 {
-    let mut clock = FixedClock(Moment(0));
-    match pool.acquire_wait::<R, FixedClock, Counts>(rt, alloc, &mut clock, client, out, tally) {
+    let mut clock = FixedClock(Moment(now));
+    match pool.acquire_wait::<R, FixedClock, X>(rt, alloc, &mut clock, client, out, tally) {
         Ok(conn) => {
-            conn.return_to_pool::<R, Counts>(rt, alloc, Moment(0), out);
+            until_long(rt, pool, until);
+            if let Act::Shut = act {
+                pool.close::<R, X>(rt, out);
+            }
+            ends::<C, O, H, L, R, X>(rt, alloc, conn, act, now, out)
         }
-        Err(error) => drop(error),
+        Err(error) => word(error),
     }
 }
 
-// A client's loans, and its tally.
-fn waits_often<H: Ledger, L: Loans, R: Wait>(
+// Looks until the log is as long, at most so often.
+fn until_long<C: Depth + Drop, O: Drop, H: Ledger, L: Loans, R: Wait>(
+    rt: &R,
+    pool: &PoolOf<C, O, H, L>,
+    marks: usize,
+) {
+    for _look in 0..20_000_000u32 {
+        if pool.log_len(rt) >= marks {
+            return;
+        }
+    }
+}
+
+// Waits for a connection and returns it, often: the last word.
+fn waits_often<C: Depth + Drop, O: Drop, H: Ledger, L: Loans, R: Wait, X: Outside<C, O>>(
     rt: &R,
     alloc: Global,
-    pool: &Conns<H, L>,
+    pool: &PoolOf<C, O, H, L>,
     client: u32,
+    out: &mut X,
+    tally: &mut Tally<L>,
+) -> u64
+    requires { 0 < tally.old.parts }
+    ensures { tally.new.loans ≤ tally.old.loans + 200 }
+{
+    let mut said = NONE;
+    for _at in 0..LOANS {
+        said = wait_once::<C, O, H, L, R, X>(
+            rt,
+            alloc,
+            pool,
+            client,
+            0,
+            Act::Return,
+            0,
+            out,
+            tally,
+        );
+    }
+    said
+}
+
+// What a client does: its last word. The marks of the first loan are five, and the next ask makes a sixth.
+fn works<C: Depth + Drop, O: Drop, H: Ledger, L: Loans, R: Wait, X: Outside<C, O>>(
+    rt: &R,
+    alloc: Global,
+    pool: &PoolOf<C, O, H, L>,
+    client: u32,
+    work: Work,
+    out: &mut X,
+    tally: &mut Tally<L>,
+) -> u64
+    requires { 0 < tally.old.parts }
+    ensures { tally.new.loans ≤ tally.old.loans + 200 }
+{
+    match work {
+        Work::Once => loan::<C, O, H, L, R, X>(rt, alloc, pool, client, 0, out, tally),
+        Work::Often => waits_often::<C, O, H, L, R, X>(rt, alloc, pool, client, out, tally),
+        Work::Hold(act) => {
+            wait_once::<C, O, H, L, R, X>(rt, alloc, pool, client, 0, act, 6, out, tally)
+        }
+        Work::Come => {
+            until_long(rt, pool, 5);
+            wait_once::<C, O, H, L, R, X>(rt, alloc, pool, client, 0, Act::Return, 0, out, tally)
+        }
+    }
+}
+
+// A client, with an outside that refuses nothing: its tally, and its last word.
+fn worker<H: Ledger, L: Loans, R: Wait>(
+    rt: &R,
+    alloc: Global,
+    pool: &PoolOf<Conn, (), H, L>,
+    client: u32,
+    work: Work,
     tally: Tally<L>,
-) -> Tally<L>
+) -> (Tally<L>, u64)
     requires { tally ≡ record { parts = 1; loans = 0 } }
-    ensures { result.loans ≤ 200 }
+    ensures { result.0.loans ≤ 200 }
 {
     let mut tally = tally;
     let mut out = new_counts();
-    for _at in 0..LOANS {
-        wait_once(rt, alloc, pool, client, &mut out, &mut tally);
-    }
-    tally
+    let said = works::<Conn, (), H, L, R, Counts>(
+        rt, alloc, pool, client, work, &mut out, &mut tally,
+    );
+    (tally, said)
 }
 
-// Two clients in threads of their own wait for the one connection of a pool: how many loans their tallies have, and how
-// many marks the log.
+// What came of two clients: the last word of the second, how many loans their tallies have, and how many marks the log.
+type Came = [u64; 3];
+
+// Two clients in threads of their own, in a new pool of so many.
 fn two<H: Ledger + Send + Sync, L: Loans + Send + Sync, R: Wait + Threads + Sync>(
     rt: &R,
     alloc: Global,
+    max: u32,
+    first: Work,
+    second: Work,
     held: Blank,
     loans: Blank,
-) -> Result<(u64, usize), Fail>
-    requires max { L.max ≡ 1 }
+) -> Result<Came, Fail>
+    requires max { L.max ≡ max }
+    requires some { 1 ≤ max }
     requires held { (held.name ≡ H.name) × (held.parts ≡ H.parts) × (held.parts ≡ 2 ^ 32) }
     requires loans { (loans.name ≡ L.name) × (loans.parts ≡ L.parts) × (loans.parts ≡ 2 ^ 32) }
 {
-    let options = PoolOptions::new().max_connections(1);
-    let (pool, mut all) = options.connect_lazy_with::<Conn, (), H, L>(alloc, (), held, loans)?;
+    let (pool, mut all) = pool_of::<Conn, (), H, L>(alloc, max, (), held, loans)?;
     let one = all.split();
     let other = all.split();
     let shared = &pool;
-    let (one, other) = join(
+    let ((one, _), (other, said)) = join(
         rt,
-        move || -> Tally<L>
+        move || -> (Tally<L>, u64)
             requires { one ≡ record { parts = 1; loans = 0 } }
-            ensures { result.loans ≤ 200 }
-        { waits_often(rt, alloc, shared, 1, one) },
-        move || -> Tally<L>
+            ensures { result.0.loans ≤ 200 }
+        { worker(rt, alloc, shared, 1, first, one) },
+        move || -> (Tally<L>, u64)
             requires { other ≡ record { parts = 1; loans = 0 } }
-            ensures { result.loans ≤ 200 }
-        { waits_often(rt, alloc, shared, 2, other) },
+            ensures { result.0.loans ≤ 200 }
+        { worker(rt, alloc, shared, 2, second, other) },
     );
     all.add(one);
     all.add(other);
-    Ok((all.loans(), pool.log_len(rt)))
+    Ok([said, all.loans(), pool.log_len(rt) as u64])
+}
+
+// The same, with ledgers.
+fn in_threads<R: Wait + Threads + Sync>(
+    rt: &R,
+    alloc: Global,
+    max: u32,
+    first: Work,
+    second: Work,
+) -> Result<Came, Fail>
+    requires { 1 ≤ max }
+{
+    two::<Brand, Brand, R>(
+        rt,
+        alloc,
+        max,
+        first,
+        second,
+        Blank::new(1 << 32),
+        Blank::new(1 << 32),
+    )
+}
+
+#[test]
+fn two_threads_get_a_connection_each(rt: HostRuntime) -> Result<(), Fail> {
+    let came = in_threads(&rt, rt.alloc(), 2, Work::Once, Work::Once)?;
+    same_three(&rt, came, [KEPT, 2, 12]);
+    Ok(())
 }
 
 #[test]
 fn two_threads_wait_for_one_connection(rt: HostRuntime) -> Result<(), Fail> {
-    let (loans, marks) = two::<Brand, Brand, HostRuntime>(
-        &rt,
-        rt.alloc(),
-        Blank::new(1 << 32),
-        Blank::new(1 << 32),
-    )?;
-    assert_eq!(rt; loans, 400);
-    assert_eq!(rt; marks, 2400);
+    let came = in_threads(&rt, rt.alloc(), 1, Work::Often, Work::Often)?;
+    same_three(&rt, came, [KEPT, 400, 2400]);
     Ok(())
 }
 
-// A wait in a pool whose tickets have no time: whether it was timed out, and the length of the log.
-fn timed_out<H: Ledger, L: Loans, R: Wait + Abort>(
+#[test]
+fn a_return_wakes_who_waits(rt: HostRuntime) -> Result<(), Fail> {
+    let came = in_threads(&rt, rt.alloc(), 1, Work::Hold(Act::Return), Work::Come)?;
+    same_three(&rt, came, [KEPT, 2, 12]);
+    Ok(())
+}
+
+#[test]
+fn a_detach_wakes_who_waits(rt: HostRuntime) -> Result<(), Fail> {
+    let came = in_threads(&rt, rt.alloc(), 1, Work::Hold(Act::Detach), Work::Come)?;
+    same_three(&rt, came, [KEPT, 2, 12]);
+    Ok(())
+}
+
+#[test]
+fn a_close_wakes_who_waits(rt: HostRuntime) -> Result<(), Fail> {
+    let came = in_threads(&rt, rt.alloc(), 1, Work::Hold(Act::Shut), Work::Come)?;
+    same_three(&rt, came, [POOL_CLOSED, 1, 9]);
+    Ok(())
+}
+
+// A wait in a pool whose tickets have no time: it is asked, and it ends.
+fn times_out<H: Ledger, L: Loans, R: Wait + Abort>(
     rt: &R,
     alloc: Global,
     held: Blank,
@@ -119,191 +258,28 @@ fn timed_out<H: Ledger, L: Loans, R: Wait + Abort>(
     let options = PoolOptions::new().max_connections(1).acquire_timeout(0);
     let (pool, mut tally) = options.connect_lazy_with::<Conn, (), H, L>(alloc, (), held, loans)?;
     let mut out = new_counts();
-    let mut clock = FixedClock(Moment(7));
-    let waited = pool.acquire_wait::<R, FixedClock, Counts>(
-        rt, alloc, &mut clock, 1, &mut out, &mut tally,
+    let said = wait_once::<Conn, (), H, L, R, Counts>(
+        rt,
+        alloc,
+        &pool,
+        1,
+        7,
+        Act::Return,
+        0,
+        &mut out,
+        &mut tally,
     );
-    match waited {
-        Ok(conn) => {
-            conn.return_to_pool::<R, Counts>(rt, alloc, Moment(7), &mut out);
-            assert!(rt; false, "it was lent");
-        }
-        Err(error) => {
-            assert!(rt; matches!(&error, Error::PoolTimedOut), "its time is over");
-            drop(error);
-        }
-    }
-    assert!(rt; tally.loans() == 0 && pool.log_len(rt) == 2, "asked, ended");
+    let came = [said, tally.loans(), pool.log_len(rt) as u64];
+    same_three(rt, came, [TIMED_OUT, 0, 2]);
     Ok(())
 }
 
 #[test]
 fn a_timeout_by_a_clock_that_stands_still(rt: HostRuntime) -> Result<(), Fail> {
-    timed_out::<Brand, Brand, HostRuntime>(
+    times_out::<Brand, Brand, HostRuntime>(
         &rt,
         rt.alloc(),
         Blank::new(1 << 32),
         Blank::new(1 << 32),
     )
-}
-
-// What frees a thread that waits.
-#[derive(Clone, Copy)]
-enum Freeing {
-    ClosePool,
-    Detach,
-    Return,
-}
-
-// Looks until the log is as long, at most so often.
-fn until_long<H: Ledger, L: Loans, R: Wait>(rt: &R, pool: &Conns<H, L>, marks: usize) {
-    for _look in 0..20_000_000u32 {
-        if pool.log_len(rt) >= marks {
-            return;
-        }
-    }
-}
-
-// Ends a loan, or closes the pool.
-fn free<H: Ledger, L: Loans, R: Wait>(
-    rt: &R,
-    alloc: Global,
-    pool: &Conns<H, L>,
-    conn: PoolConnectionOf<Conn, (), H, L>,
-    freeing: Freeing,
-) {
-    let mut out = new_counts();
-    match freeing {
-        Freeing::ClosePool => {
-            let _closed = pool.close::<R, Counts>(rt, &mut out);
-            let _back = conn.return_to_pool::<R, Counts>(rt, alloc, Moment(0), &mut out);
-        }
-        Freeing::Detach => {
-            let (raw, _openings) = conn.detach::<R, Counts>(rt, alloc, Moment(0), &mut out);
-            drop(raw);
-        }
-        Freeing::Return => {
-            let _back = conn.return_to_pool::<R, Counts>(rt, alloc, Moment(0), &mut out);
-        }
-    }
-}
-
-// Holds the one connection until another client has asked: the marks of its loan are five.
-fn hold<H: Ledger, L: Loans, R: Wait>(
-    rt: &R,
-    alloc: Global,
-    pool: &Conns<H, L>,
-    freeing: Freeing,
-    tally: Tally<L>,
-)
-    requires { 0 < tally.parts }
-{
-    let mut tally = tally;
-    let mut out = new_counts();
-    let mut clock = FixedClock(Moment(0));
-    let lent = pool.acquire_wait::<R, FixedClock, Counts>(
-        rt, alloc, &mut clock, 1, &mut out, &mut tally,
-    );
-    match lent {
-        Ok(conn) => {
-            until_long(rt, pool, 6);
-            free(rt, alloc, pool, conn, freeing);
-        }
-        Err(error) => drop(error),
-    }
-}
-
-// Waits for a connection that another client holds, and returns it: whether one came.
-fn comes<H: Ledger, L: Loans, R: Wait>(
-    rt: &R,
-    alloc: Global,
-    pool: &Conns<H, L>,
-    tally: Tally<L>,
-) -> bool
-    requires { 0 < tally.parts }
-{
-    let mut tally = tally;
-    let mut out = new_counts();
-    let mut clock = FixedClock(Moment(0));
-    until_long(rt, pool, 5);
-    match pool.acquire_wait::<R, FixedClock, Counts>(
-        rt, alloc, &mut clock, 2, &mut out, &mut tally,
-    ) {
-        Ok(conn) => {
-            let _back = conn.return_to_pool::<R, Counts>(rt, alloc, Moment(0), &mut out);
-            true
-        }
-        Err(error) => {
-            drop(error);
-            false
-        }
-    }
-}
-
-// A client waits while another holds the one connection, and frees it: whether the first gets one.
-fn woken<H: Ledger + Send + Sync, L: Loans + Send + Sync, R: Wait + Threads + Sync>(
-    rt: &R,
-    alloc: Global,
-    freeing: Freeing,
-    held: Blank,
-    loans: Blank,
-) -> Result<bool, Fail>
-    requires max { L.max ≡ 1 }
-    requires held { (held.name ≡ H.name) × (held.parts ≡ H.parts) × (held.parts ≡ 2 ^ 32) }
-    requires loans { (loans.name ≡ L.name) × (loans.parts ≡ L.parts) × (loans.parts ≡ 2 ^ 32) }
-{
-    let options = PoolOptions::new().max_connections(1);
-    let (pool, mut all) = options.connect_lazy_with::<Conn, (), H, L>(alloc, (), held, loans)?;
-    let one = all.split();
-    let other = all.split();
-    let shared = &pool;
-    let ((), came) = join(
-        rt,
-        move || -> ()
-            requires { 0 < one.parts }
-        { hold(rt, alloc, shared, freeing, one) },
-        move || -> bool
-            requires { 0 < other.parts }
-        { comes(rt, alloc, shared, other) },
-    );
-    Ok(came)
-}
-
-#[test]
-fn a_return_wakes_who_waits(rt: HostRuntime) -> Result<(), Fail> {
-    let came = woken::<Brand, Brand, HostRuntime>(
-        &rt,
-        rt.alloc(),
-        Freeing::Return,
-        Blank::new(1 << 32),
-        Blank::new(1 << 32),
-    )?;
-    assert!(rt; came, "the connection is lent again");
-    Ok(())
-}
-
-#[test]
-fn a_detach_wakes_who_waits(rt: HostRuntime) -> Result<(), Fail> {
-    let came = woken::<Brand, Brand, HostRuntime>(
-        &rt,
-        rt.alloc(),
-        Freeing::Detach,
-        Blank::new(1 << 32),
-        Blank::new(1 << 32),
-    )?;
-    assert!(rt; came, "its place is free");
-    Ok(())
-}
-
-#[test]
-fn a_close_wakes_who_waits(rt: HostRuntime) -> Result<(), Fail> {
-    let came = woken::<Brand, Brand, HostRuntime>(
-        &rt,
-        rt.alloc(),
-        Freeing::ClosePool,
-        Blank::new(1 << 32),
-        Blank::new(1 << 32),
-    )?;
-    assert!(rt; !came, "the pool is closed");
-    Ok(())
 }

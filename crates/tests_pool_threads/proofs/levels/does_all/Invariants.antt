@@ -1,0 +1,6 @@
+use Rattle.std.proofs.Common.{◌≡◌}
+use Rattle.tests_pool_threads.proofs.levels.does_all.Given as goal
+
+-- the tally keeps its parts
+abbrev pub invariant-loop-row : goal.invariant-loop-row
+invariant-loop-row g l = l.tally.parts ≡ l.fn.tally.parts

@@ -1,0 +1,37 @@
+//! New pools for tests.
+
+ghost use Rattle.std.specs.Prelude.{◌≡◌, ◌^◌, ◌<◌, ◌≤◌, IfOk};
+ghost use Rattle.sqlx_pool.specs.Opened.{IsOpenable};
+
+use sqlx_pool::*;
+use sqlx_text::{Depth, OutOfMemory};
+use std::alloc::Global;
+use std::sync::ledger::{Blank, Ledger};
+
+/// The options of a pool of so many, whose idle connections rest for 5 at most.
+pub fn options_of(max: u32) -> PoolOptions
+    requires { 1 ≤ max }
+    ensures { IsOpenable result max }
+{
+    PoolOptions::new()
+        .max_connections(max)
+        .idle_timeout(Some(5))
+}
+
+/// A new pool of so many, and the tally of its loans.
+pub fn pool_of<C: Depth + Drop, O: Drop, H: Ledger, L: Loans>(
+    alloc: Global,
+    max: u32,
+    connect: O,
+    held: Blank,
+    loans: Blank,
+) -> Result<(PoolOf<C, O, H, L>, Tally<L>), OutOfMemory>
+    requires max { L.max ≡ max }
+    requires some { 1 ≤ max }
+    requires held { (held.name ≡ H.name) × (held.parts ≡ H.parts) × (held.parts ≡ 2 ^ 32) }
+    requires loans { (loans.name ≡ L.name) × (loans.parts ≡ L.parts) × (loans.parts ≡ 2 ^ 32) }
+    ensures tally { IfOk result (λ made. made.1 ≡ record { parts = L.parts; loans = 0 }) }
+    ensures some { IfOk result (λ made. 0 < made.1.parts) }
+{
+    options_of(max).connect_lazy_with::<C, O, H, L>(alloc, connect, held, loans)
+}
