@@ -79,86 +79,76 @@ where
     Ok(format!(in alloc; "{text} {values}{told} {null}")?)
 }
 
-fn of_bool<B: AnyConnectionBackend>(alloc: Global) -> Result<String, Error> {
-    argument::<B, bool>(alloc, true)
+// A Rust type, with a value of it.
+#[derive(Clone, Copy)]
+enum Rust {
+    Bool,
+    I16,
+    I32,
+    I64,
+    Str,
+    Owned,
+    Slice,
+    Bytes,
 }
 
-fn of_i16<B: AnyConnectionBackend>(alloc: Global) -> Result<String, Error> {
-    argument::<B, i16>(alloc, -5)
+// The same of a value of a type.
+fn argument_of<B: AnyConnectionBackend>(alloc: Global, rust: Rust) -> Result<String, Error> {
+    match rust {
+        Rust::Bool => argument::<B, bool>(alloc, true),
+        Rust::I16 => argument::<B, i16>(alloc, -5),
+        Rust::I32 => argument::<B, i32>(alloc, 5),
+        Rust::I64 => argument::<B, i64>(alloc, 70_000),
+        Rust::Str => argument::<B, &str>(alloc, "milk"),
+        Rust::Owned => argument::<B, String>(alloc, cells::owned(alloc)?),
+        Rust::Slice => argument::<B, &[u8]>(alloc, &[1, 2]),
+        Rust::Bytes => argument::<B, Vec<u8>>(alloc, cells::bytes(alloc)?),
+    }
 }
 
-fn of_i32<B: AnyConnectionBackend>(alloc: Global) -> Result<String, Error> {
-    argument::<B, i32>(alloc, 5)
-}
-
-fn of_i64<B: AnyConnectionBackend>(alloc: Global) -> Result<String, Error> {
-    argument::<B, i64>(alloc, 70_000)
-}
-
-#[test]
-fn numbers_are_arguments(rt: HostRuntime) -> Result<(), Fail> {
-    let alloc = rt.alloc();
-    says(
-        &rt,
-        of_bool::<StubBackend>(alloc),
+const TYPES: &[(Rust, &str)] = &[
+    (
+        Rust::Bool,
         "bool BOOLEAN false 1 false Bool true|Bool true|Null BOOLEAN|false true",
-    )?;
-    says(
-        &rt,
-        of_i16::<StubBackend>(alloc),
+    ),
+    (
+        Rust::I16,
         "i16 SMALLINT true 2 false SmallInt -5|SmallInt -5|Null SMALLINT|false true",
-    )?;
-    says(
-        &rt,
-        of_i32::<StubBackend>(alloc),
+    ),
+    (
+        Rust::I32,
         "i32 INTEGER true 4 false Integer 5|Integer 5|Null INTEGER|false true",
-    )?;
-    says(
-        &rt,
-        of_i64::<StubBackend>(alloc),
+    ),
+    (
+        Rust::I64,
         "i64 BIGINT true 8 false BigInt 70000|BigInt 70000|Null BIGINT|false true",
-    )
-}
-
-fn of_str<B: AnyConnectionBackend>(alloc: Global) -> Result<String, Error> {
-    argument::<B, &str>(alloc, "milk")
-}
-
-fn of_string<B: AnyConnectionBackend>(alloc: Global) -> Result<String, Error> {
-    argument::<B, String>(alloc, cells::owned(alloc)?)
-}
-
-fn of_slice<B: AnyConnectionBackend>(alloc: Global) -> Result<String, Error> {
-    argument::<B, &[u8]>(alloc, &[1, 2])
-}
-
-fn of_vec<B: AnyConnectionBackend>(alloc: Global) -> Result<String, Error> {
-    argument::<B, Vec<u8>>(alloc, cells::bytes(alloc)?)
-}
+    ),
+    (
+        Rust::Str,
+        "&str TEXT false 4 false Text milk|Text milk|Null TEXT|false true",
+    ),
+    (
+        Rust::Owned,
+        "String TEXT false 1 false Text x|Text x|Null TEXT|false true",
+    ),
+    (
+        Rust::Slice,
+        "&[u8] BLOB false 2 false Blob [1, 2]|Blob [1, 2]|Null BLOB|false true",
+    ),
+    (
+        Rust::Bytes,
+        "Vec<u8> BLOB false 2 false Blob [1, 2]|Blob [1, 2]|Null BLOB|false true",
+    ),
+];
 
 #[test]
-fn texts_and_bytes_are_arguments(rt: HostRuntime) -> Result<(), Fail> {
+fn rust_types_are_arguments(rt: HostRuntime) -> Result<(), Fail> {
     let alloc = rt.alloc();
-    says(
-        &rt,
-        of_str::<StubBackend>(alloc),
-        "&str TEXT false 4 false Text milk|Text milk|Null TEXT|false true",
-    )?;
-    says(
-        &rt,
-        of_string::<StubBackend>(alloc),
-        "String TEXT false 1 false Text x|Text x|Null TEXT|false true",
-    )?;
-    says(
-        &rt,
-        of_slice::<StubBackend>(alloc),
-        "&[u8] BLOB false 2 false Blob [1, 2]|Blob [1, 2]|Null BLOB|false true",
-    )?;
-    says(
-        &rt,
-        of_vec::<StubBackend>(alloc),
-        "Vec<u8> BLOB false 2 false Blob [1, 2]|Blob [1, 2]|Null BLOB|false true",
-    )
+    for (rust, want) in TYPES {
+        says(&rt, argument_of::<StubBackend>(alloc, *rust), want)?;
+    }
+    let told = of_option::<StubBackend>(alloc);
+    says(&rt, told, "false BigInt 5| (8, false) (0, false)")
 }
 
 // An option that is lent: whether it counts as null, the list behind it, and what is told of it and of none.
@@ -178,12 +168,6 @@ fn option<'t, DB: Database<ArgumentBuffer = AnyArgumentBuffer>, T: Encode<'t, DB
 
 fn of_option<B: AnyConnectionBackend>(alloc: Global) -> Result<String, Error> {
     option::<Any<B>, Option<i64>>(alloc, &Some(5), &None)
-}
-
-#[test]
-fn options_are_arguments(rt: HostRuntime) -> Result<(), Fail> {
-    let told = of_option::<StubBackend>(rt.alloc());
-    says(&rt, told, "false BigInt 5| (8, false) (0, false)")
 }
 
 // Fills a list with three arguments.
@@ -246,12 +230,12 @@ fn kept<B: AnyConnectionBackend>(alloc: Global, len: usize) -> Result<String, Er
 #[test]
 fn keeps_the_first_arguments(rt: HostRuntime) -> Result<(), Fail> {
     let alloc = rt.alloc();
-    for (len, want) in [
+    for (len, want) in &[
         (9, "3 3 a = ? Integer 5|Text x|Null BIGINT|"),
         (2, "2 2 a = ? Integer 5|Text x|"),
         (0, "0 0 a = ? "),
     ] {
-        says(&rt, kept::<StubBackend>(alloc, len), want)?;
+        says(&rt, kept::<StubBackend>(alloc, *len), want)?;
     }
     Ok(())
 }
@@ -272,7 +256,7 @@ fn copied(alloc: Global, sample: Sample) -> Result<String, OutOfMemory> {
 #[test]
 fn copies_values(rt: HostRuntime) -> Result<(), Fail> {
     let alloc = rt.alloc();
-    for (sample, want) in [
+    for (sample, want) in &[
         (Sample::Null(AnyTypeInfoKind::Text), "Null TEXT, NULL"),
         (Sample::Flag(true), "Bool true, BOOLEAN"),
         (Sample::Small(-5), "SmallInt -5, SMALLINT"),
@@ -282,7 +266,7 @@ fn copies_values(rt: HostRuntime) -> Result<(), Fail> {
         (Sample::Slice("y"), "TextSlice y, TEXT"),
         (Sample::Blob, "Blob [1, 2], BLOB"),
     ] {
-        tells(&rt, copied(alloc, sample), want)?;
+        tells(&rt, copied(alloc, *sample), want)?;
     }
     Ok(())
 }
@@ -308,11 +292,12 @@ fn told_of(ty: &AnyTypeInfo) -> (AnyTypeInfoKind, Option<AnyTypeInfoKind>, [bool
 
 #[test]
 fn tells_of_types(rt: HostRuntime) -> Result<(), Fail> {
-    for (kind, flags) in [
+    for (kind, flags) in &[
         (AnyTypeInfoKind::BigInt, [false, false, false]),
         (AnyTypeInfoKind::Null, [true, false, true]),
     ] {
-        assert_eq!(rt; told_of(&AnyTypeInfo { kind }), (kind, Some(kind), flags));
+        let kind = *kind;
+        assert_eq!(rt; told_of(&AnyTypeInfo { kind }), (kind, Some(kind), *flags));
     }
     Ok(())
 }

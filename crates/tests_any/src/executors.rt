@@ -23,7 +23,7 @@ fn of_toy(alloc: Global, call: Call, letters: &str) -> Result<String, OutOfMemor
 #[test]
 fn calls_filter_one_list(rt: HostRuntime) -> Result<(), Fail> {
     let alloc = rt.alloc();
-    for (call, letters, want) in [
+    for (call, letters, want) in &[
         (Call::Execute, "t1l2", "ToyQueryResult(3)"),
         (Call::Execute, "1t!", BROKEN),
         (Call::Execute, "", "ToyQueryResult(0)"),
@@ -55,7 +55,7 @@ fn calls_filter_one_list(rt: HostRuntime) -> Result<(), Fail> {
         ),
         (Call::FetchMany, "", ""),
     ] {
-        tells(&rt, of_toy(alloc, call, letters), want)?;
+        tells(&rt, of_toy(alloc, *call, letters), want)?;
     }
     Ok(())
 }
@@ -78,7 +78,7 @@ fn of_any(alloc: Global, call: Call, letters: &str) -> Result<String, Error> {
 #[test]
 fn a_connection_hands_on_its_backends_list(rt: HostRuntime) -> Result<(), Fail> {
     let alloc = rt.alloc();
-    for (call, letters, want) in [
+    for (call, letters, want) in &[
         (
             Call::Execute,
             "i2t3",
@@ -94,7 +94,7 @@ fn a_connection_hands_on_its_backends_list(rt: HostRuntime) -> Result<(), Fail> 
             "number|AnyQueryResult { rows_affected: 2, last_insert_id: None }|error communicating with database: other error|",
         ),
     ] {
-        says(&rt, of_any(alloc, call, letters), want)?;
+        says(&rt, of_any(alloc, *call, letters), want)?;
     }
     Ok(())
 }

@@ -22,14 +22,16 @@ fn urls<O: ConnectOptions + Drop>(alloc: Global, text: &str) -> Result<String, E
 #[test]
 fn options_keep_their_url(rt: HostRuntime) -> Result<(), Fail> {
     let alloc = rt.alloc();
-    let none = "error with configuration: relative URL without a base";
-    for (text, want) in [
+    for (text, want) in &[
         ("mem:x", "mem:x mem:x mem:x"),
         (
             "sqlite://a/b?c=d",
             "sqlite://a/b?c=d sqlite://a/b?c=d sqlite://a/b?c=d",
         ),
-        ("no url", none),
+        (
+            "no url",
+            "error with configuration: relative URL without a base",
+        ),
     ] {
         let answer = urls::<AnyConnectOptions>(alloc, text);
         says(&rt, answer, want)?;

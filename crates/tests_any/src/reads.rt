@@ -62,7 +62,7 @@ fn readers(alloc: Global, sample: Sample) -> Result<String, Error> {
 #[test]
 fn each_kind_has_its_readers(rt: HostRuntime) -> Result<(), Fail> {
     let alloc = rt.alloc();
-    for (sample, want) in [
+    for (sample, want) in &[
         (Sample::Null(AnyTypeInfoKind::BigInt), ""),
         (Sample::Flag(true), "bool true|"),
         (Sample::Small(-5), "i16 -5|i32 -5|i64 -5|"),
@@ -84,7 +84,7 @@ fn each_kind_has_its_readers(rt: HostRuntime) -> Result<(), Fail> {
         (Sample::Slice("5"), "&str \"5\"|String \"5\"|"),
         (Sample::Blob, "&[u8] [1, 2]|Vec<u8> [1, 2]|"),
     ] {
-        says(&rt, readers(alloc, sample), want)?;
+        says(&rt, readers(alloc, *sample), want)?;
     }
     Ok(())
 }

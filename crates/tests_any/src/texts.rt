@@ -68,7 +68,7 @@ fn asked_text(alloc: Global, text: Text) -> Result<String, OutOfMemory> {
 
 #[test]
 fn texts_are_kept(rt: HostRuntime) -> Result<(), Fail> {
-    for text in [
+    for text in &[
         Text::Owned,
         Text::Boxed,
         Text::Shared,
@@ -77,7 +77,7 @@ fn texts_are_kept(rt: HostRuntime) -> Result<(), Fail> {
         Text::Plain,
         Text::SqlStr,
     ] {
-        tells(&rt, asked_text(rt.alloc(), text), "SELECT kept bare")?;
+        tells(&rt, asked_text(rt.alloc(), *text), "SELECT kept bare")?;
     }
     Ok(())
 }
@@ -121,9 +121,9 @@ fn asked_pair(alloc: Global, bound: bool) -> Result<String, Fault> {
 
 #[test]
 fn pairs_have_their_arguments(rt: HostRuntime) -> Result<(), Fail> {
-    for (bound, want) in [(false, "SELECT kept bare"), (true, "SELECT kept|x|null")] {
-        let told = asked_pair(rt.alloc(), bound)?;
-        assert_eq!(rt; told.as_str(), want);
+    for (bound, want) in &[(false, "SELECT kept bare"), (true, "SELECT kept|x|null")] {
+        let told = asked_pair(rt.alloc(), *bound)?;
+        assert_eq!(rt; told.as_str(), *want);
     }
     Ok(())
 }
@@ -224,7 +224,7 @@ fn numbers(alloc: Global) -> Result<AnyArguments, OutOfMemory> {
 #[test]
 fn a_backend_is_handed_the_query(rt: HostRuntime) -> Result<(), Fail> {
     let alloc = rt.alloc();
-    for (query, want) in [
+    for (query, want) in &[
         (Sent::Numbers, "SELECT kept BigInt 5|Bool true|, number|"),
         (Sent::Text, "SELECT kept bare, number|"),
         (
@@ -232,7 +232,7 @@ fn a_backend_is_handed_the_query(rt: HostRuntime) -> Result<(), Fail> {
             "nothing, error occurred while encoding a value: out of range integral type conversion attempted|",
         ),
     ] {
-        says(&rt, of_backend(alloc, query), want)?;
+        says(&rt, of_backend(alloc, *query), want)?;
     }
     tells(&rt, asked_unbound(alloc), "nothing")
 }

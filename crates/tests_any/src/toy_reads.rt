@@ -243,12 +243,12 @@ fn finds_columns(rt: HostRuntime) -> Result<(), Fail> {
     let alloc = rt.alloc();
     let row = row_of(alloc, "tp")?;
     let statement = prepared(alloc)?;
-    for (at, want) in [
+    for (at, want) in &[
         (0, "0 text TEXT Unknown; 0 text TEXT Unknown"),
         (1, "1 point POINT Unknown; 1 point POINT Unknown"),
     ] {
-        says(&rt, in_row::<Toy>(alloc, &row, at), want)?;
-        says(&rt, in_statement::<Toy>(alloc, &statement, at), want)?;
+        says(&rt, in_row::<Toy>(alloc, &row, *at), want)?;
+        says(&rt, in_statement::<Toy>(alloc, &statement, *at), want)?;
     }
     Ok(())
 }

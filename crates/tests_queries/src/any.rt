@@ -83,7 +83,7 @@ fn tuples(alloc: Global, letters: &str) -> Result<String, Error> {
 
 #[test]
 fn reads_rows_of_a_backend(rt: HostRuntime) -> Result<(), Fail> {
-    for (letters, want) in [
+    for (letters, want) in &[
         ("i2i", "[(5,), (5,)]"),
         (
             "it",

@@ -260,14 +260,16 @@ where
     Ok(joined(alloc, taken(alloc, answer), "; ", asked)?)
 }
 
+const PIECES: &str = "taken; SELECT $1 WHERE a = $2 LIMIT 30 kept|9|x: ToyQueryResult(2)";
+
+const REFUSED: &str =
+    "out of range integral type conversion attempted; SELECT $1 kept|9: ToyQueryResult(2)";
+
 #[test]
 fn pushes_pieces(rt: HostRuntime) -> Result<(), Fail> {
-    let pieces = "taken; SELECT $1 WHERE a = $2 LIMIT 30 kept|9|x: ToyQueryResult(2)";
-    let refused =
-        "out of range integral type conversion attempted; SELECT $1 kept|9: ToyQueryResult(2)";
-    for (push, want) in [
-        (Piece::Chained, pieces),
-        (Piece::Tried, pieces),
+    for (push, want) in &[
+        (Piece::Chained, PIECES),
+        (Piece::Tried, PIECES),
         (
             Piece::Listed,
             "taken; SELECT $1 IN (a,$2,$3$4) kept|9|5|6|7: ToyQueryResult(2)",
@@ -288,11 +290,11 @@ fn pushes_pieces(rt: HostRuntime) -> Result<(), Fail> {
             Piece::Tuples(0),
             "taken; SELECT $1 ()  kept|9: ToyQueryResult(2)",
         ),
-        (Piece::RefusedValue, refused),
-        (Piece::RefusedValues, refused),
-        (Piece::RefusedTuples, refused),
+        (Piece::RefusedValue, REFUSED),
+        (Piece::RefusedValues, REFUSED),
+        (Piece::RefusedTuples, REFUSED),
     ] {
-        let told = pushed::<Toy, ToyConnection>(rt.alloc(), push);
+        let told = pushed::<Toy, ToyConnection>(rt.alloc(), *push);
         says(&rt, told, want)?;
     }
     Ok(())
@@ -426,7 +428,7 @@ where
 #[test]
 fn builds_queries(rt: HostRuntime) -> Result<(), Fail> {
     placeholders_are_arguments::<Toy>();
-    for (what, want) in [
+    for (what, want) in &[
         (Use::As, "SELECT $1 kept|9: (7,)"),
         (Use::Scalar, "SELECT $1 kept|9: 7"),
         (
@@ -438,7 +440,7 @@ fn builds_queries(rt: HostRuntime) -> Result<(), Fail> {
             "SqlStr { text: \"SELECT $1\" } SqlStr { text: \"SELECT $1\" }",
         ),
     ] {
-        let told = used::<Toy, ToyConnection, (i64,), i64>(rt.alloc(), what);
+        let told = used::<Toy, ToyConnection, (i64,), i64>(rt.alloc(), *what);
         says(&rt, told, want)?;
     }
     says(

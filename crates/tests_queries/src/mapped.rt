@@ -1,6 +1,7 @@
 //! Queries whose rows are mapped.
 
 use crate::calls::{Scripted, ran_map};
+use crate::read::MISMATCH;
 use crate::says::says;
 use sqlx_query::{Query, query};
 use sqlx_text::{Error, Fault, OutOfMemory};
@@ -10,6 +11,9 @@ use std::fmt::Debug;
 use std::test::*;
 use tests_database::steps::Call;
 use tests_database::{Toy, ToyConnection};
+
+const REFUSED_BEHIND: &str =
+    "7|error occurred while decoding column 0: mismatched types; Rust type `i64` (as SQL type `BIGINT`) is not compatible with SQL type `TEXT`|";
 
 // The number in a row's first column.
 fn number<DB: Database>(alloc: Global, row: DB::Row) -> Result<i64, Error>
@@ -126,7 +130,7 @@ where
 
 #[test]
 fn maps_rows(rt: HostRuntime) -> Result<(), Fail> {
-    for (call, letters, want) in [
+    for (call, letters, want) in &[
         (Call::Execute, "lt2", "SELECT|1: ToyQueryResult(2)"),
         (Call::Fetch, "lt2", "SELECT|1: 7|-1|"),
         (Call::FetchMany, "2l", "SELECT|1: ToyQueryResult(2)|7|"),
@@ -134,7 +138,7 @@ fn maps_rows(rt: HostRuntime) -> Result<(), Fail> {
         (Call::FetchOptional, "2", "SELECT|1: None"),
         (Call::FetchOne, "tl", "SELECT|1: -1"),
     ] {
-        let told = mapped::<Toy, ToyConnection>(rt.alloc(), call, letters);
+        let told = mapped::<Toy, ToyConnection>(rt.alloc(), *call, letters);
         says(&rt, told, want)?;
     }
     Ok(())
@@ -143,18 +147,15 @@ fn maps_rows(rt: HostRuntime) -> Result<(), Fail> {
 #[test]
 fn a_refused_row_is_the_last(rt: HostRuntime) -> Result<(), Fail> {
     let alloc = rt.alloc();
-    let mismatch =
-        "error occurred while decoding column 0: mismatched types; Rust type `i64` (as SQL type `BIGINT`) is not compatible with SQL type `TEXT`";
-    let behind = format!(in alloc; "7|{mismatch}|")?;
-    for (call, letters, given) in [
+    for (call, letters, given) in &[
         (Call::FetchOne, "lt", "7"),
         (Call::FetchOptional, "lt", "Some(7)"),
-        (Call::FetchAll, "ltl", mismatch),
-        (Call::FetchOne, "t", mismatch),
-        (Call::Fetch, "ltl", behind.as_str()),
+        (Call::FetchAll, "ltl", MISMATCH),
+        (Call::FetchOne, "t", MISMATCH),
+        (Call::Fetch, "ltl", REFUSED_BEHIND),
     ] {
         let want = format!(in alloc; "SELECT kept|1: {given}")?;
-        let told = tried::<Toy, ToyConnection>(alloc, call, letters);
+        let told = tried::<Toy, ToyConnection>(alloc, *call, letters);
         says(&rt, told, want.as_str())?;
     }
     Ok(())

@@ -50,7 +50,7 @@ where
 #[test]
 fn runs_queries_and_raw_texts(rt: HostRuntime) -> Result<(), Fail> {
     let alloc = rt.alloc();
-    for (call, letters, given) in [
+    for (call, letters, given) in &[
         (Call::Execute, "2t3", "ToyQueryResult(5)"),
         (
             Call::ExecuteMany,
@@ -70,10 +70,10 @@ fn runs_queries_and_raw_texts(rt: HostRuntime) -> Result<(), Fail> {
         ),
     ] {
         let want = format!(in alloc; "SELECT kept|1|x: {given}")?;
-        let told = bound::<Toy, ToyConnection>(alloc, call, letters);
+        let told = bound::<Toy, ToyConnection>(alloc, *call, letters);
         says(&rt, told, want.as_str())?;
         let want = format!(in alloc; "DELETE; SELECT bare: {given}")?;
-        let told = raw::<Toy, ToyConnection>(alloc, call, letters);
+        let told = raw::<Toy, ToyConnection>(alloc, *call, letters);
         says(&rt, told, want.as_str())?;
     }
     Ok(())
@@ -141,12 +141,12 @@ where
 
 #[test]
 fn queries_have_their_arguments(rt: HostRuntime) -> Result<(), Fail> {
-    for (from, want) in [
+    for (from, want) in &[
         (From::Arguments, "UPDATE kept|6|7: ToyQueryResult(1)"),
         (From::Answer, "UPDATE kept|8: ToyQueryResult(1)"),
         (From::Tried, "UPDATE|9: ToyQueryResult(1)"),
     ] {
-        says(&rt, updated::<Toy, ToyConnection>(rt.alloc(), from), want)?;
+        says(&rt, updated::<Toy, ToyConnection>(rt.alloc(), *from), want)?;
     }
     Ok(())
 }

@@ -53,16 +53,22 @@ where
     }
 }
 
-const MISMATCH: &str =
+/// What is told of a text that is read as a number.
+pub const MISMATCH: &str =
     "error occurred while decoding column 0: mismatched types; Rust type `i64` (as SQL type `BIGINT`) is not compatible with SQL type `TEXT`";
+
+const REFUSED_BETWEEN: &str =
+    "7|error occurred while decoding column 0: mismatched types; Rust type `i64` (as SQL type `BIGINT`) is not compatible with SQL type `TEXT`|7|";
+
+const REFUSED: &str =
+    "nothing: error occurred while encoding a value: out of range integral type conversion attempted";
 
 #[test]
 fn reads_columns(rt: HostRuntime) -> Result<(), Fail> {
     let alloc = rt.alloc();
-    let refused = format!(in alloc; "7|{MISMATCH}|7|")?;
-    for (call, letters, given) in [
+    for (call, letters, given) in &[
         (Call::Execute, "lt2", "ToyQueryResult(2)"),
-        (Call::Fetch, "ltl2", refused.as_str()),
+        (Call::Fetch, "ltl2", REFUSED_BETWEEN),
         (Call::FetchMany, "l2", "7|ToyQueryResult(2)|"),
         (Call::FetchAll, "ll", "[7, 7]"),
         (Call::FetchAll, "lt2", MISMATCH),
@@ -72,7 +78,7 @@ fn reads_columns(rt: HostRuntime) -> Result<(), Fail> {
         (Call::FetchOne, "tl", MISMATCH),
     ] {
         let want = format!(in alloc; "SELECT|1: {given}")?;
-        let told = scalars::<Toy, ToyConnection, i64>(alloc, call, letters);
+        let told = scalars::<Toy, ToyConnection, i64>(alloc, *call, letters);
         says(&rt, told, want.as_str())?;
     }
     Ok(())
@@ -81,14 +87,14 @@ fn reads_columns(rt: HostRuntime) -> Result<(), Fail> {
 #[test]
 fn reads_rows(rt: HostRuntime) -> Result<(), Fail> {
     let alloc = rt.alloc();
-    for (call, letters, given) in [
+    for (call, letters, given) in &[
         (Call::Fetch, "ll2", "(7,)|(7,)|"),
         (Call::FetchMany, "l2", "(7,)|ToyQueryResult(2)|"),
         (Call::FetchAll, "lt2", MISMATCH),
         (Call::FetchOne, "lt2", "(7,)"),
     ] {
         let want = format!(in alloc; "SELECT|1: {given}")?;
-        let told = rows_as::<Toy, ToyConnection, (i64,)>(alloc, call, letters);
+        let told = rows_as::<Toy, ToyConnection, (i64,)>(alloc, *call, letters);
         says(&rt, told, want.as_str())?;
     }
     Ok(())
@@ -96,7 +102,7 @@ fn reads_rows(rt: HostRuntime) -> Result<(), Fail> {
 
 #[test]
 fn reads_a_struct(rt: HostRuntime) -> Result<(), Fail> {
-    for (letters, want) in [
+    for (letters, want) in &[
         (" lt", "SELECT|1: Note { number: 7, title: \"x\" }"),
         (
             " l",
@@ -168,16 +174,14 @@ where
 #[test]
 fn reads_with_arguments(rt: HostRuntime) -> Result<(), Fail> {
     let alloc = rt.alloc();
-    let refused =
-        "nothing: error occurred while encoding a value: out of range integral type conversion attempted";
-    for (source, row, column) in [
+    for (source, row, column) in &[
         (Source::Arguments, "SELECT kept|6: (7,)", "SELECT kept|6: 7"),
         (Source::Answer, "SELECT kept|7: (7,)", "SELECT kept|7: 7"),
-        (Source::Fault, refused, refused),
+        (Source::Fault, REFUSED, REFUSED),
     ] {
-        let told = row_with::<Toy, ToyConnection, (i64,)>(alloc, source);
+        let told = row_with::<Toy, ToyConnection, (i64,)>(alloc, *source);
         says(&rt, told, row)?;
-        let told = scalar_with::<Toy, ToyConnection, i64>(alloc, source);
+        let told = scalar_with::<Toy, ToyConnection, i64>(alloc, *source);
         says(&rt, told, column)?;
     }
     Ok(())

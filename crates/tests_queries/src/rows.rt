@@ -47,7 +47,7 @@ fn made<DB: Database, T: FromRow<DB> + Debug + Drop>(
 #[test]
 fn makes_a_struct(rt: HostRuntime) -> Result<(), Fail> {
     let alloc = rt.alloc();
-    for (letters, want) in [
+    for (letters, want) in &[
         ("lt", "Note { number: 7, title: \"x\" }"),
         (
             "ll",
@@ -147,7 +147,7 @@ where
 #[test]
 fn tuples_read_each_column_in_turn(rt: HostRuntime) -> Result<(), Fail> {
     let alloc = rt.alloc();
-    for (columns, text_at, count, want) in [
+    for (columns, text_at, count, want) in &[
         (
             16,
             16,
@@ -176,8 +176,8 @@ fn tuples_read_each_column_in_turn(rt: HostRuntime) -> Result<(), Fail> {
             "column index out of bounds: the len is 15, but the index is 15",
         ),
     ] {
-        let row = numbers(alloc, columns, text_at)?;
-        let told = numbers_of::<Toy>(alloc, &row, count);
+        let row = numbers(alloc, *columns, *text_at)?;
+        let told = numbers_of::<Toy>(alloc, &row, *count);
         drop(row);
         says(&rt, told, want)?;
     }

@@ -88,20 +88,20 @@ fn a_statement_is_asked(rt: HostRuntime) -> Result<(), Fail> {
         columns: Vec::new(alloc),
         types: Vec::new(alloc),
     };
-    for (ask, asked) in [
+    for (ask, asked) in &[
         (Ask::Function, "SELECT kept prepared"),
         (Ask::FunctionWith, "SELECT kept prepared|3"),
         (Ask::Call, "SELECT kept prepared"),
         (Ask::CallWith, "SELECT kept prepared|3"),
     ] {
         let result = format!(in alloc; "{asked}: ToyQueryResult(2)")?;
-        let told = rows::<Toy, ToyConnection>(alloc, ask, &statement);
+        let told = rows::<Toy, ToyConnection>(alloc, *ask, &statement);
         says(&rt, told, result.as_str())?;
         let tuple = format!(in alloc; "{asked}: (7,)")?;
-        let told = values::<Toy, ToyConnection, (i64,)>(alloc, ask, &statement);
+        let told = values::<Toy, ToyConnection, (i64,)>(alloc, *ask, &statement);
         says(&rt, told, tuple.as_str())?;
         let number = format!(in alloc; "{asked}: 7")?;
-        let told = scalars::<Toy, ToyConnection, i64>(alloc, ask, &statement);
+        let told = scalars::<Toy, ToyConnection, i64>(alloc, *ask, &statement);
         says(&rt, told, number.as_str())?;
     }
     Ok(())
