@@ -88,79 +88,6 @@ where
     }
 }
 
-// What an executor's own call gives.
-fn executed<DB: Database, Q: Execute<DB>, E: Executor<DB>>(
-    alloc: Global,
-    query: Q,
-    conn: &mut E,
-) -> Result<String, OutOfMemory>
-where
-    DB::QueryResult: Debug,
-{
-    told::<_, ByDebug>(alloc, conn.execute(alloc, query))
-}
-
-fn stream_read<'q, DB: Database, M: Reader<DB>, E: Executor<DB>>(
-    alloc: Global,
-    query: ReadQuery<'q, DB, M, DB::Arguments>,
-    conn: &mut E,
-) -> Result<String, OutOfMemory>
-where
-    DB::Arguments: IntoArguments<DB>,
-    M::Out: Debug,
-{
-    told_each::<_, ByDebug, _>(alloc, query.fetch(alloc, conn))
-}
-
-fn steps_read<'q, DB: Database, M: Reader<DB>, E: Executor<DB>>(
-    alloc: Global,
-    query: ReadQuery<'q, DB, M, DB::Arguments>,
-    conn: &mut E,
-) -> Result<String, OutOfMemory>
-where
-    DB::QueryResult: Debug,
-    DB::Arguments: IntoArguments<DB>,
-    M::Out: Debug,
-{
-    told_each::<_, Step<ByDebug>, _>(alloc, query.fetch_many(alloc, conn))
-}
-
-fn all_read<'q, DB: Database, M: Reader<DB>, E: Executor<DB>>(
-    alloc: Global,
-    query: ReadQuery<'q, DB, M, DB::Arguments>,
-    conn: &mut E,
-) -> Result<String, OutOfMemory>
-where
-    DB::Arguments: IntoArguments<DB>,
-    M::Out: Debug,
-{
-    told::<_, ByDebug>(alloc, query.fetch_all(alloc, conn))
-}
-
-fn optional_read<'q, DB: Database, M: Reader<DB>, E: Executor<DB>>(
-    alloc: Global,
-    query: ReadQuery<'q, DB, M, DB::Arguments>,
-    conn: &mut E,
-) -> Result<String, OutOfMemory>
-where
-    DB::Arguments: IntoArguments<DB>,
-    M::Out: Debug,
-{
-    told::<_, ByDebug>(alloc, query.fetch_optional(alloc, conn))
-}
-
-fn one_read<'q, DB: Database, M: Reader<DB>, E: Executor<DB>>(
-    alloc: Global,
-    query: ReadQuery<'q, DB, M, DB::Arguments>,
-    conn: &mut E,
-) -> Result<String, OutOfMemory>
-where
-    DB::Arguments: IntoArguments<DB>,
-    M::Out: Debug,
-{
-    told::<_, ByDebug>(alloc, query.fetch_one(alloc, conn))
-}
-
 // What a call gives of a query whose rows are read as values; `Execute` is the executor's own.
 fn of_read<'q, DB: Database, M: Reader<DB>, E: Executor<DB>>(
     alloc: Global,
@@ -174,79 +101,13 @@ where
     M::Out: Debug,
 {
     match call {
-        Call::Fetch => stream_read::<DB, M, E>(alloc, query, conn),
-        Call::FetchMany => steps_read::<DB, M, E>(alloc, query, conn),
-        Call::FetchAll => all_read::<DB, M, E>(alloc, query, conn),
-        Call::FetchOptional => optional_read::<DB, M, E>(alloc, query, conn),
-        Call::FetchOne => one_read::<DB, M, E>(alloc, query, conn),
-        _ => executed::<DB, _, E>(alloc, query, conn),
+        Call::Fetch => told_each::<_, ByDebug, _>(alloc, query.fetch(alloc, conn)),
+        Call::FetchMany => told_each::<_, Step<ByDebug>, _>(alloc, query.fetch_many(alloc, conn)),
+        Call::FetchAll => told::<_, ByDebug>(alloc, query.fetch_all(alloc, conn)),
+        Call::FetchOptional => told::<_, ByDebug>(alloc, query.fetch_optional(alloc, conn)),
+        Call::FetchOne => told::<_, ByDebug>(alloc, query.fetch_one(alloc, conn)),
+        _ => told::<_, ByDebug>(alloc, conn.execute(alloc, query)),
     }
-}
-
-fn stream_mapped<'q, DB: Database, F: Mapper<DB::Row> + Drop, E: Executor<DB>>(
-    alloc: Global,
-    query: Map<'q, DB, F, DB::Arguments>,
-    conn: &mut E,
-) -> Result<String, OutOfMemory>
-where
-    DB::Arguments: IntoArguments<DB>,
-    F::Out: Debug + Drop,
-    requires { F.ready query.mapper }
-{
-    told_each::<_, ByDebug, _>(alloc, query.fetch(alloc, conn))
-}
-
-fn steps_mapped<'q, DB: Database, F: Mapper<DB::Row> + Drop, E: Executor<DB>>(
-    alloc: Global,
-    query: Map<'q, DB, F, DB::Arguments>,
-    conn: &mut E,
-) -> Result<String, OutOfMemory>
-where
-    DB::QueryResult: Debug,
-    DB::Arguments: IntoArguments<DB>,
-    F::Out: Debug + Drop,
-    requires { F.ready query.mapper }
-{
-    told_each::<_, Step<ByDebug>, _>(alloc, query.fetch_many(alloc, conn))
-}
-
-fn all_mapped<'q, DB: Database, F: Mapper<DB::Row> + Drop, E: Executor<DB>>(
-    alloc: Global,
-    query: Map<'q, DB, F, DB::Arguments>,
-    conn: &mut E,
-) -> Result<String, OutOfMemory>
-where
-    DB::Arguments: IntoArguments<DB>,
-    F::Out: Debug + Drop,
-    requires { F.ready query.mapper }
-{
-    told::<_, ByDebug>(alloc, query.fetch_all(alloc, conn))
-}
-
-fn optional_mapped<'q, DB: Database, F: Mapper<DB::Row> + Drop, E: Executor<DB>>(
-    alloc: Global,
-    query: Map<'q, DB, F, DB::Arguments>,
-    conn: &mut E,
-) -> Result<String, OutOfMemory>
-where
-    DB::Arguments: IntoArguments<DB>,
-    F::Out: Debug + Drop,
-    requires { F.ready query.mapper }
-{
-    told::<_, ByDebug>(alloc, query.fetch_optional(alloc, conn))
-}
-
-fn one_mapped<'q, DB: Database, F: Mapper<DB::Row> + Drop, E: Executor<DB>>(
-    alloc: Global,
-    query: Map<'q, DB, F, DB::Arguments>,
-    conn: &mut E,
-) -> Result<String, OutOfMemory>
-where
-    DB::Arguments: IntoArguments<DB>,
-    F::Out: Debug + Drop,
-    requires { F.ready query.mapper }
-{
-    told::<_, ByDebug>(alloc, query.fetch_one(alloc, conn))
 }
 
 // What a call gives of a query whose rows are mapped; `Execute` is the executor's own.
@@ -263,12 +124,12 @@ where
     requires { F.ready query.mapper }
 {
     match call {
-        Call::Fetch => stream_mapped::<DB, F, E>(alloc, query, conn),
-        Call::FetchMany => steps_mapped::<DB, F, E>(alloc, query, conn),
-        Call::FetchAll => all_mapped::<DB, F, E>(alloc, query, conn),
-        Call::FetchOptional => optional_mapped::<DB, F, E>(alloc, query, conn),
-        Call::FetchOne => one_mapped::<DB, F, E>(alloc, query, conn),
-        _ => executed::<DB, _, E>(alloc, query, conn),
+        Call::Fetch => told_each::<_, ByDebug, _>(alloc, query.fetch(alloc, conn)),
+        Call::FetchMany => told_each::<_, Step<ByDebug>, _>(alloc, query.fetch_many(alloc, conn)),
+        Call::FetchAll => told::<_, ByDebug>(alloc, query.fetch_all(alloc, conn)),
+        Call::FetchOptional => told::<_, ByDebug>(alloc, query.fetch_optional(alloc, conn)),
+        Call::FetchOne => told::<_, ByDebug>(alloc, query.fetch_one(alloc, conn)),
+        _ => told::<_, ByDebug>(alloc, conn.execute(alloc, query)),
     }
 }
 
