@@ -90,10 +90,18 @@ where
     let options = DB::Options::parse(alloc, url)?;
     let conn = options.connect(alloc);
     drop(options);
-    let conn = conn?;
+    match conn {
+        Ok(conn) => closed::<DB>(alloc, conn),
+        Err(error) => Err(error),
+    }
+}
+
+fn closed<DB: Database>(alloc: Global, conn: DB::Connection) -> Result<String, Error> {
     let depth = conn.depth();
-    conn.close()?;
-    Ok(format!(in alloc; "{depth}")?)
+    match conn.close() {
+        Ok(()) => Ok(format!(in alloc; "{depth}")?),
+        Err(error) => Err(error),
+    }
 }
 
 fn opened_any<B: AnyConnectionBackend + AnyOpen>(
