@@ -10,6 +10,8 @@ use tests_backend::StubBackend;
 use tests_backend::cells::{self, described, listed};
 use tests_database::answers::{shown, taken};
 
+type Db = Any<StubBackend>;
+
 // The name of a Rust type, its own type, and whether it reads a value of the type.
 fn typed<DB: Database, T: SqlType<DB>>(
     alloc: Global,
@@ -78,17 +80,17 @@ where
 }
 
 // The same with the list that it makes.
-fn argument<'t, B: AnyConnectionBackend, T: Encode<'t, Any<B>> + SqlType<Any<B>> + Drop>(
+fn argument<'t, T: Encode<'t, Db> + SqlType<Db> + Drop>(
     alloc: Global,
     value: T,
 ) -> Result<String, OutOfMemory>
 where
-    Option<T>: Encode<'t, Any<B>>,
+    Option<T>: Encode<'t, Db>,
 {
     let kind = AnyTypeInfoKind::Integer;
     let values = AnyArgumentBuffer::new(alloc);
     let mut args = AnyArguments { values };
-    let told = described_as::<Any<B>, T>(alloc, &AnyTypeInfo { kind }, &mut args, value);
+    let told = described_as::<Db, T>(alloc, &AnyTypeInfo { kind }, &mut args, value);
     let values = listed(alloc, args.values.as_slice());
     drop(args);
     joined(alloc, told, "; ", values)
@@ -108,16 +110,16 @@ enum Rust {
 }
 
 // The same of a value of a type.
-fn argument_of<B: AnyConnectionBackend>(alloc: Global, rust: Rust) -> Result<String, OutOfMemory> {
+fn argument_of(alloc: Global, rust: Rust) -> Result<String, OutOfMemory> {
     match rust {
-        Rust::Bool => argument::<B, bool>(alloc, true),
-        Rust::I16 => argument::<B, i16>(alloc, -5),
-        Rust::I32 => argument::<B, i32>(alloc, 5),
-        Rust::I64 => argument::<B, i64>(alloc, 70_000),
-        Rust::Str => argument::<B, &str>(alloc, "milk"),
-        Rust::Owned => argument::<B, String>(alloc, cells::owned(alloc)?),
-        Rust::Slice => argument::<B, &[u8]>(alloc, &[1, 2]),
-        Rust::Bytes => argument::<B, Vec<u8>>(alloc, cells::bytes(alloc)?),
+        Rust::Bool => argument::<bool>(alloc, true),
+        Rust::I16 => argument::<i16>(alloc, -5),
+        Rust::I32 => argument::<i32>(alloc, 5),
+        Rust::I64 => argument::<i64>(alloc, 70_000),
+        Rust::Str => argument::<&str>(alloc, "milk"),
+        Rust::Owned => argument::<String>(alloc, cells::owned(alloc)?),
+        Rust::Slice => argument::<&[u8]>(alloc, &[1, 2]),
+        Rust::Bytes => argument::<Vec<u8>>(alloc, cells::bytes(alloc)?),
     }
 }
 
@@ -160,9 +162,9 @@ const TYPES: &[(Rust, &str)] = &[
 fn rust_types_are_arguments(rt: HostRuntime) -> Result<(), Fail> {
     let alloc = rt.alloc();
     for (rust, want) in TYPES {
-        tells(&rt, argument_of::<StubBackend>(alloc, *rust), want)?;
+        tells(&rt, argument_of(alloc, *rust), want)?;
     }
-    let told = of_option::<StubBackend>(alloc);
+    let told = of_option(alloc);
     tells(&rt, told, "false BigInt 5|; 8 false; 0 false")
 }
 
@@ -189,8 +191,8 @@ fn option<'t, DB: Database<ArgumentBuffer = AnyArgumentBuffer>, T: Encode<'t, DB
     joined(alloc, told, "; ", sizes)
 }
 
-fn of_option<B: AnyConnectionBackend>(alloc: Global) -> Result<String, OutOfMemory> {
-    option::<Any<B>, Option<i64>>(alloc, &Some(5), &None)
+fn of_option(alloc: Global) -> Result<String, OutOfMemory> {
+    option::<Db, Option<i64>>(alloc, &Some(5), &None)
 }
 
 // Fills a list with three arguments.
@@ -239,9 +241,9 @@ where
 }
 
 // The same, how many the list itself counts, and the values.
-fn kept<B: AnyConnectionBackend>(alloc: Global, len: usize) -> Result<String, OutOfMemory> {
-    let (args, told) = cut::<Any<B>>(alloc, len);
-    let len = shown(alloc, Ok(ArgumentList::len(&args.values)));
+fn kept(alloc: Global, len: usize) -> Result<String, OutOfMemory> {
+    let (args, told): (AnyArguments, _) = cut::<Db>(alloc, len);
+    let len = shown(alloc, Ok(args.values.len()));
     let values = args.values.into_values();
     let listed = listed(alloc, values.as_slice());
     drop(values);
@@ -256,7 +258,7 @@ fn keeps_the_first_arguments(rt: HostRuntime) -> Result<(), Fail> {
         (2, "taken; 2 a = ?; 2 Integer 5|Text x|"),
         (0, "taken; 0 a = ?; 0 "),
     ] {
-        tells(&rt, kept::<StubBackend>(alloc, *len), want)?;
+        tells(&rt, kept(alloc, *len), want)?;
     }
     Ok(())
 }

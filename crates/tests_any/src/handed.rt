@@ -120,14 +120,20 @@ where
     }
 }
 
-fn answers_over<B: AnyConnectionBackend>(
+fn answers_over(
     alloc: Global,
-    conn: &mut AnyConnection<B>,
+    conn: &mut AnyConnection<StubBackend>,
     ask: Ask,
     numbers: AnyArguments,
 ) -> Result<String, OutOfMemory> {
     let kind = AnyTypeInfoKind::Text;
-    answers::<Any<B>, AnyConnection<B>>(alloc, conn, ask, numbers, &[AnyTypeInfo { kind }])
+    answers::<Any<StubBackend>, AnyConnection<StubBackend>>(
+        alloc,
+        conn,
+        ask,
+        numbers,
+        &[AnyTypeInfo { kind }],
+    )
 }
 
 // What a backend by letters was handed, and what comes of its steps.

@@ -1,5 +1,5 @@
 //! Statements that are built piece by piece, with the numbered placeholders of the toy database, and what is asked of them.
-ghost use Rattle.std.specs.Prelude.{◌≡◌, Bool, IfOk};
+ghost use Rattle.std.specs.Prelude.{◌≡◌, Bool, IfOk, length, take};
 ghost use Rattle.tests_queries.specs.Callers.{RowAppends};
 
 use crate::callers::with_notes;
@@ -83,22 +83,18 @@ fn two_pairs(alloc: Global, count: usize) -> Result<Vec<(i64, &'static str)>, Ou
     Ok(pairs)
 }
 
-#[tactic(auto, using(sqlx_query::proofs::RowLemmas::appends_then))]
-fn tuples<'t, DB: Database>(
+fn tuples(
     alloc: Global,
-    builder: &mut QueryBuilder<DB>,
-    pairs: Vec<(i64, &'t str)>,
+    builder: &mut QueryBuilder<Toy>,
+    pairs: Vec<(i64, &'static str)>,
 ) -> Result<(), Fault>
-where
-    i64: Encode<'t, DB> + SqlType<DB>,
-    &'t str: Encode<'t, DB> + SqlType<DB>,
     requires { builder.old.built ≡ Bool.false }
 {
     builder.push_tuples(
         alloc,
         pairs.into_iter(),
         |row, pair| -> Result<(), Fault>
-            ensures { RowAppends DB.ArgumentBuffer.count DB.ArgumentBuffer.first DB.Arguments.buffered row.old.parts row.new.parts }
+            ensures { RowAppends length take (λ args. args.list) row.old.parts row.new.parts }
         {
             row.push(alloc, "-")?;
             row.push_bind_unseparated(alloc, pair.0)?;
@@ -109,23 +105,18 @@ where
     Ok(())
 }
 
-#[tactic(auto, using(sqlx_query::proofs::RowLemmas::appends_then))]
-fn refused_values<'t, DB: Database>(
+fn refused_values(
     alloc: Global,
-    builder: &mut QueryBuilder<DB>,
-    pairs: Vec<(i64, &'t str)>,
+    builder: &mut QueryBuilder<Toy>,
+    pairs: Vec<(i64, &'static str)>,
 ) -> Result<(), Fault>
-where
-    bool: Encode<'t, DB> + SqlType<DB>,
-    i64: Encode<'t, DB> + SqlType<DB>,
-    &'t str: Encode<'t, DB> + SqlType<DB>,
     requires { builder.old.built ≡ Bool.false }
 {
     builder.try_push_values(
         alloc,
         pairs.into_iter(),
         |row, pair| -> Result<(), Fault>
-            ensures { RowAppends DB.ArgumentBuffer.count DB.ArgumentBuffer.first DB.Arguments.buffered row.old.parts row.new.parts }
+            ensures { RowAppends length take (λ args. args.list) row.old.parts row.new.parts }
         {
             row.push_bind(alloc, pair.0)?;
             row.push_bind(alloc, pair.1)?;
@@ -134,23 +125,18 @@ where
     )
 }
 
-#[tactic(auto, using(sqlx_query::proofs::RowLemmas::appends_then))]
-fn refused_tuples<'t, DB: Database>(
+fn refused_tuples(
     alloc: Global,
-    builder: &mut QueryBuilder<DB>,
-    pairs: Vec<(i64, &'t str)>,
+    builder: &mut QueryBuilder<Toy>,
+    pairs: Vec<(i64, &'static str)>,
 ) -> Result<(), Fault>
-where
-    bool: Encode<'t, DB> + SqlType<DB>,
-    i64: Encode<'t, DB> + SqlType<DB>,
-    &'t str: Encode<'t, DB> + SqlType<DB>,
     requires { builder.old.built ≡ Bool.false }
 {
     builder.try_push_tuples(
         alloc,
         pairs.into_iter(),
         |row, pair| -> Result<(), Fault>
-            ensures { RowAppends DB.ArgumentBuffer.count DB.ArgumentBuffer.first DB.Arguments.buffered row.old.parts row.new.parts }
+            ensures { RowAppends length take (λ args. args.list) row.old.parts row.new.parts }
         {
             row.push_bind(alloc, pair.0)?;
             row.push_bind(alloc, pair.1)?;
@@ -180,10 +166,10 @@ fn push(alloc: Global, builder: &mut QueryBuilder<Toy>, push: Piece) -> Result<(
         Piece::Tried => tried(alloc, builder),
         Piece::Listed => listed(alloc, builder),
         Piece::Values(count) => with_notes::<Toy, i64>(alloc, builder, two_pairs(alloc, count)?),
-        Piece::Tuples(count) => tuples::<Toy>(alloc, builder, two_pairs(alloc, count)?),
+        Piece::Tuples(count) => tuples(alloc, builder, two_pairs(alloc, count)?),
         Piece::RefusedValue => builder.try_push_bind(alloc, true),
-        Piece::RefusedValues => refused_values::<Toy>(alloc, builder, two_pairs(alloc, 2)?),
-        Piece::RefusedTuples => refused_tuples::<Toy>(alloc, builder, two_pairs(alloc, 2)?),
+        Piece::RefusedValues => refused_values(alloc, builder, two_pairs(alloc, 2)?),
+        Piece::RefusedTuples => refused_tuples(alloc, builder, two_pairs(alloc, 2)?),
     }
 }
 
