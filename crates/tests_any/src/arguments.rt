@@ -10,8 +10,6 @@ use tests_backend::StubBackend;
 use tests_backend::cells::{self, described, listed};
 use tests_database::answers::{shown, taken};
 
-type Db = Any<StubBackend>;
-
 // The name of a Rust type, its own type, and whether it reads a value of the type.
 fn typed<DB: Database, T: SqlType<DB>>(
     alloc: Global,
@@ -80,17 +78,17 @@ where
 }
 
 // The same with the list that it makes.
-fn argument<'t, T: Encode<'t, Db> + SqlType<Db> + Drop>(
+fn argument<'t, B: AnyConnectionBackend, T: Encode<'t, Any<B>> + SqlType<Any<B>> + Drop>(
     alloc: Global,
     value: T,
 ) -> Result<String, OutOfMemory>
 where
-    Option<T>: Encode<'t, Db>,
+    Option<T>: Encode<'t, Any<B>>,
 {
     let kind = AnyTypeInfoKind::Integer;
     let values = AnyArgumentBuffer::new(alloc);
     let mut args = AnyArguments { values };
-    let told = described_as::<Db, T>(alloc, &AnyTypeInfo { kind }, &mut args, value);
+    let told = described_as::<Any<B>, T>(alloc, &AnyTypeInfo { kind }, &mut args, value);
     let values = listed(alloc, args.values.as_slice());
     drop(args);
     joined(alloc, told, "; ", values)
@@ -110,16 +108,16 @@ enum Rust {
 }
 
 // The same of a value of a type.
-fn argument_of(alloc: Global, rust: Rust) -> Result<String, OutOfMemory> {
+fn argument_of<B: AnyConnectionBackend>(alloc: Global, rust: Rust) -> Result<String, OutOfMemory> {
     match rust {
-        Rust::Bool => argument::<bool>(alloc, true),
-        Rust::I16 => argument::<i16>(alloc, -5),
-        Rust::I32 => argument::<i32>(alloc, 5),
-        Rust::I64 => argument::<i64>(alloc, 70_000),
-        Rust::Str => argument::<&str>(alloc, "milk"),
-        Rust::Owned => argument::<String>(alloc, cells::owned(alloc)?),
-        Rust::Slice => argument::<&[u8]>(alloc, &[1, 2]),
-        Rust::Bytes => argument::<Vec<u8>>(alloc, cells::bytes(alloc)?),
+        Rust::Bool => argument::<B, bool>(alloc, true),
+        Rust::I16 => argument::<B, i16>(alloc, -5),
+        Rust::I32 => argument::<B, i32>(alloc, 5),
+        Rust::I64 => argument::<B, i64>(alloc, 70_000),
+        Rust::Str => argument::<B, &str>(alloc, "milk"),
+        Rust::Owned => argument::<B, String>(alloc, cells::owned(alloc)?),
+        Rust::Slice => argument::<B, &[u8]>(alloc, &[1, 2]),
+        Rust::Bytes => argument::<B, Vec<u8>>(alloc, cells::bytes(alloc)?),
     }
 }
 
@@ -162,9 +160,9 @@ const TYPES: &[(Rust, &str)] = &[
 fn rust_types_are_arguments(rt: HostRuntime) -> Result<(), Fail> {
     let alloc = rt.alloc();
     for (rust, want) in TYPES {
-        tells(&rt, argument_of(alloc, *rust), want)?;
+        tells(&rt, argument_of::<StubBackend>(alloc, *rust), want)?;
     }
-    let told = of_option(alloc);
+    let told = of_option::<StubBackend>(alloc);
     tells(&rt, told, "false BigInt 5|; 8 false; 0 false")
 }
 
@@ -191,8 +189,8 @@ fn option<'t, DB: Database<ArgumentBuffer = AnyArgumentBuffer>, T: Encode<'t, DB
     joined(alloc, told, "; ", sizes)
 }
 
-fn of_option(alloc: Global) -> Result<String, OutOfMemory> {
-    option::<Db, Option<i64>>(alloc, &Some(5), &None)
+fn of_option<B: AnyConnectionBackend>(alloc: Global) -> Result<String, OutOfMemory> {
+    option::<Any<B>, Option<i64>>(alloc, &Some(5), &None)
 }
 
 // Fills a list with three arguments.
@@ -241,9 +239,9 @@ where
 }
 
 // The same, how many the list itself counts, and the values.
-fn kept(alloc: Global, len: usize) -> Result<String, OutOfMemory> {
-    let (args, told): (AnyArguments, _) = cut::<Db>(alloc, len);
-    let len = shown(alloc, Ok(args.values.len()));
+fn kept<B: AnyConnectionBackend>(alloc: Global, len: usize) -> Result<String, OutOfMemory> {
+    let (args, told) = cut::<Any<B>>(alloc, len);
+    let len = shown(alloc, Ok(ArgumentList::len(&args.values)));
     let values = args.values.into_values();
     let listed = listed(alloc, values.as_slice());
     drop(values);
@@ -258,7 +256,7 @@ fn keeps_the_first_arguments(rt: HostRuntime) -> Result<(), Fail> {
         (2, "taken; 2 a = ?; 2 Integer 5|Text x|"),
         (0, "taken; 0 a = ?; 0 "),
     ] {
-        tells(&rt, kept(alloc, *len), want)?;
+        tells(&rt, kept::<StubBackend>(alloc, *len), want)?;
     }
     Ok(())
 }

@@ -120,20 +120,14 @@ where
     }
 }
 
-fn answers_over(
+fn answers_over<B: AnyConnectionBackend>(
     alloc: Global,
-    conn: &mut AnyConnection<StubBackend>,
+    conn: &mut AnyConnection<B>,
     ask: Ask,
     numbers: AnyArguments,
 ) -> Result<String, OutOfMemory> {
     let kind = AnyTypeInfoKind::Text;
-    answers::<Any<StubBackend>, AnyConnection<StubBackend>>(
-        alloc,
-        conn,
-        ask,
-        numbers,
-        &[AnyTypeInfo { kind }],
-    )
+    answers::<Any<B>, AnyConnection<B>>(alloc, conn, ask, numbers, &[AnyTypeInfo { kind }])
 }
 
 // What a backend by letters was handed, and what comes of its steps.

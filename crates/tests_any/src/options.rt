@@ -104,14 +104,21 @@ fn closed<DB: Database>(alloc: Global, conn: DB::Connection) -> Result<String, E
     }
 }
 
+fn opened_any<B: AnyConnectionBackend + AnyOpen>(
+    alloc: Global,
+    url: &str,
+) -> Result<String, Error> {
+    opened::<Any<B>>(alloc, url)
+}
+
 #[test]
 fn options_open_connections(rt: HostRuntime) -> Result<(), Fail> {
     let alloc = rt.alloc();
     says(&rt, opened::<Toy>(alloc, "toy:t1"), "0")?;
-    says(&rt, opened::<Any<StubBackend>>(alloc, "stub:i1"), "0")?;
+    says(&rt, opened_any::<StubBackend>(alloc, "stub:i1"), "0")?;
     says(
         &rt,
-        opened::<Any<StubBackend>>(alloc, "stub:"),
+        opened_any::<StubBackend>(alloc, "stub:"),
         "error communicating with database: connection refused",
     )
 }

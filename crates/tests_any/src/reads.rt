@@ -203,15 +203,18 @@ where
     }
 }
 
-fn small_by_traits(alloc: Global, row: &AnyRow) -> Result<String, OutOfMemory> {
-    by_traits::<Any<StubBackend>, i16>(alloc, row)
+fn small_by_traits<B: AnyConnectionBackend>(
+    alloc: Global,
+    row: &AnyRow,
+) -> Result<String, OutOfMemory> {
+    by_traits::<Any<B>, i16>(alloc, row)
 }
 
 // What both ways of calls tell of a value as an `i16`.
 fn refusals(alloc: Global, sample: Sample) -> Result<String, Error> {
     let row = cells::single(alloc, value_of(alloc, sample)?)?;
     let inherent = inherent::<i16>(alloc, &row);
-    let by_traits = small_by_traits(alloc, &row);
+    let by_traits = small_by_traits::<StubBackend>(alloc, &row);
     drop(row);
     Ok(joined(alloc, inherent, "\n", by_traits)?)
 }
