@@ -2,7 +2,7 @@
 
 use crate::calls::{ToyQuery, ran_map};
 use crate::read::MISMATCH;
-use crate::says::{says, says_then};
+use crate::says::says;
 use sqlx_query::query;
 use sqlx_text::{Error, Fault, OutOfMemory};
 use sqlx_traits::*;
@@ -85,8 +85,9 @@ fn a_refused_row_is_the_last(rt: HostRuntime) -> Result<(), Fail> {
         (Call::FetchOne, "t", MISMATCH),
         (Call::Fetch, "ltl", REFUSED_BEHIND),
     ] {
+        let want = format!(in alloc; "SELECT kept|1: {given}")?;
         let told = tried(alloc, *call, letters);
-        says_then(&rt, told, "SELECT kept|1: ", given)?;
+        says(&rt, told, want.as_str())?;
     }
     Ok(())
 }

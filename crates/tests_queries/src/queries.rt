@@ -1,7 +1,7 @@
 //! The seven running calls of a query and of a raw text, and what a query takes its arguments from.
 
 use crate::calls::{ToyQuery, numbers, ran, ran_raw};
-use crate::says::{says, says_then};
+use crate::says::says;
 use sqlx_query::{query, query_with, query_with_result, raw_sql};
 use sqlx_text::{Fault, OutOfMemory};
 use std::alloc::Global;
@@ -43,10 +43,12 @@ fn runs_queries_and_raw_texts(rt: HostRuntime) -> Result<(), Fail> {
             "no rows returned by a query that expected to return at least one row",
         ),
     ] {
+        let want = format!(in alloc; "SELECT kept|1|x: {given}")?;
         let told = bound(alloc, *call, letters);
-        says_then(&rt, told, "SELECT kept|1|x: ", given)?;
+        says(&rt, told, want.as_str())?;
+        let want = format!(in alloc; "DELETE; SELECT bare: {given}")?;
         let told = raw(alloc, *call, letters);
-        says_then(&rt, told, "DELETE; SELECT bare: ", given)?;
+        says(&rt, told, want.as_str())?;
     }
     Ok(())
 }

@@ -2,7 +2,7 @@
 
 use crate::calls::{numbers, ran_read};
 use crate::rows::Note;
-use crate::says::{says, says_then};
+use crate::says::says;
 use sqlx_query::*;
 use sqlx_text::{Fault, OutOfMemory};
 use std::alloc::Global;
@@ -55,8 +55,9 @@ fn reads_columns(rt: HostRuntime) -> Result<(), Fail> {
         (Call::FetchOne, "lt2", "7"),
         (Call::FetchOne, "tl", MISMATCH),
     ] {
+        let want = format!(in alloc; "SELECT|1: {given}")?;
         let told = scalars(alloc, *call, letters);
-        says_then(&rt, told, "SELECT|1: ", given)?;
+        says(&rt, told, want.as_str())?;
     }
     Ok(())
 }
@@ -70,8 +71,9 @@ fn reads_rows(rt: HostRuntime) -> Result<(), Fail> {
         (Call::FetchAll, "lt2", MISMATCH),
         (Call::FetchOne, "lt2", "(7,)"),
     ] {
+        let want = format!(in alloc; "SELECT|1: {given}")?;
         let told = rows_as::<(i64,)>(alloc, *call, letters);
-        says_then(&rt, told, "SELECT|1: ", given)?;
+        says(&rt, told, want.as_str())?;
     }
     Ok(())
 }

@@ -51,20 +51,6 @@ fn scalars(alloc: Global, ask: Ask, statement: &ToyStatement) -> Result<String, 
     Ok(ran_read(alloc, "l2", Call::FetchOne, query)?)
 }
 
-// What is asked by each of the three, and what comes of it.
-fn all(alloc: Global, ask: Ask, statement: &ToyStatement) -> Result<String, Fault> {
-    let rows = rows(alloc, ask, statement)?;
-    let value = values(alloc, ask, statement)?;
-    let scalar = scalars(alloc, ask, statement)?;
-    Ok(format!(in alloc; "{rows}, {value}, {scalar}")?)
-}
-
-const BARE: &str =
-    "SELECT kept prepared: ToyQueryResult(2), SELECT kept prepared: (7,), SELECT kept prepared: 7";
-
-const WITH: &str =
-    "SELECT kept prepared|3: ToyQueryResult(2), SELECT kept prepared|3: (7,), SELECT kept prepared|3: 7";
-
 #[test]
 fn a_statement_is_asked(rt: HostRuntime) -> Result<(), Fail> {
     let alloc = rt.alloc();
@@ -73,13 +59,21 @@ fn a_statement_is_asked(rt: HostRuntime) -> Result<(), Fail> {
         columns: Vec::new(alloc),
         types: Vec::new(alloc),
     };
-    for (ask, want) in &[
-        (Ask::Function, BARE),
-        (Ask::FunctionWith, WITH),
-        (Ask::Call, BARE),
-        (Ask::CallWith, WITH),
+    for (ask, asked) in &[
+        (Ask::Function, "SELECT kept prepared"),
+        (Ask::FunctionWith, "SELECT kept prepared|3"),
+        (Ask::Call, "SELECT kept prepared"),
+        (Ask::CallWith, "SELECT kept prepared|3"),
     ] {
-        says(&rt, all(alloc, *ask, &statement), want)?;
+        let result = format!(in alloc; "{asked}: ToyQueryResult(2)")?;
+        let told = rows(alloc, *ask, &statement);
+        says(&rt, told, result.as_str())?;
+        let tuple = format!(in alloc; "{asked}: (7,)")?;
+        let told = values(alloc, *ask, &statement);
+        says(&rt, told, tuple.as_str())?;
+        let number = format!(in alloc; "{asked}: 7")?;
+        let told = scalars(alloc, *ask, &statement);
+        says(&rt, told, number.as_str())?;
     }
     Ok(())
 }
