@@ -1,13 +1,14 @@
 //! Rust types as arguments of `Any`, and lists of arguments.
 
 use crate::samples::{Sample, value_of};
-use crate::says::{says, tells};
+use crate::says::{joined, tells};
 use sqlx_any::*;
-use sqlx_text::{AnyTypeInfoKind, Error, Fault, OutOfMemory};
+use sqlx_text::{AnyTypeInfoKind, Fault, OutOfMemory};
 use std::alloc::Global;
 use std::test::*;
 use tests_backend::StubBackend;
 use tests_backend::cells::{self, described, listed};
+use tests_database::answers::{shown, taken};
 
 // The name of a Rust type, its own type, and whether it reads a value of the type.
 fn typed<DB: Database, T: SqlType<DB>>(
@@ -23,49 +24,64 @@ fn typed<DB: Database, T: SqlType<DB>>(
     Ok(text?)
 }
 
+// About how many bytes a value takes, and whether it is of a type of its own.
+fn sized<'t, DB: Database, T: Encode<'t, DB>>(
+    alloc: Global,
+    value: &T,
+) -> Result<String, OutOfMemory> {
+    let size = value.size_hint();
+    let produces = value.produces().is_some();
+    Ok(format!(in alloc; "{size} {produces}")?)
+}
+
+// Adds a value; whether it counts as null.
+fn encoded<'t, DB: Database, T: Encode<'t, DB>>(
+    alloc: Global,
+    args: &mut DB::Arguments,
+    value: T,
+) -> Result<String, OutOfMemory> {
+    match value.encode(alloc, args.buffer()) {
+        Ok(told) => Ok(told.is_null().to_string(alloc)?),
+        Err(fault) => taken(alloc, Err(fault)),
+    }
+}
+
 // Adds a value that is lent, the value itself, and no value; whether the last two count as null.
 fn bound<'t, DB: Database, T: Encode<'t, DB> + SqlType<DB> + Drop>(
     alloc: Global,
     args: &mut DB::Arguments,
     value: T,
-) -> Result<(bool, bool), Fault>
+) -> Result<String, OutOfMemory>
 where
     Option<T>: Encode<'t, DB>,
 {
-    args.add(alloc, &value)?;
-    let told = value.encode(alloc, args.buffer())?;
-    let none: Option<T> = None;
-    let null = none.encode(alloc, args.buffer())?;
-    Ok((told.is_null(), null.is_null()))
+    let lent = taken(alloc, args.add(alloc, &value));
+    let own = encoded::<DB, T>(alloc, args, value);
+    let none = encoded::<DB, Option<T>>(alloc, args, None);
+    joined(alloc, lent, " ", joined(alloc, own, " ", none))
 }
 
-// About how many bytes a value takes, and whether it is of a type of its own.
-fn sized<'t, DB: Database, T: Encode<'t, DB>>(value: &T) -> (usize, bool) {
-    (value.size_hint(), value.produces().is_some())
-}
-
-// What is told of a value as an argument, and whether it and no value count as null, which are added in turn.
+// What is told of a value as an argument, and of it, lent and owned, and no value as they are added in turn.
 fn described_as<'t, DB: Database, T: Encode<'t, DB> + SqlType<DB> + Drop>(
     alloc: Global,
     other: &DB::TypeInfo,
     args: &mut DB::Arguments,
     value: T,
-) -> Result<(String, (bool, bool)), Error>
+) -> Result<String, OutOfMemory>
 where
     Option<T>: Encode<'t, DB>,
 {
-    let ty = typed::<DB, T>(alloc, other)?;
-    let (size, produces) = sized::<DB, T>(&value);
-    let nulls = bound::<DB, T>(alloc, args, value)?;
-    let text = format!(in alloc; "{ty} {size} {produces}")?;
-    Ok((text, nulls))
+    let ty = typed::<DB, T>(alloc, other);
+    let sized = sized::<DB, T>(alloc, &value);
+    let bound = bound::<DB, T>(alloc, args, value);
+    joined(alloc, ty, " ", joined(alloc, sized, "; ", bound))
 }
 
 // The same with the list that it makes.
 fn argument<'t, B: AnyConnectionBackend, T: Encode<'t, Any<B>> + SqlType<Any<B>> + Drop>(
     alloc: Global,
     value: T,
-) -> Result<String, Error>
+) -> Result<String, OutOfMemory>
 where
     Option<T>: Encode<'t, Any<B>>,
 {
@@ -75,90 +91,79 @@ where
     let told = described_as::<Any<B>, T>(alloc, &AnyTypeInfo { kind }, &mut args, value);
     let values = listed(alloc, args.values.as_slice());
     drop(args);
-    let (values, (text, (told, null))) = (values?, told?);
-    Ok(format!(in alloc; "{text} {values}{told} {null}")?)
+    joined(alloc, told, "; ", values)
 }
 
-fn of_bool<B: AnyConnectionBackend>(alloc: Global) -> Result<String, Error> {
-    argument::<B, bool>(alloc, true)
+// A Rust type, with a value of it.
+#[derive(Clone, Copy)]
+enum Rust {
+    Bool,
+    I16,
+    I32,
+    I64,
+    Str,
+    Owned,
+    Slice,
+    Bytes,
 }
 
-fn of_i16<B: AnyConnectionBackend>(alloc: Global) -> Result<String, Error> {
-    argument::<B, i16>(alloc, -5)
+// The same of a value of a type.
+fn argument_of<B: AnyConnectionBackend>(alloc: Global, rust: Rust) -> Result<String, OutOfMemory> {
+    match rust {
+        Rust::Bool => argument::<B, bool>(alloc, true),
+        Rust::I16 => argument::<B, i16>(alloc, -5),
+        Rust::I32 => argument::<B, i32>(alloc, 5),
+        Rust::I64 => argument::<B, i64>(alloc, 70_000),
+        Rust::Str => argument::<B, &str>(alloc, "milk"),
+        Rust::Owned => argument::<B, String>(alloc, cells::owned(alloc)?),
+        Rust::Slice => argument::<B, &[u8]>(alloc, &[1, 2]),
+        Rust::Bytes => argument::<B, Vec<u8>>(alloc, cells::bytes(alloc)?),
+    }
 }
 
-fn of_i32<B: AnyConnectionBackend>(alloc: Global) -> Result<String, Error> {
-    argument::<B, i32>(alloc, 5)
-}
-
-fn of_i64<B: AnyConnectionBackend>(alloc: Global) -> Result<String, Error> {
-    argument::<B, i64>(alloc, 70_000)
-}
+const TYPES: &[(Rust, &str)] = &[
+    (
+        Rust::Bool,
+        "bool BOOLEAN false 1 false; taken false true; Bool true|Bool true|Null BOOLEAN|",
+    ),
+    (
+        Rust::I16,
+        "i16 SMALLINT true 2 false; taken false true; SmallInt -5|SmallInt -5|Null SMALLINT|",
+    ),
+    (
+        Rust::I32,
+        "i32 INTEGER true 4 false; taken false true; Integer 5|Integer 5|Null INTEGER|",
+    ),
+    (
+        Rust::I64,
+        "i64 BIGINT true 8 false; taken false true; BigInt 70000|BigInt 70000|Null BIGINT|",
+    ),
+    (
+        Rust::Str,
+        "&str TEXT false 4 false; taken false true; Text milk|Text milk|Null TEXT|",
+    ),
+    (
+        Rust::Owned,
+        "String TEXT false 1 false; taken false true; Text x|Text x|Null TEXT|",
+    ),
+    (
+        Rust::Slice,
+        "&[u8] BLOB false 2 false; taken false true; Blob [1, 2]|Blob [1, 2]|Null BLOB|",
+    ),
+    (
+        Rust::Bytes,
+        "Vec<u8> BLOB false 2 false; taken false true; Blob [1, 2]|Blob [1, 2]|Null BLOB|",
+    ),
+];
 
 #[test]
-fn numbers_are_arguments(rt: HostRuntime) -> Result<(), Fail> {
+fn rust_types_are_arguments(rt: HostRuntime) -> Result<(), Fail> {
     let alloc = rt.alloc();
-    says(
-        &rt,
-        of_bool::<StubBackend>(alloc),
-        "bool BOOLEAN false 1 false Bool true|Bool true|Null BOOLEAN|false true",
-    )?;
-    says(
-        &rt,
-        of_i16::<StubBackend>(alloc),
-        "i16 SMALLINT true 2 false SmallInt -5|SmallInt -5|Null SMALLINT|false true",
-    )?;
-    says(
-        &rt,
-        of_i32::<StubBackend>(alloc),
-        "i32 INTEGER true 4 false Integer 5|Integer 5|Null INTEGER|false true",
-    )?;
-    says(
-        &rt,
-        of_i64::<StubBackend>(alloc),
-        "i64 BIGINT true 8 false BigInt 70000|BigInt 70000|Null BIGINT|false true",
-    )
-}
-
-fn of_str<B: AnyConnectionBackend>(alloc: Global) -> Result<String, Error> {
-    argument::<B, &str>(alloc, "milk")
-}
-
-fn of_string<B: AnyConnectionBackend>(alloc: Global) -> Result<String, Error> {
-    argument::<B, String>(alloc, cells::owned(alloc)?)
-}
-
-fn of_slice<B: AnyConnectionBackend>(alloc: Global) -> Result<String, Error> {
-    argument::<B, &[u8]>(alloc, &[1, 2])
-}
-
-fn of_vec<B: AnyConnectionBackend>(alloc: Global) -> Result<String, Error> {
-    argument::<B, Vec<u8>>(alloc, cells::bytes(alloc)?)
-}
-
-#[test]
-fn texts_and_bytes_are_arguments(rt: HostRuntime) -> Result<(), Fail> {
-    let alloc = rt.alloc();
-    says(
-        &rt,
-        of_str::<StubBackend>(alloc),
-        "&str TEXT false 4 false Text milk|Text milk|Null TEXT|false true",
-    )?;
-    says(
-        &rt,
-        of_string::<StubBackend>(alloc),
-        "String TEXT false 1 false Text x|Text x|Null TEXT|false true",
-    )?;
-    says(
-        &rt,
-        of_slice::<StubBackend>(alloc),
-        "&[u8] BLOB false 2 false Blob [1, 2]|Blob [1, 2]|Null BLOB|false true",
-    )?;
-    says(
-        &rt,
-        of_vec::<StubBackend>(alloc),
-        "Vec<u8> BLOB false 2 false Blob [1, 2]|Blob [1, 2]|Null BLOB|false true",
-    )
+    for (rust, want) in TYPES {
+        tells(&rt, argument_of::<StubBackend>(alloc, *rust), want)?;
+    }
+    let told = of_option::<StubBackend>(alloc);
+    tells(&rt, told, "false BigInt 5|; 8 false; 0 false")
 }
 
 // An option that is lent: whether it counts as null, the list behind it, and what is told of it and of none.
@@ -166,24 +171,26 @@ fn option<'t, DB: Database<ArgumentBuffer = AnyArgumentBuffer>, T: Encode<'t, DB
     alloc: Global,
     some: &T,
     none: &T,
-) -> Result<String, Error> {
+) -> Result<String, OutOfMemory> {
     let mut list = AnyArgumentBuffer::new(alloc);
-    let told = some.encode_by_ref(alloc, &mut list);
+    let told = match some.encode_by_ref(alloc, &mut list) {
+        Ok(told) => shown(alloc, Ok(told.is_null())),
+        Err(fault) => taken(alloc, Err(fault)),
+    };
     let listed = listed(alloc, list.as_slice());
     drop(list);
-    let (null, listed) = (told?.is_null(), listed?);
-    let (some, none) = (sized::<DB, T>(some), sized::<DB, T>(none));
-    Ok(format!(in alloc; "{null} {listed} {some:?} {none:?}")?)
+    let told = joined(alloc, told, " ", listed);
+    let sizes = joined(
+        alloc,
+        sized::<DB, T>(alloc, some),
+        "; ",
+        sized::<DB, T>(alloc, none),
+    );
+    joined(alloc, told, "; ", sizes)
 }
 
-fn of_option<B: AnyConnectionBackend>(alloc: Global) -> Result<String, Error> {
+fn of_option<B: AnyConnectionBackend>(alloc: Global) -> Result<String, OutOfMemory> {
     option::<Any<B>, Option<i64>>(alloc, &Some(5), &None)
-}
-
-#[test]
-fn options_are_arguments(rt: HostRuntime) -> Result<(), Fail> {
-    let told = of_option::<StubBackend>(rt.alloc());
-    says(&rt, told, "false BigInt 5| (8, false) (0, false)")
 }
 
 // Fills a list with three arguments.
@@ -199,59 +206,57 @@ where
     args.add(alloc, None::<i64>)
 }
 
-// A list of three arguments, cut to so many; how many there are then, and their placeholder.
-fn cut<'t, DB: Database>(alloc: Global, len: usize) -> Result<(DB::Arguments, String), Error>
+// How many arguments a list has, and their placeholder.
+fn counted<DB: Database>(alloc: Global, args: &DB::Arguments) -> Result<String, OutOfMemory> {
+    let mut text = "a = ".to_string(alloc)?;
+    let put = args.format_placeholder(alloc, &mut text);
+    put_count(alloc, args.len(), put, text)
+}
+
+fn put_count(
+    alloc: Global,
+    len: usize,
+    put: Result<(), OutOfMemory>,
+    text: String,
+) -> Result<String, OutOfMemory> {
+    put?;
+    Ok(format!(in alloc; "{len} {text}")?)
+}
+
+// A list of three arguments, cut to so many; whether they were taken, how many there are then, and their placeholder.
+fn cut<'t, DB: Database>(alloc: Global, len: usize) -> (DB::Arguments, Result<String, OutOfMemory>)
 where
     i32: Encode<'t, DB> + SqlType<DB>,
     &'t str: Encode<'t, DB> + SqlType<DB>,
     Option<i64>: Encode<'t, DB> + SqlType<DB>,
 {
     let mut args = DB::Arguments::new(alloc);
-    let filled = fill::<DB>(alloc, &mut args);
+    let filled = taken(alloc, fill::<DB>(alloc, &mut args));
     args.truncate(len);
     let args = ImmutableArguments::<DB>(args).into_arguments();
-    match filled {
-        Ok(()) => match counted::<DB>(alloc, &args) {
-            Ok(text) => Ok((args, text)),
-            Err(want) => {
-                drop(args);
-                Err(want.into())
-            }
-        },
-        Err(fault) => {
-            drop(args);
-            Err(Error::encode(fault))
-        }
-    }
-}
-
-fn counted<DB: Database>(alloc: Global, args: &DB::Arguments) -> Result<String, OutOfMemory> {
-    let len = args.len();
-    let mut text = "a = ".to_string(alloc)?;
-    args.format_placeholder(alloc, &mut text)?;
-    Ok(format!(in alloc; "{len} {text}")?)
+    let counted = counted::<DB>(alloc, &args);
+    (args, joined(alloc, filled, "; ", counted))
 }
 
 // The same, how many the list itself counts, and the values.
-fn kept<B: AnyConnectionBackend>(alloc: Global, len: usize) -> Result<String, Error> {
-    let (args, text) = cut::<Any<B>>(alloc, len)?;
-    let listed_len = ArgumentList::len(&args.values);
+fn kept<B: AnyConnectionBackend>(alloc: Global, len: usize) -> Result<String, OutOfMemory> {
+    let (args, told) = cut::<Any<B>>(alloc, len);
+    let len = shown(alloc, Ok(ArgumentList::len(&args.values)));
     let values = args.values.into_values();
     let listed = listed(alloc, values.as_slice());
     drop(values);
-    let listed = listed?;
-    Ok(format!(in alloc; "{listed_len} {text} {listed}")?)
+    joined(alloc, told, "; ", joined(alloc, len, " ", listed))
 }
 
 #[test]
 fn keeps_the_first_arguments(rt: HostRuntime) -> Result<(), Fail> {
     let alloc = rt.alloc();
-    for (len, want) in [
-        (9, "3 3 a = ? Integer 5|Text x|Null BIGINT|"),
-        (2, "2 2 a = ? Integer 5|Text x|"),
-        (0, "0 0 a = ? "),
+    for (len, want) in &[
+        (9, "taken; 3 a = ?; 3 Integer 5|Text x|Null BIGINT|"),
+        (2, "taken; 2 a = ?; 2 Integer 5|Text x|"),
+        (0, "taken; 0 a = ?; 0 "),
     ] {
-        says(&rt, kept::<StubBackend>(alloc, len), want)?;
+        tells(&rt, kept::<StubBackend>(alloc, *len), want)?;
     }
     Ok(())
 }
@@ -272,7 +277,7 @@ fn copied(alloc: Global, sample: Sample) -> Result<String, OutOfMemory> {
 #[test]
 fn copies_values(rt: HostRuntime) -> Result<(), Fail> {
     let alloc = rt.alloc();
-    for (sample, want) in [
+    for (sample, want) in &[
         (Sample::Null(AnyTypeInfoKind::Text), "Null TEXT, NULL"),
         (Sample::Flag(true), "Bool true, BOOLEAN"),
         (Sample::Small(-5), "SmallInt -5, SMALLINT"),
@@ -282,7 +287,7 @@ fn copies_values(rt: HostRuntime) -> Result<(), Fail> {
         (Sample::Slice("y"), "TextSlice y, TEXT"),
         (Sample::Blob, "Blob [1, 2], BLOB"),
     ] {
-        tells(&rt, copied(alloc, sample), want)?;
+        tells(&rt, copied(alloc, *sample), want)?;
     }
     Ok(())
 }
@@ -308,11 +313,12 @@ fn told_of(ty: &AnyTypeInfo) -> (AnyTypeInfoKind, Option<AnyTypeInfoKind>, [bool
 
 #[test]
 fn tells_of_types(rt: HostRuntime) -> Result<(), Fail> {
-    for (kind, flags) in [
+    for (kind, flags) in &[
         (AnyTypeInfoKind::BigInt, [false, false, false]),
         (AnyTypeInfoKind::Null, [true, false, true]),
     ] {
-        assert_eq!(rt; told_of(&AnyTypeInfo { kind }), (kind, Some(kind), flags));
+        let kind = *kind;
+        assert_eq!(rt; told_of(&AnyTypeInfo { kind }), (kind, Some(kind), *flags));
     }
     Ok(())
 }

@@ -88,7 +88,7 @@ fn of_any(alloc: Global, before: &[Call], refuses: bool, call: Call) -> Result<S
 #[test]
 fn a_connection_asks_its_backend(rt: HostRuntime) -> Result<(), Fail> {
     let alloc = rt.alloc();
-    for (before, call, want) in [
+    for (before, call, want) in &[
         (NEW, Call::Ping, "Some(Ping) () 0|"),
         (NEW, Call::Clear, "Some(Clear) () 0|"),
         (NEW, Call::Shrink, "Some(Shrink) () 0|"),
@@ -105,7 +105,7 @@ fn a_connection_asks_its_backend(rt: HostRuntime) -> Result<(), Fail> {
             "() 1|Some(Begin) attempted to call begin_with at non-zero transaction depth 1|",
         ),
     ] {
-        says(&rt, of_any(alloc, before, false, call), want)?;
+        says(&rt, of_any(alloc, before, false, *call), want)?;
     }
     Ok(())
 }
@@ -114,7 +114,7 @@ fn a_connection_asks_its_backend(rt: HostRuntime) -> Result<(), Fail> {
 fn a_connection_hands_on_refusals(rt: HostRuntime) -> Result<(), Fail> {
     let alloc = rt.alloc();
     let refused = "error communicating with database: other error";
-    for (before, call, last) in [
+    for (before, call, last) in &[
         (NEW, Call::Ping, "Some(Ping)"),
         (NEW, Call::Clear, "Some(Clear)"),
         (NEW, Call::Flush, "Some(Flush)"),
@@ -123,7 +123,7 @@ fn a_connection_hands_on_refusals(rt: HostRuntime) -> Result<(), Fail> {
         (BEGUN, Call::Rollback, "() 1|Some(Rollback)"),
     ] {
         let want = format!(in alloc; "{last} {refused} 0|")?;
-        says(&rt, of_any(alloc, before, true, call), want.as_str())?;
+        says(&rt, of_any(alloc, before, true, *call), want.as_str())?;
     }
     Ok(())
 }

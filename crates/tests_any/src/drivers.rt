@@ -10,6 +10,8 @@ use tests_database::Toy;
 use tests_database::answers::shown;
 use url::Url;
 
+const NONE: &str = "error with configuration: no driver found for URL scheme \"pg\"";
+
 fn parsed(alloc: Global, url: &str) -> Result<Url, Error> {
     match Url::parse(alloc, url) {
         Ok(url) => Ok(url),
@@ -46,15 +48,12 @@ fn found(alloc: Global, url: &str) -> Result<usize, Error> {
 #[test]
 fn finds_drivers(rt: HostRuntime) -> Result<(), Fail> {
     let alloc = rt.alloc();
-    for (url, want) in [
+    for (url, want) in &[
         ("mem:x", "0"),
         ("toy:x", "0"),
         ("sqlite:x", "1"),
         ("disk:x", "1"),
-        (
-            "pg:x",
-            "error with configuration: no driver found for URL scheme \"pg\"",
-        ),
+        ("pg:x", NONE),
     ] {
         tells(&rt, shown(alloc, found(alloc, url)), want)?;
     }
@@ -64,8 +63,7 @@ fn finds_drivers(rt: HostRuntime) -> Result<(), Fail> {
 #[test]
 fn expects_a_scheme(rt: HostRuntime) -> Result<(), Fail> {
     let alloc = rt.alloc();
-    let none = "error with configuration: no driver found for URL scheme \"pg\"";
-    for (url, want) in [("mem:x", "()"), ("pg:x", none)] {
+    for (url, want) in &[("mem:x", "()"), ("pg:x", NONE)] {
         tells(&rt, shown(alloc, expected(alloc, url)), want)?;
     }
     Ok(())

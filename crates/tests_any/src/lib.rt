@@ -12,6 +12,8 @@ mod drivers;
 #[cfg(test)]
 mod executors;
 #[cfg(test)]
+mod handed;
+#[cfg(test)]
 mod native;
 #[cfg(test)]
 mod options;

@@ -14,6 +14,9 @@ use tests_database::{Toy, ToyColumn, ToyStatement, ToyType, ToyValue};
 
 const UNMAPPED: &str = "error in Any driver mapping: no kind for type POINT";
 
+const UNREAD: &str =
+    "error occurred while decoding: out of range integral type conversion attempted";
+
 fn put_columns(alloc: Global, line: &mut String, columns: &[AnyColumn]) -> Result<(), OutOfMemory> {
     for column in columns {
         let ordinal = column.ordinal;
@@ -89,8 +92,7 @@ fn row_told(alloc: Global, form: &AnyRow) -> Result<String, Error> {
 #[test]
 fn maps_rows(rt: HostRuntime) -> Result<(), Fail> {
     let alloc = rt.alloc();
-    let unread = "error occurred while decoding: out of range integral type conversion attempted";
-    for (letters, want) in [
+    for (letters, want) in &[
         (
             "lt",
             "BigInt 7|Text x|0 large BIGINT|1 text TEXT| second text",
@@ -117,8 +119,8 @@ fn maps_rows(rt: HostRuntime) -> Result<(), Fail> {
             "lq",
             "error occurred while decoding column 1: no kind for type POINT",
         ),
-        ("le", unread),
-        ("eop", unread),
+        ("le", UNREAD),
+        ("eop", UNREAD),
     ] {
         says(&rt, mapped(alloc, letters), want)?;
     }
@@ -165,7 +167,7 @@ fn statement(alloc: Global, letters: &str) -> Result<String, Error> {
 #[test]
 fn maps_statements(rt: HostRuntime) -> Result<(), Fail> {
     let alloc = rt.alloc();
-    for (letters, want) in [
+    for (letters, want) in &[
         (
             "bt",
             "SELECT 0 flag BOOLEAN|1 text TEXT|[AnyTypeInfo { kind: Bool }, AnyTypeInfo { kind: Text }] second text",
@@ -233,7 +235,7 @@ fn description_told<B: AnyConnectionBackend>(
 
 #[test]
 fn maps_descriptions(rt: HostRuntime) -> Result<(), Fail> {
-    for (letters, told, want) in [
+    for (letters, told, want) in &[
         (
             "lt",
             Told::Types("y"),
@@ -252,7 +254,7 @@ fn maps_descriptions(rt: HostRuntime) -> Result<(), Fail> {
         ("lp", Told::Nothing, UNMAPPED),
         ("lt", Told::Types("p"), UNMAPPED),
     ] {
-        says(&rt, description(rt.alloc(), letters, told), want)?;
+        says(&rt, description(rt.alloc(), letters, *told), want)?;
     }
     Ok(())
 }
@@ -272,11 +274,11 @@ fn form(alloc: Global, kind: Option<AnyTypeInfoKind>) -> Result<String, Error> {
 #[test]
 fn maps_columns(rt: HostRuntime) -> Result<(), Fail> {
     let alloc = rt.alloc();
-    for (kind, want) in [
+    for (kind, want) in &[
         (Some(AnyTypeInfoKind::BigInt), "4 w BIGINT|"),
         (None, UNMAPPED),
     ] {
-        says(&rt, form(alloc, kind), want)?;
+        says(&rt, form(alloc, *kind), want)?;
     }
     Ok(())
 }
@@ -315,7 +317,7 @@ fn taken(alloc: Global, first: Sample, second: Sample) -> Result<String, Error> 
 #[test]
 fn hands_on_arguments(rt: HostRuntime) -> Result<(), Fail> {
     let alloc = rt.alloc();
-    for (first, second, want) in [
+    for (first, second, want) in &[
         (
             Sample::Large(5),
             Sample::Text("x"),
@@ -337,7 +339,7 @@ fn hands_on_arguments(rt: HostRuntime) -> Result<(), Fail> {
             "error occurred while encoding a value: out of range integral type conversion attempted",
         ),
     ] {
-        says(&rt, taken(alloc, first, second), want)?;
+        says(&rt, taken(alloc, *first, *second), want)?;
     }
     Ok(())
 }
@@ -345,7 +347,7 @@ fn hands_on_arguments(rt: HostRuntime) -> Result<(), Fail> {
 #[test]
 fn hands_on_nulls(rt: HostRuntime) -> Result<(), Fail> {
     let alloc = rt.alloc();
-    for (kind, want) in [
+    for (kind, want) in &[
         (AnyTypeInfoKind::Bool, "null Some(Bool)|7 Some(BigInt)|"),
         (
             AnyTypeInfoKind::SmallInt,
@@ -360,7 +362,7 @@ fn hands_on_nulls(rt: HostRuntime) -> Result<(), Fail> {
         (AnyTypeInfoKind::Blob, "null Some(Blob)|7 Some(BigInt)|"),
         (AnyTypeInfoKind::Null, "null Some(Integer)|7 Some(BigInt)|"),
     ] {
-        let answer = taken(alloc, Sample::Null(kind), Sample::Large(7));
+        let answer = taken(alloc, Sample::Null(*kind), Sample::Large(7));
         says(&rt, answer, want)?;
     }
     Ok(())

@@ -22,14 +22,16 @@ fn urls<O: ConnectOptions + Drop>(alloc: Global, text: &str) -> Result<String, E
 #[test]
 fn options_keep_their_url(rt: HostRuntime) -> Result<(), Fail> {
     let alloc = rt.alloc();
-    let none = "error with configuration: relative URL without a base";
-    for (text, want) in [
+    for (text, want) in &[
         ("mem:x", "mem:x mem:x mem:x"),
         (
             "sqlite://a/b?c=d",
             "sqlite://a/b?c=d sqlite://a/b?c=d sqlite://a/b?c=d",
         ),
-        ("no url", none),
+        (
+            "no url",
+            "error with configuration: relative URL without a base",
+        ),
     ] {
         let answer = urls::<AnyConnectOptions>(alloc, text);
         says(&rt, answer, want)?;
@@ -88,10 +90,18 @@ where
     let options = DB::Options::parse(alloc, url)?;
     let conn = options.connect(alloc);
     drop(options);
-    let conn = conn?;
+    match conn {
+        Ok(conn) => closed::<DB>(alloc, conn),
+        Err(error) => Err(error),
+    }
+}
+
+fn closed<DB: Database>(alloc: Global, conn: DB::Connection) -> Result<String, Error> {
     let depth = conn.depth();
-    conn.close()?;
-    Ok(format!(in alloc; "{depth}")?)
+    match conn.close() {
+        Ok(()) => Ok(format!(in alloc; "{depth}")?),
+        Err(error) => Err(error),
+    }
 }
 
 fn opened_any<B: AnyConnectionBackend + AnyOpen>(

@@ -75,17 +75,18 @@ fn lengths(alloc: Global, row: Result<AnyRow, Error>) -> Result<String, Error> {
     Ok(format!(in alloc; "{columns} {len} {empty}")?)
 }
 
+const UNFIT: &str = "a row has one value for each column, and names none past them";
+
 #[test]
 fn rows_fit(rt: HostRuntime) -> Result<(), Fail> {
     let alloc = rt.alloc();
-    let unfit = "a row has one value for each column, and names none past them";
-    for (count, position, want) in [
+    for (count, position, want) in &[
         (2, 1, "2 2 false"),
-        (1, 1, unfit),
-        (0, 0, unfit),
-        (2, 2, unfit),
+        (1, 1, UNFIT),
+        (0, 0, UNFIT),
+        (2, 2, UNFIT),
     ] {
-        let answer = lengths(alloc, row(alloc, count, position));
+        let answer = lengths(alloc, row(alloc, *count, *position));
         says(&rt, answer, want)?;
     }
     Ok(())
@@ -239,7 +240,7 @@ fn parameters_of(
 #[test]
 fn statements_fit(rt: HostRuntime) -> Result<(), Fail> {
     let alloc = rt.alloc();
-    for (told, position, want) in [
+    for (told, position, want) in &[
         (
             Told::Type(AnyTypeInfoKind::Bool),
             1,
@@ -249,10 +250,10 @@ fn statements_fit(rt: HostRuntime) -> Result<(), Fail> {
         (Told::Nothing, 1, "untold SqlStr { text: \"SELECT\" }"),
         (Told::Nothing, 2, "a statement names no column past its own"),
     ] {
-        let parameters = parameters_of(alloc, told)?;
+        let parameters = parameters_of(alloc, *told)?;
         says(
             &rt,
-            copied(alloc, statement(alloc, parameters, position)),
+            copied(alloc, statement(alloc, parameters, *position)),
             want,
         )?;
     }

@@ -28,3 +28,14 @@ pub fn tells<R: Abort>(rt: &R, told: Result<String, OutOfMemory>, want: &str) ->
     assert_eq!(rt; told?.as_str(), want);
     Ok(())
 }
+
+/// Two texts, and what stands between them.
+pub fn joined(
+    alloc: Global,
+    first: Result<String, OutOfMemory>,
+    between: &str,
+    second: Result<String, OutOfMemory>,
+) -> Result<String, OutOfMemory> {
+    let (first, second) = (first?, second?);
+    Ok(format!(in alloc; "{first}{between}{second}")?)
+}

@@ -1,150 +1,133 @@
 //! Reads of a driver's rows, values and columns, at the toy database.
 
 use crate::present::Present;
-use crate::says::{says, tells};
+use crate::says::{joined, says, tells};
 use sqlx_text::{Error, OutOfMemory, SqlStr};
 use sqlx_traits::*;
 use std::alloc::Global;
 use std::test::*;
 use tests_database::answers::{refusal, shown};
 use tests_database::letters::{columns_of, row_of, single};
-use tests_database::{Toy, ToyRow, ToyStatement};
+use tests_database::{Toy, ToyRow, ToyStatement, ToyValue};
 
 // The text at an index, lent, checked and unchecked.
-fn lent<'r, DB: Database, I: ColumnIndex<DB::Row>>(
+fn lent<'r, I: ColumnIndex<ToyRow>>(
     alloc: Global,
-    row: &'r DB::Row,
+    row: &'r ToyRow,
     index: &I,
-) -> Result<String, OutOfMemory>
-where
-    DB::Value: 'r,
-    &'r str: Decode<'r, DB> + SqlType<DB>,
-{
-    let checked = reads::try_get::<DB, &'r str, &I>(alloc, row, index);
-    let checked = shown(alloc, checked)?;
-    let unchecked = reads::try_get_unchecked::<DB, &'r str, &I>(alloc, row, index);
-    let unchecked = shown(alloc, unchecked)?;
-    Ok(format!(in alloc; "{checked}; {unchecked}")?)
+) -> Result<String, OutOfMemory> {
+    let checked = shown(alloc, reads::try_get::<Toy, &'r str, &I>(alloc, row, index));
+    let unchecked = reads::try_get_unchecked::<Toy, &'r str, &I>(alloc, row, index);
+    joined(alloc, checked, "; ", shown(alloc, unchecked))
 }
 
 // The same, owned.
-fn owned<DB: Database, I: ColumnIndex<DB::Row> + Drop>(
+fn owned<I: ColumnIndex<ToyRow> + Drop>(
     alloc: Global,
-    row: &DB::Row,
+    row: &ToyRow,
     index: I,
-) -> Result<String, OutOfMemory>
-where
-    String: DecodeOwned<DB> + SqlType<DB>,
-{
-    let checked = shown(alloc, row.try_get::<String, &I>(alloc, &index))?;
+) -> Result<String, OutOfMemory> {
+    let checked = shown(alloc, row.try_get::<String, &I>(alloc, &index));
     let unchecked = row.try_get_unchecked::<Option<String>, I>(alloc, index);
-    let unchecked = shown(alloc, unchecked)?;
-    Ok(format!(in alloc; "{checked}; {unchecked}")?)
+    joined(alloc, checked, "; ", shown(alloc, unchecked))
 }
 
 // The same in both ways.
-fn texts<'r, DB: Database, I: ColumnIndex<DB::Row> + Drop>(
+fn texts<I: ColumnIndex<ToyRow> + Drop>(
     alloc: Global,
-    row: &'r DB::Row,
+    row: &ToyRow,
     index: I,
-) -> Result<String, OutOfMemory>
-where
-    DB::Value: 'r,
-    &'r str: Decode<'r, DB> + SqlType<DB>,
-    String: DecodeOwned<DB> + SqlType<DB>,
-{
-    let lent = lent::<DB, I>(alloc, row, &index);
-    let owned = owned::<DB, I>(alloc, row, index);
-    let (lent, owned) = (lent?, owned?);
-    Ok(format!(in alloc; "{lent}; {owned}")?)
+) -> Result<String, OutOfMemory> {
+    let lent = lent::<I>(alloc, row, &index);
+    joined(alloc, lent, "; ", owned::<I>(alloc, row, index))
 }
+
+const NULL_TEXTS: &str =
+    "error occurred while decoding column \"none\": unexpected null; try decoding as an `Option`; \
+    error occurred while decoding column \"none\": unexpected null; try decoding as an `Option`; \
+    error occurred while decoding column \"none\": unexpected null; try decoding as an `Option`; None";
+
+const FLAG_TEXTS: &str =
+    "error occurred while decoding column \"flag\": mismatched types; Rust type `&str` (as SQL type `TEXT`) \
+    is not compatible with SQL type `BOOLEAN`; \
+    error occurred while decoding column \"flag\": out of range integral type conversion attempted; \
+    error occurred while decoding column \"flag\": mismatched types; Rust type `String` (as SQL type `TEXT`) \
+    is not compatible with SQL type `BOOLEAN`; \
+    error occurred while decoding column \"flag\": out of range integral type conversion attempted";
+
+const MISSING_TEXTS: &str = "no column found for name: when; no column found for name: when; \
+    no column found for name: when; no column found for name: when";
+
+const PAST_TEXTS: &str = "column index out of bounds: the len is 3, but the index is 3; \
+    column index out of bounds: the len is 3, but the index is 3; \
+    column index out of bounds: the len is 3, but the index is 3; \
+    column index out of bounds: the len is 3, but the index is 3";
 
 #[test]
 fn reads_texts(rt: HostRuntime) -> Result<(), Fail> {
     let alloc = rt.alloc();
     let row = row_of(alloc, "tnb")?;
-    let null =
-        "error occurred while decoding column \"none\": unexpected null; try decoding as an `Option`";
-    let nulls = format!(in alloc; "{null}; {null}; {null}; None")?;
-    let flag = "error occurred while decoding column \"flag\":";
-    let unfit = "(as SQL type `TEXT`) is not compatible with SQL type `BOOLEAN`";
-    let unread = "out of range integral type conversion attempted";
-    let flags = format!(in alloc;
-        "{flag} mismatched types; Rust type `&str` {unfit}; {flag} {unread}; {flag} mismatched types; Rust type `String` {unfit}; {flag} {unread}"
-    )?;
-    let missing = "no column found for name: when";
-    let missing = format!(in alloc; "{missing}; {missing}; {missing}; {missing}")?;
-    for (name, want) in [
+    for (name, want) in &[
         ("text", "\"x\"; \"x\"; \"x\"; Some(\"x\")"),
-        ("none", nulls.as_str()),
-        ("flag", flags.as_str()),
-        ("when", missing.as_str()),
+        ("none", NULL_TEXTS),
+        ("flag", FLAG_TEXTS),
+        ("when", MISSING_TEXTS),
     ] {
-        tells(&rt, texts::<Toy, &str>(alloc, &row, name), want)?;
+        tells(&rt, texts::<&str>(alloc, &row, name), want)?;
     }
-    let past = "column index out of bounds: the len is 3, but the index is 3";
-    let past = format!(in alloc; "{past}; {past}; {past}; {past}")?;
-    tells(&rt, texts::<Toy, usize>(alloc, &row, 3), past.as_str())
+    tells(&rt, texts::<usize>(alloc, &row, 3), PAST_TEXTS)
 }
 
 // A value alone, lent, checked and unchecked.
-fn lent_value<'r, DB: Database>(alloc: Global, value: &'r DB::Value) -> Result<String, OutOfMemory>
-where
-    &'r str: Decode<'r, DB> + SqlType<DB>,
-{
-    let checked = shown(alloc, reads::try_decode::<DB, &'r str>(alloc, value))?;
-    let unchecked = reads::try_decode_unchecked::<DB, Option<&'r str>>(alloc, value);
-    let unchecked = shown(alloc, unchecked)?;
-    Ok(format!(in alloc; "{checked}; {unchecked}")?)
+fn lent_value<'r>(alloc: Global, value: &'r ToyValue) -> Result<String, OutOfMemory> {
+    let checked = shown(alloc, reads::try_decode::<Toy, &'r str>(alloc, value));
+    let unchecked = reads::try_decode_unchecked::<Toy, Option<&'r str>>(alloc, value);
+    joined(alloc, checked, "; ", shown(alloc, unchecked))
 }
 
 // The same, owned.
-fn owned_value<DB: Database>(alloc: Global, value: &DB::Value) -> Result<String, OutOfMemory>
-where
-    String: DecodeOwned<DB> + SqlType<DB>,
-{
-    let checked = shown(alloc, value.try_decode::<String>(alloc))?;
-    let unchecked = shown(alloc, value.try_decode_unchecked::<String>(alloc))?;
-    Ok(format!(in alloc; "{checked}; {unchecked}")?)
+fn owned_value(alloc: Global, value: &ToyValue) -> Result<String, OutOfMemory> {
+    let checked = shown(alloc, value.try_decode::<String>(alloc));
+    let unchecked = shown(alloc, value.try_decode_unchecked::<String>(alloc));
+    joined(alloc, checked, "; ", unchecked)
 }
 
 // The first value of a row in both ways.
-fn decoded<'r, DB: Database>(alloc: Global, row: &'r DB::Row) -> Result<String, OutOfMemory>
-where
-    DB::Value: 'r,
-    &'r str: Decode<'r, DB> + SqlType<DB>,
-    String: DecodeOwned<DB> + SqlType<DB>,
-    usize: ColumnIndex<DB::Row>,
-{
+fn decoded(alloc: Global, row: &ToyRow) -> Result<String, OutOfMemory> {
     match row.try_get_raw(alloc, 0usize) {
-        Ok(value) => {
-            let lent = lent_value::<DB>(alloc, value);
-            let owned = owned_value::<DB>(alloc, value);
-            let (lent, owned) = (lent?, owned?);
-            Ok(format!(in alloc; "{lent}; {owned}")?)
-        }
+        Ok(value) => joined(
+            alloc,
+            lent_value(alloc, value),
+            "; ",
+            owned_value(alloc, value),
+        ),
         Err(error) => refusal(alloc, error),
     }
 }
 
+const NULLS: &str =
+    "error occurred while decoding: unexpected null; try decoding as an `Option`; None; \
+    error occurred while decoding: unexpected null; try decoding as an `Option`; \
+    error occurred while decoding: unexpected null; try decoding as an `Option`";
+
+const NUMBERS: &str =
+    "error occurred while decoding: mismatched types; Rust type `&str` (as SQL type `TEXT`) \
+    is not compatible with SQL type `INTEGER`; \
+    error occurred while decoding: out of range integral type conversion attempted; \
+    error occurred while decoding: mismatched types; Rust type `String` (as SQL type `TEXT`) \
+    is not compatible with SQL type `INTEGER`; \
+    error occurred while decoding: out of range integral type conversion attempted";
+
 #[test]
 fn decodes_values(rt: HostRuntime) -> Result<(), Fail> {
     let alloc = rt.alloc();
-    let refused = "error occurred while decoding:";
-    let null = "unexpected null; try decoding as an `Option`";
-    let nulls = format!(in alloc; "{refused} {null}; None; {refused} {null}; {refused} {null}")?;
-    let unfit = "(as SQL type `TEXT`) is not compatible with SQL type `INTEGER`";
-    let unread = "out of range integral type conversion attempted";
-    let numbers = format!(in alloc;
-        "{refused} mismatched types; Rust type `&str` {unfit}; {refused} {unread}; {refused} mismatched types; Rust type `String` {unfit}; {refused} {unread}"
-    )?;
-    for (letter, want) in [
+    for (letter, want) in &[
         ('t', "\"x\"; Some(\"x\"); \"x\"; \"x\""),
-        ('z', nulls.as_str()),
-        ('i', numbers.as_str()),
+        ('z', NULLS),
+        ('i', NUMBERS),
     ] {
-        let row = single(alloc, letter)?;
-        tells(&rt, decoded::<Toy>(alloc, &row), want)?;
+        let row = single(alloc, *letter)?;
+        tells(&rt, decoded(alloc, &row), want)?;
     }
     Ok(())
 }
@@ -243,12 +226,12 @@ fn finds_columns(rt: HostRuntime) -> Result<(), Fail> {
     let alloc = rt.alloc();
     let row = row_of(alloc, "tp")?;
     let statement = prepared(alloc)?;
-    for (at, want) in [
+    for (at, want) in &[
         (0, "0 text TEXT Unknown; 0 text TEXT Unknown"),
         (1, "1 point POINT Unknown; 1 point POINT Unknown"),
     ] {
-        says(&rt, in_row::<Toy>(alloc, &row, at), want)?;
-        says(&rt, in_statement::<Toy>(alloc, &statement, at), want)?;
+        says(&rt, in_row::<Toy>(alloc, &row, *at), want)?;
+        says(&rt, in_statement::<Toy>(alloc, &statement, *at), want)?;
     }
     Ok(())
 }

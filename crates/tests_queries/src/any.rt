@@ -1,9 +1,9 @@
-//! Queries of a connection of `Any` over a backend.
+//! Queries of a connection of `Any` over a backend, which is named in one place.
 
 use crate::calls::joined;
 use crate::says::says;
 use sqlx_any::{Any, AnyConnection, AnyConnectionBackend};
-use sqlx_query::{FromRow, query, query_as};
+use sqlx_query::{query, query_as};
 use sqlx_text::{Error, OutOfMemory};
 use sqlx_traits::*;
 use std::alloc::Global;
@@ -13,7 +13,13 @@ use tests_backend::StubBackend;
 use tests_database::answers::shown;
 use tests_database::steps::{Named, Step, told_each};
 
-// The steps that come of a query with a bound value.
+// What is asked: the steps of a query with a bound value, or the rows of one as tuples.
+#[derive(Clone, Copy)]
+enum Ask {
+    Steps,
+    Tuples,
+}
+
 fn steps_of<'t, DB: Database + HasStatementCache, E: Executor<DB>>(
     alloc: Global,
     conn: &mut E,
@@ -23,74 +29,71 @@ where
     DB::Arguments: IntoArguments<DB>,
     &'t str: Encode<'t, DB> + SqlType<DB>,
 {
-    match query::<DB, _>(alloc, "UPDATE") {
-        Ok(query) => {
-            let bound = query.bind(alloc, "x").persistent(false);
-            told_each::<_, Step<Named<DB>>, _>(alloc, conn.fetch_many(alloc, bound))
-        }
-        Err(want) => Err(want),
-    }
+    let query = query::<DB, _>(alloc, "UPDATE")?;
+    let bound = query.bind(alloc, "x").persistent(false);
+    told_each::<_, Step<Named<DB>>, _>(alloc, conn.fetch_many(alloc, bound))
 }
 
-fn steps_over<B: AnyConnectionBackend>(
-    alloc: Global,
-    conn: &mut AnyConnection<B>,
-) -> Result<String, OutOfMemory> {
-    steps_of::<Any<B>, AnyConnection<B>>(alloc, conn)
-}
-
-// What the backend was handed with the query, and the steps that came of it.
-fn bound(alloc: Global) -> Result<String, Error> {
-    let mut conn = AnyConnection::new(StubBackend::new(alloc, "i")?);
-    let steps = steps_over(alloc, &mut conn);
-    let handed = conn.backend().handed_shown(alloc);
-    drop(conn);
-    Ok(joined(alloc, handed, ", ", steps)?)
-}
-
-#[test]
-fn a_backend_is_handed_a_query(rt: HostRuntime) -> Result<(), Fail> {
-    says(&rt, bound(rt.alloc()), "UPDATE Text x|, number|")
-}
-
-// What the rows of a query become.
-fn rows_of<DB: Database, E: Executor<DB>, O: FromRow<DB> + Debug + Drop>(
+fn rows_of<DB: Database, E: Executor<DB>>(
     alloc: Global,
     conn: &mut E,
 ) -> Result<String, OutOfMemory>
 where
     DB::Arguments: IntoArguments<DB>,
+    i64: DecodeOwned<DB> + SqlType<DB>,
+    usize: ColumnIndex<DB::Row>,
 {
-    match query_as::<DB, O, _>(alloc, "SELECT") {
-        Ok(query) => shown(alloc, query.fetch_all(alloc, conn)),
-        Err(want) => Err(want),
+    let query = query_as::<DB, (i64,), _>(alloc, "SELECT")?;
+    shown(alloc, query.fetch_all(alloc, conn))
+}
+
+fn answers<'t, DB: Database + HasStatementCache, E: Executor<DB>>(
+    alloc: Global,
+    conn: &mut E,
+    ask: Ask,
+) -> Result<String, OutOfMemory>
+where
+    DB::QueryResult: Debug,
+    DB::Arguments: IntoArguments<DB>,
+    &'t str: Encode<'t, DB> + SqlType<DB>,
+    i64: DecodeOwned<DB> + SqlType<DB>,
+    usize: ColumnIndex<DB::Row>,
+{
+    match ask {
+        Ask::Steps => steps_of::<DB, E>(alloc, conn),
+        Ask::Tuples => rows_of::<DB, E>(alloc, conn),
     }
 }
 
-fn rows_over<B: AnyConnectionBackend>(
+fn answers_over<B: AnyConnectionBackend>(
     alloc: Global,
     conn: &mut AnyConnection<B>,
+    ask: Ask,
 ) -> Result<String, OutOfMemory> {
-    rows_of::<Any<B>, AnyConnection<B>, (i64,)>(alloc, conn)
+    answers::<Any<B>, AnyConnection<B>>(alloc, conn, ask)
 }
 
-fn tuples(alloc: Global, letters: &str) -> Result<String, Error> {
+// What a backend by letters was handed with the query, and what came of it.
+fn of_backend(alloc: Global, letters: &str, ask: Ask) -> Result<String, Error> {
     let mut conn = AnyConnection::new(StubBackend::new(alloc, letters)?);
-    let rows = rows_over(alloc, &mut conn);
+    let given = answers_over(alloc, &mut conn, ask);
+    let handed = conn.backend().handed_shown(alloc);
     drop(conn);
-    Ok(rows?)
+    Ok(joined(alloc, handed, ", ", given)?)
 }
 
 #[test]
-fn reads_rows_of_a_backend(rt: HostRuntime) -> Result<(), Fail> {
-    for (letters, want) in [
-        ("i2i", "[(5,), (5,)]"),
+fn a_backend_is_handed_a_query(rt: HostRuntime) -> Result<(), Fail> {
+    for (ask, letters, want) in &[
+        (Ask::Steps, "i", "UPDATE Text x|, number|"),
+        (Ask::Tuples, "i2i", "SELECT kept , [(5,), (5,)]"),
         (
+            Ask::Tuples,
             "it",
-            "error occurred while decoding column 0: mismatched types; Rust type `i64` is not compatible with SQL type `TEXT`",
+            "SELECT kept , error occurred while decoding column 0: mismatched types; Rust type `i64` is not compatible with SQL type `TEXT`",
         ),
     ] {
-        says(&rt, tuples(rt.alloc(), letters), want)?;
+        says(&rt, of_backend(rt.alloc(), letters, *ask), want)?;
     }
     Ok(())
 }

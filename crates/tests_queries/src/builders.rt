@@ -1,64 +1,44 @@
 //! Statements that are built piece by piece, with the numbered placeholders of the toy database, and what is asked of them.
-ghost use Rattle.std.specs.Prelude.{◌≡◌, Bool, IfOk};
+ghost use Rattle.std.specs.Prelude.{◌≡◌, Bool, IfOk, length, take};
 ghost use Rattle.tests_queries.specs.Callers.{RowAppends};
 
-use crate::calls::{Scripted, joined, numbers, ran, ran_read};
+use crate::callers::with_notes;
+use crate::calls::{joined, numbers, ran, ran_read};
 use crate::says::says;
-use sqlx_query::{
-    AsRows, AsScalars, FromColumn, FromRow, QueryBuilder, placeholders_are_arguments,
-};
+use sqlx_query::{AsRows, AsScalars, QueryBuilder, placeholders_are_arguments};
 use sqlx_text::{Fault, OutOfMemory};
 use sqlx_traits::*;
 use std::alloc::Global;
-use std::fmt::Debug;
 use std::test::*;
+use tests_database::Toy;
 use tests_database::answers::taken;
 use tests_database::steps::Call;
-use tests_database::{Toy, ToyConnection};
 
 // A builder of one argument.
-fn started<'t, DB: Database>(alloc: Global, init: &str) -> Result<QueryBuilder<DB>, Fault>
-where
-    DB::Arguments: IntoArguments<DB>,
-    i64: Encode<'t, DB> + SqlType<DB>,
+fn started(alloc: Global) -> Result<QueryBuilder<Toy>, Fault>
     ensures { IfOk result (λ builder. builder.built ≡ Bool.false) }
 {
-    let init = text(alloc, init)?;
-    match numbers::<DB>(alloc, &[9]) {
-        Ok(args) => Ok(QueryBuilder::with_arguments(alloc, init, args)),
-        Err(fault) => {
-            drop(init);
-            Err(fault)
+    let args = numbers(alloc, &[9])?;
+    match "SELECT $1".to_string(alloc) {
+        Ok(init) => Ok(QueryBuilder::with_arguments(alloc, init, args)),
+        Err(want) => {
+            drop(args);
+            Err(want.into())
         }
     }
 }
 
-fn text(alloc: Global, text: &str) -> Result<String, OutOfMemory> {
-    Ok(text.to_string(alloc)?)
-}
-
 // What is asked of the query that is built, and what comes of it.
-fn run<DB: Database, E: Scripted<DB>>(
-    alloc: Global,
-    builder: &mut QueryBuilder<DB>,
-) -> Result<String, OutOfMemory>
-where
-    DB::Arguments: IntoArguments<DB>,
-    DB::QueryResult: Debug,
-{
+fn run(alloc: Global, builder: &mut QueryBuilder<Toy>) -> Result<String, OutOfMemory> {
     if builder.is_built() {
-        return text(alloc, "built");
+        return Ok("built".to_string(alloc)?);
     }
-    match builder.build(alloc) {
-        Ok(query) => ran::<DB, E>(alloc, "2", Call::Execute, query),
-        Err(want) => Err(want),
-    }
+    let query = builder.build(alloc)?;
+    ran(alloc, "2", Call::Execute, query)
 }
 
 // Pieces by calls that chain.
-fn chained<'t, DB: Database>(alloc: Global, builder: &mut QueryBuilder<DB>) -> Result<(), Fault>
-where
-    &'t str: Encode<'t, DB> + SqlType<DB>,
+fn chained(alloc: Global, builder: &mut QueryBuilder<Toy>) -> Result<(), Fault>
     requires { builder.old.built ≡ Bool.false }
 {
     builder
@@ -70,9 +50,7 @@ where
 }
 
 // The same pieces by calls that don't.
-fn tried<'t, DB: Database>(alloc: Global, builder: &mut QueryBuilder<DB>) -> Result<(), Fault>
-where
-    &'t str: Encode<'t, DB> + SqlType<DB>,
+fn tried(alloc: Global, builder: &mut QueryBuilder<Toy>) -> Result<(), Fault>
     requires { builder.old.built ≡ Bool.false }
 {
     builder.try_push(alloc, " WHERE a = ")?;
@@ -83,10 +61,7 @@ where
 }
 
 // A list of texts and of values; a refused value leaves no separator.
-fn listed<'t, DB: Database>(alloc: Global, builder: &mut QueryBuilder<DB>) -> Result<(), Fault>
-where
-    bool: Encode<'t, DB> + SqlType<DB>,
-    i64: Encode<'t, DB> + SqlType<DB>,
+fn listed(alloc: Global, builder: &mut QueryBuilder<Toy>) -> Result<(), Fault>
     requires { builder.old.built ≡ Bool.false }
 {
     let mut list = builder.separated(",");
@@ -102,52 +77,24 @@ where
 }
 
 // So many of two pairs.
-fn two_pairs<'t>(alloc: Global, count: usize) -> Result<Vec<(i64, &'t str)>, OutOfMemory> {
+fn two_pairs(alloc: Global, count: usize) -> Result<Vec<(i64, &'static str)>, OutOfMemory> {
     let mut pairs = vec![in alloc; (1, "x"), (2, "y")]?;
     pairs.truncate(count);
     Ok(pairs)
 }
 
-#[tactic(auto, using(sqlx_query::proofs::RowLemmas::appends_then))]
-fn values<'t, DB: Database>(
+fn tuples(
     alloc: Global,
-    builder: &mut QueryBuilder<DB>,
-    pairs: Vec<(i64, &'t str)>,
+    builder: &mut QueryBuilder<Toy>,
+    pairs: Vec<(i64, &'static str)>,
 ) -> Result<(), Fault>
-where
-    i64: Encode<'t, DB> + SqlType<DB>,
-    &'t str: Encode<'t, DB> + SqlType<DB>,
-    requires { builder.old.built ≡ Bool.false }
-{
-    builder.push_values(
-        alloc,
-        pairs.into_iter(),
-        |row, pair| -> Result<(), Fault>
-            ensures { RowAppends DB.ArgumentBuffer.count DB.ArgumentBuffer.first DB.Arguments.buffered row.old.parts row.new.parts }
-        {
-            row.push_bind(alloc, pair.0)?;
-            row.push_bind(alloc, pair.1)
-        },
-    )?;
-    Ok(())
-}
-
-#[tactic(auto, using(sqlx_query::proofs::RowLemmas::appends_then))]
-fn tuples<'t, DB: Database>(
-    alloc: Global,
-    builder: &mut QueryBuilder<DB>,
-    pairs: Vec<(i64, &'t str)>,
-) -> Result<(), Fault>
-where
-    i64: Encode<'t, DB> + SqlType<DB>,
-    &'t str: Encode<'t, DB> + SqlType<DB>,
     requires { builder.old.built ≡ Bool.false }
 {
     builder.push_tuples(
         alloc,
         pairs.into_iter(),
         |row, pair| -> Result<(), Fault>
-            ensures { RowAppends DB.ArgumentBuffer.count DB.ArgumentBuffer.first DB.Arguments.buffered row.old.parts row.new.parts }
+            ensures { RowAppends length take (λ args. args.list) row.old.parts row.new.parts }
         {
             row.push(alloc, "-")?;
             row.push_bind_unseparated(alloc, pair.0)?;
@@ -158,23 +105,18 @@ where
     Ok(())
 }
 
-#[tactic(auto, using(sqlx_query::proofs::RowLemmas::appends_then))]
-fn refused_values<'t, DB: Database>(
+fn refused_values(
     alloc: Global,
-    builder: &mut QueryBuilder<DB>,
-    pairs: Vec<(i64, &'t str)>,
+    builder: &mut QueryBuilder<Toy>,
+    pairs: Vec<(i64, &'static str)>,
 ) -> Result<(), Fault>
-where
-    bool: Encode<'t, DB> + SqlType<DB>,
-    i64: Encode<'t, DB> + SqlType<DB>,
-    &'t str: Encode<'t, DB> + SqlType<DB>,
     requires { builder.old.built ≡ Bool.false }
 {
     builder.try_push_values(
         alloc,
         pairs.into_iter(),
         |row, pair| -> Result<(), Fault>
-            ensures { RowAppends DB.ArgumentBuffer.count DB.ArgumentBuffer.first DB.Arguments.buffered row.old.parts row.new.parts }
+            ensures { RowAppends length take (λ args. args.list) row.old.parts row.new.parts }
         {
             row.push_bind(alloc, pair.0)?;
             row.push_bind(alloc, pair.1)?;
@@ -183,23 +125,18 @@ where
     )
 }
 
-#[tactic(auto, using(sqlx_query::proofs::RowLemmas::appends_then))]
-fn refused_tuples<'t, DB: Database>(
+fn refused_tuples(
     alloc: Global,
-    builder: &mut QueryBuilder<DB>,
-    pairs: Vec<(i64, &'t str)>,
+    builder: &mut QueryBuilder<Toy>,
+    pairs: Vec<(i64, &'static str)>,
 ) -> Result<(), Fault>
-where
-    bool: Encode<'t, DB> + SqlType<DB>,
-    i64: Encode<'t, DB> + SqlType<DB>,
-    &'t str: Encode<'t, DB> + SqlType<DB>,
     requires { builder.old.built ≡ Bool.false }
 {
     builder.try_push_tuples(
         alloc,
         pairs.into_iter(),
         |row, pair| -> Result<(), Fault>
-            ensures { RowAppends DB.ArgumentBuffer.count DB.ArgumentBuffer.first DB.Arguments.buffered row.old.parts row.new.parts }
+            ensures { RowAppends length take (λ args. args.list) row.old.parts row.new.parts }
         {
             row.push_bind(alloc, pair.0)?;
             row.push_bind(alloc, pair.1)?;
@@ -221,53 +158,40 @@ enum Piece {
     RefusedTuples,
 }
 
-fn push<'t, DB: Database>(
-    alloc: Global,
-    builder: &mut QueryBuilder<DB>,
-    push: Piece,
-) -> Result<(), Fault>
-where
-    bool: Encode<'t, DB> + SqlType<DB>,
-    i64: Encode<'t, DB> + SqlType<DB>,
-    &'t str: Encode<'t, DB> + SqlType<DB>,
+fn push(alloc: Global, builder: &mut QueryBuilder<Toy>, push: Piece) -> Result<(), Fault>
     requires { builder.old.built ≡ Bool.false }
 {
     match push {
-        Piece::Chained => chained::<DB>(alloc, builder),
-        Piece::Tried => tried::<DB>(alloc, builder),
-        Piece::Listed => listed::<DB>(alloc, builder),
-        Piece::Values(count) => values::<DB>(alloc, builder, two_pairs(alloc, count)?),
-        Piece::Tuples(count) => tuples::<DB>(alloc, builder, two_pairs(alloc, count)?),
+        Piece::Chained => chained(alloc, builder),
+        Piece::Tried => tried(alloc, builder),
+        Piece::Listed => listed(alloc, builder),
+        Piece::Values(count) => with_notes::<Toy, i64>(alloc, builder, two_pairs(alloc, count)?),
+        Piece::Tuples(count) => tuples(alloc, builder, two_pairs(alloc, count)?),
         Piece::RefusedValue => builder.try_push_bind(alloc, true),
-        Piece::RefusedValues => refused_values::<DB>(alloc, builder, two_pairs(alloc, 2)?),
-        Piece::RefusedTuples => refused_tuples::<DB>(alloc, builder, two_pairs(alloc, 2)?),
+        Piece::RefusedValues => refused_values(alloc, builder, two_pairs(alloc, 2)?),
+        Piece::RefusedTuples => refused_tuples(alloc, builder, two_pairs(alloc, 2)?),
     }
 }
 
 // What is said of a push, and what is asked of the query that is built then.
-fn pushed<'t, DB: Database, E: Scripted<DB>>(alloc: Global, what: Piece) -> Result<String, Fault>
-where
-    DB::Arguments: IntoArguments<DB>,
-    DB::QueryResult: Debug,
-    bool: Encode<'t, DB> + SqlType<DB>,
-    i64: Encode<'t, DB> + SqlType<DB>,
-    &'t str: Encode<'t, DB> + SqlType<DB>,
-{
-    let mut builder = started::<DB>(alloc, "SELECT $1")?;
-    let answer = push::<DB>(alloc, &mut builder, what);
-    let asked = run::<DB, E>(alloc, &mut builder);
+fn pushed(alloc: Global, what: Piece) -> Result<String, Fault> {
+    let mut builder = started(alloc)?;
+    let answer = push(alloc, &mut builder, what);
+    let asked = run(alloc, &mut builder);
     drop(builder);
     Ok(joined(alloc, taken(alloc, answer), "; ", asked)?)
 }
 
+const PIECES: &str = "taken; SELECT $1 WHERE a = $2 LIMIT 30 kept|9|x: ToyQueryResult(2)";
+
+const REFUSED: &str =
+    "out of range integral type conversion attempted; SELECT $1 kept|9: ToyQueryResult(2)";
+
 #[test]
 fn pushes_pieces(rt: HostRuntime) -> Result<(), Fail> {
-    let pieces = "taken; SELECT $1 WHERE a = $2 LIMIT 30 kept|9|x: ToyQueryResult(2)";
-    let refused =
-        "out of range integral type conversion attempted; SELECT $1 kept|9: ToyQueryResult(2)";
-    for (push, want) in [
-        (Piece::Chained, pieces),
-        (Piece::Tried, pieces),
+    for (push, want) in &[
+        (Piece::Chained, PIECES),
+        (Piece::Tried, PIECES),
         (
             Piece::Listed,
             "taken; SELECT $1 IN (a,$2,$3$4) kept|9|5|6|7: ToyQueryResult(2)",
@@ -288,87 +212,55 @@ fn pushes_pieces(rt: HostRuntime) -> Result<(), Fail> {
             Piece::Tuples(0),
             "taken; SELECT $1 ()  kept|9: ToyQueryResult(2)",
         ),
-        (Piece::RefusedValue, refused),
-        (Piece::RefusedValues, refused),
-        (Piece::RefusedTuples, refused),
+        (Piece::RefusedValue, REFUSED),
+        (Piece::RefusedValues, REFUSED),
+        (Piece::RefusedTuples, REFUSED),
     ] {
-        let told = pushed::<Toy, ToyConnection>(rt.alloc(), push);
+        let told = pushed(rt.alloc(), *push);
         says(&rt, told, want)?;
     }
     Ok(())
 }
 
-fn built_as<DB: Database, E: Scripted<DB>, O: FromRow<DB> + Debug + Drop>(
-    alloc: Global,
-    builder: QueryBuilder<DB>,
-) -> Result<String, OutOfMemory>
-where
-    DB::Arguments: IntoArguments<DB>,
-    DB::QueryResult: Debug,
+fn built_as(alloc: Global, builder: QueryBuilder<Toy>) -> Result<String, OutOfMemory>
     requires { builder.built ≡ Bool.false }
 {
     let mut builder = builder;
-    let query = builder.build_query_as::<O>(alloc);
+    let query = builder.build_query_as::<(i64,)>(alloc);
     drop(builder);
-    match query {
-        Ok(query) => ran_read::<DB, AsRows<O>, E>(alloc, "l", Call::FetchOne, query),
-        Err(want) => Err(want),
-    }
+    ran_read::<AsRows<(i64,)>>(alloc, "l", Call::FetchOne, query?)
 }
 
-fn built_scalar<DB: Database, E: Scripted<DB>, O: FromColumn<DB> + Debug>(
-    alloc: Global,
-    builder: QueryBuilder<DB>,
-) -> Result<String, OutOfMemory>
-where
-    DB::Arguments: IntoArguments<DB>,
-    DB::QueryResult: Debug,
+fn built_scalar(alloc: Global, builder: QueryBuilder<Toy>) -> Result<String, OutOfMemory>
     requires { builder.built ≡ Bool.false }
 {
     let mut builder = builder;
-    let query = builder.build_query_scalar::<O>(alloc);
+    let query = builder.build_query_scalar::<i64>(alloc);
     drop(builder);
-    match query {
-        Ok(query) => ran_read::<DB, AsScalars<O>, E>(alloc, "l", Call::FetchOne, query),
-        Err(want) => Err(want),
-    }
+    ran_read::<AsScalars<i64>>(alloc, "l", Call::FetchOne, query?)
 }
 
 // A builder is run twice, and begun again between.
-fn run_twice<DB: Database, E: Scripted<DB>>(
-    alloc: Global,
-    builder: &mut QueryBuilder<DB>,
-) -> Result<String, OutOfMemory>
-where
-    DB::Arguments: IntoArguments<DB>,
-    DB::QueryResult: Debug,
-{
-    let first = run::<DB, E>(alloc, builder);
+fn run_twice(alloc: Global, builder: &mut QueryBuilder<Toy>) -> Result<String, OutOfMemory> {
+    let first = run(alloc, builder);
     let between = if builder.is_built() {
         "; built; "
     } else {
         "; "
     };
-    let again = run::<DB, E>(alloc, builder.reset(alloc));
+    let again = run(alloc, builder.reset(alloc));
     joined(alloc, first, between, again)
 }
 
 // The same of a builder of one argument.
-fn built_anew<DB: Database, E: Scripted<DB>>(
-    alloc: Global,
-    builder: QueryBuilder<DB>,
-) -> Result<String, OutOfMemory>
-where
-    DB::Arguments: IntoArguments<DB>,
-    DB::QueryResult: Debug,
-{
+fn built_anew(alloc: Global, builder: QueryBuilder<Toy>) -> Result<String, OutOfMemory> {
     let mut builder = builder;
-    let twice = run_twice::<DB, E>(alloc, &mut builder);
+    let twice = run_twice(alloc, &mut builder);
     joined(alloc, twice, "; ", Ok(builder.into_string()))
 }
 
 // The text of a builder, in two ways.
-fn texts<DB: Database>(alloc: Global, builder: QueryBuilder<DB>) -> Result<String, OutOfMemory> {
+fn texts(alloc: Global, builder: QueryBuilder<Toy>) -> Result<String, OutOfMemory> {
     let sql = builder.sql(alloc);
     let same = builder.into_sql();
     let sql = sql?;
@@ -376,15 +268,10 @@ fn texts<DB: Database>(alloc: Global, builder: QueryBuilder<DB>) -> Result<Strin
 }
 
 // A builder without arguments, to which one is bound.
-fn begun<'t, DB: Database, E: Scripted<DB>>(alloc: Global) -> Result<String, Fault>
-where
-    DB::Arguments: IntoArguments<DB>,
-    DB::QueryResult: Debug,
-    i64: Encode<'t, DB> + SqlType<DB>,
-{
-    let mut builder = QueryBuilder::<DB>::new(alloc, text(alloc, "SELECT")?);
+fn begun(alloc: Global) -> Result<String, Fault> {
+    let mut builder = QueryBuilder::<Toy>::new(alloc, "SELECT".to_string(alloc)?);
     match builder.try_push_bind(alloc, 1i64) {
-        Ok(()) => Ok(built_anew::<DB, E>(alloc, builder)?),
+        Ok(()) => Ok(built_anew(alloc, builder)?),
         Err(fault) => {
             drop(builder);
             Err(fault)
@@ -392,33 +279,23 @@ where
     }
 }
 
-// What a builder of one argument becomes.
+// What a builder of one argument becomes, and what one without.
 #[derive(Clone, Copy)]
 enum Use {
     As,
     Scalar,
     Anew,
     Texts,
+    Begun,
 }
 
-fn used<
-    't,
-    DB: Database,
-    E: Scripted<DB>,
-    O: FromRow<DB> + Debug + Drop,
-    P: FromColumn<DB> + Debug,
->(alloc: Global, what: Use) -> Result<String, Fault>
-where
-    DB::Arguments: IntoArguments<DB>,
-    DB::QueryResult: Debug,
-    i64: Encode<'t, DB> + SqlType<DB>,
-{
-    let builder = started::<DB>(alloc, "SELECT $1")?;
+fn used(alloc: Global, what: Use) -> Result<String, Fault> {
     let told = match what {
-        Use::As => built_as::<DB, E, O>(alloc, builder),
-        Use::Scalar => built_scalar::<DB, E, P>(alloc, builder),
-        Use::Anew => built_anew::<DB, E>(alloc, builder),
-        Use::Texts => texts::<DB>(alloc, builder),
+        Use::As => built_as(alloc, started(alloc)?),
+        Use::Scalar => built_scalar(alloc, started(alloc)?),
+        Use::Anew => built_anew(alloc, started(alloc)?),
+        Use::Texts => texts(alloc, started(alloc)?),
+        Use::Begun => return begun(alloc),
     };
     Ok(told?)
 }
@@ -426,7 +303,7 @@ where
 #[test]
 fn builds_queries(rt: HostRuntime) -> Result<(), Fail> {
     placeholders_are_arguments::<Toy>();
-    for (what, want) in [
+    for (what, want) in &[
         (Use::As, "SELECT $1 kept|9: (7,)"),
         (Use::Scalar, "SELECT $1 kept|9: 7"),
         (
@@ -437,13 +314,13 @@ fn builds_queries(rt: HostRuntime) -> Result<(), Fail> {
             Use::Texts,
             "SqlStr { text: \"SELECT $1\" } SqlStr { text: \"SELECT $1\" }",
         ),
+        (
+            Use::Begun,
+            "SELECT$1 kept|1: ToyQueryResult(2); built; SELECT kept: ToyQueryResult(2); SELECT",
+        ),
     ] {
-        let told = used::<Toy, ToyConnection, (i64,), i64>(rt.alloc(), what);
+        let told = used(rt.alloc(), *what);
         says(&rt, told, want)?;
     }
-    says(
-        &rt,
-        begun::<Toy, ToyConnection>(rt.alloc()),
-        "SELECT$1 kept|1: ToyQueryResult(2); built; SELECT kept: ToyQueryResult(2); SELECT",
-    )
+    Ok(())
 }

@@ -3,7 +3,7 @@ ghost use Rattle.std.specs.Prelude.{◌≡◌, ◌⊎◌, Bool, IfErr, OnOk, cod
 ghost use Rattle.sqlx_text.specs.declared.error.Error.{Error};
 ghost use Rattle.tests_queries.specs.Callers.{FirstOfUnkept, RowAppends};
 
-use crate::calls::{Scripted, asked};
+use crate::calls::asked;
 use crate::says::says;
 use sqlx_query::{QueryBuilder, query};
 use sqlx_text::{Error, Fault, OutOfMemory};
@@ -76,39 +76,26 @@ where
     Ok(())
 }
 
-fn article<'t, DB: Database + HasStatementCache, E: Scripted<DB>>(
-    alloc: Global,
-) -> Result<String, OutOfMemory>
-where
-    DB::Arguments: IntoArguments<DB>,
-    &'t str: Encode<'t, DB> + SqlType<DB>,
-{
-    let mut conn = E::by_letters(alloc, "t")?;
-    let row = first_article::<DB, E, &'t str>(alloc, &mut conn, "x");
-    let given = told::<_, Named<DB>>(alloc, row);
-    asked::<DB, E>(alloc, conn, given)
+fn article(alloc: Global) -> Result<String, OutOfMemory> {
+    let mut conn = ToyConnection::new(alloc, "t")?;
+    let row = first_article::<Toy, ToyConnection, &str>(alloc, &mut conn, "x");
+    let given = told::<_, Named<Toy>>(alloc, row);
+    asked(alloc, conn, given)
 }
 
-fn notes<'t, DB: Database>(alloc: Global) -> Result<String, Fault>
-where
-    i64: Encode<'t, DB> + SqlType<DB>,
-{
-    let mut notes = QueryBuilder::<DB>::new(alloc, "SELECT".to_string(alloc)?);
-    of_day::<DB, i64>(alloc, &mut notes, 3)?;
+fn notes(alloc: Global) -> Result<String, Fault> {
+    let mut notes = QueryBuilder::<Toy>::new(alloc, "SELECT".to_string(alloc)?);
+    of_day::<Toy, i64>(alloc, &mut notes, 3)?;
     Ok(notes.into_string())
 }
 
-fn two_notes<'t>(alloc: Global) -> Result<Vec<(i64, &'t str)>, OutOfMemory> {
+fn two_notes(alloc: Global) -> Result<Vec<(i64, &'static str)>, OutOfMemory> {
     Ok(vec![in alloc; (1, "x"), (2, "y")]?)
 }
 
-fn inserted<'t, DB: Database>(alloc: Global) -> Result<String, Fault>
-where
-    i64: Encode<'t, DB> + SqlType<DB>,
-    &'t str: Encode<'t, DB> + SqlType<DB>,
-{
-    let mut insert = QueryBuilder::<DB>::new(alloc, "INSERT ".to_string(alloc)?);
-    with_notes::<DB, i64>(alloc, &mut insert, two_notes(alloc)?)?;
+fn inserted(alloc: Global) -> Result<String, Fault> {
+    let mut insert = QueryBuilder::<Toy>::new(alloc, "INSERT ".to_string(alloc)?);
+    with_notes::<Toy, i64>(alloc, &mut insert, two_notes(alloc)?)?;
     Ok(insert.into_string())
 }
 
@@ -117,13 +104,9 @@ fn callers_run(rt: HostRuntime) -> Result<(), Fail> {
     let alloc = rt.alloc();
     says(
         &rt,
-        article::<Toy, ToyConnection>(alloc),
+        article(alloc),
         "SELECT title FROM articles WHERE author = ?|x: text",
     )?;
-    says(&rt, notes::<Toy>(alloc), "SELECT WHERE day = $1 LIMIT 1")?;
-    says(
-        &rt,
-        inserted::<Toy>(alloc),
-        "INSERT VALUES ($1, $2), ($3, $4)",
-    )
+    says(&rt, notes(alloc), "SELECT WHERE day = $1 LIMIT 1")?;
+    says(&rt, inserted(alloc), "INSERT VALUES ($1, $2), ($3, $4)")
 }

@@ -1,4 +1,4 @@
-//! What each call that runs a query gives of it, through the bounds alone, as a text.
+//! What each call that runs a query gives of it at the toy database, and what the connection was asked, as a text.
 
 use sqlx_query::{Map, Mapper, Query, RawSql, ReadQuery, Reader};
 use sqlx_text::{Fault, OutOfMemory};
@@ -8,277 +8,118 @@ use std::fmt::Debug;
 use tests_database::answers::{ByDebug, told};
 use tests_database::letters::row_of;
 use tests_database::steps::*;
-use tests_database::{Toy, ToyConnection};
+use tests_database::{Toy, ToyArguments, ToyConnection, ToyRow};
 
-/// An executor that hands out given steps, and tells what it was asked.
-pub trait Scripted<DB: Database>: Executor<DB> + Drop {
-    /// One that hands out the steps of letters.
-    fn by_letters(alloc: Global, letters: &str) -> Result<Self, OutOfMemory>;
+/// A query of the toy database.
+pub type ToyQuery<'q> = Query<'q, Toy, ToyArguments>;
 
-    /// What it was asked last.
-    fn was_asked(&self, alloc: Global) -> Result<String, OutOfMemory>;
-}
-
-impl Scripted<Toy> for ToyConnection {
-    /// Letters behind a space are the columns of one row.
-    fn by_letters(alloc: Global, letters: &str) -> Result<Self, OutOfMemory> {
-        match letters.strip_prefix(" ") {
-            Some(letters) => ToyConnection::of_row(alloc, row_of(alloc, letters)?),
-            None => ToyConnection::new(alloc, letters),
-        }
-    }
-
-    fn was_asked(&self, alloc: Global) -> Result<String, OutOfMemory> {
-        self.asked_shown(alloc)
+// A connection that hands out the steps of letters; letters behind a space are the columns of one row.
+fn by_letters(alloc: Global, letters: &str) -> Result<ToyConnection, OutOfMemory> {
+    match letters.strip_prefix(" ") {
+        Some(letters) => ToyConnection::of_row(alloc, row_of(alloc, letters)?),
+        None => ToyConnection::new(alloc, letters),
     }
 }
 
 // What a call gives of a query.
-fn of_query<'q, DB: Database, E: Executor<DB>>(
+fn of_query(
     alloc: Global,
     call: Call,
-    query: Query<'q, DB, DB::Arguments>,
-    conn: &mut E,
-) -> Result<String, OutOfMemory>
-where
-    DB::Arguments: IntoArguments<DB>,
-    DB::QueryResult: Debug,
-{
+    query: ToyQuery<'_>,
+    conn: &mut ToyConnection,
+) -> Result<String, OutOfMemory> {
     match call {
         Call::Execute => told::<_, ByDebug>(alloc, query.execute(alloc, conn)),
         Call::ExecuteMany => told_each::<_, ByDebug, _>(alloc, query.execute_many(alloc, conn)),
-        Call::Fetch => told_each::<_, Named<DB>, _>(alloc, query.fetch(alloc, conn)),
-        Call::FetchMany => told_each::<_, Step<Named<DB>>, _>(alloc, query.fetch_many(alloc, conn)),
-        Call::FetchAll => told::<_, All<Named<DB>>>(alloc, query.fetch_all(alloc, conn)),
-        Call::FetchOptional => told::<_, Maybe<Named<DB>>>(
+        Call::Fetch => told_each::<_, Named<Toy>, _>(alloc, query.fetch(alloc, conn)),
+        Call::FetchMany => told_each::<_, Step<Named<Toy>>, _>(
+            alloc,
+            query.fetch_many(alloc, conn),
+        ),
+        Call::FetchAll => told::<_, All<Named<Toy>>>(alloc, query.fetch_all(alloc, conn)),
+        Call::FetchOptional => told::<_, Maybe<Named<Toy>>>(
             alloc,
             query.fetch_optional(alloc, conn),
         ),
-        Call::FetchOne => told::<_, Named<DB>>(alloc, query.fetch_one(alloc, conn)),
+        Call::FetchOne => told::<_, Named<Toy>>(alloc, query.fetch_one(alloc, conn)),
     }
 }
 
 // What a call gives of statements that are run as they stand.
-fn of_raw<DB: Database, E: Executor<DB>>(
+fn of_raw(
     alloc: Global,
     call: Call,
     raw: RawSql,
-    conn: &mut E,
-) -> Result<String, OutOfMemory>
-where
-    DB::QueryResult: Debug,
-{
+    conn: &mut ToyConnection,
+) -> Result<String, OutOfMemory> {
     match call {
-        Call::Execute => told::<_, ByDebug>(alloc, raw.execute::<DB, E>(alloc, conn)),
+        Call::Execute => told::<_, ByDebug>(alloc, raw.execute::<Toy, _>(alloc, conn)),
         Call::ExecuteMany => told_each::<_, ByDebug, _>(
             alloc,
-            raw.execute_many::<DB, E>(alloc, conn),
+            raw.execute_many::<Toy, _>(alloc, conn),
         ),
-        Call::Fetch => told_each::<_, Named<DB>, _>(alloc, raw.fetch::<DB, E>(alloc, conn)),
-        Call::FetchMany => told_each::<_, Step<Named<DB>>, _>(
+        Call::Fetch => told_each::<_, Named<Toy>, _>(alloc, raw.fetch::<Toy, _>(alloc, conn)),
+        Call::FetchMany => told_each::<_, Step<Named<Toy>>, _>(
             alloc,
-            raw.fetch_many::<DB, E>(alloc, conn),
+            raw.fetch_many::<Toy, _>(alloc, conn),
         ),
-        Call::FetchAll => told::<_, All<Named<DB>>>(alloc, raw.fetch_all::<DB, E>(alloc, conn)),
-        Call::FetchOptional => told::<_, Maybe<Named<DB>>>(
+        Call::FetchAll => told::<_, All<Named<Toy>>>(alloc, raw.fetch_all::<Toy, _>(alloc, conn)),
+        Call::FetchOptional => told::<_, Maybe<Named<Toy>>>(
             alloc,
-            raw.fetch_optional::<DB, E>(alloc, conn),
+            raw.fetch_optional::<Toy, _>(alloc, conn),
         ),
-        Call::FetchOne => told::<_, Named<DB>>(alloc, raw.fetch_one::<DB, E>(alloc, conn)),
+        Call::FetchOne => told::<_, Named<Toy>>(alloc, raw.fetch_one::<Toy, _>(alloc, conn)),
     }
-}
-
-// What an executor's own call gives.
-fn executed<DB: Database, Q: Execute<DB>, E: Executor<DB>>(
-    alloc: Global,
-    query: Q,
-    conn: &mut E,
-) -> Result<String, OutOfMemory>
-where
-    DB::QueryResult: Debug,
-{
-    told::<_, ByDebug>(alloc, conn.execute(alloc, query))
-}
-
-fn stream_read<'q, DB: Database, M: Reader<DB>, E: Executor<DB>>(
-    alloc: Global,
-    query: ReadQuery<'q, DB, M, DB::Arguments>,
-    conn: &mut E,
-) -> Result<String, OutOfMemory>
-where
-    DB::Arguments: IntoArguments<DB>,
-    M::Out: Debug,
-{
-    told_each::<_, ByDebug, _>(alloc, query.fetch(alloc, conn))
-}
-
-fn steps_read<'q, DB: Database, M: Reader<DB>, E: Executor<DB>>(
-    alloc: Global,
-    query: ReadQuery<'q, DB, M, DB::Arguments>,
-    conn: &mut E,
-) -> Result<String, OutOfMemory>
-where
-    DB::QueryResult: Debug,
-    DB::Arguments: IntoArguments<DB>,
-    M::Out: Debug,
-{
-    told_each::<_, Step<ByDebug>, _>(alloc, query.fetch_many(alloc, conn))
-}
-
-fn all_read<'q, DB: Database, M: Reader<DB>, E: Executor<DB>>(
-    alloc: Global,
-    query: ReadQuery<'q, DB, M, DB::Arguments>,
-    conn: &mut E,
-) -> Result<String, OutOfMemory>
-where
-    DB::Arguments: IntoArguments<DB>,
-    M::Out: Debug,
-{
-    told::<_, ByDebug>(alloc, query.fetch_all(alloc, conn))
-}
-
-fn optional_read<'q, DB: Database, M: Reader<DB>, E: Executor<DB>>(
-    alloc: Global,
-    query: ReadQuery<'q, DB, M, DB::Arguments>,
-    conn: &mut E,
-) -> Result<String, OutOfMemory>
-where
-    DB::Arguments: IntoArguments<DB>,
-    M::Out: Debug,
-{
-    told::<_, ByDebug>(alloc, query.fetch_optional(alloc, conn))
-}
-
-fn one_read<'q, DB: Database, M: Reader<DB>, E: Executor<DB>>(
-    alloc: Global,
-    query: ReadQuery<'q, DB, M, DB::Arguments>,
-    conn: &mut E,
-) -> Result<String, OutOfMemory>
-where
-    DB::Arguments: IntoArguments<DB>,
-    M::Out: Debug,
-{
-    told::<_, ByDebug>(alloc, query.fetch_one(alloc, conn))
 }
 
 // What a call gives of a query whose rows are read as values; `Execute` is the executor's own.
-fn of_read<'q, DB: Database, M: Reader<DB>, E: Executor<DB>>(
+fn of_read<M: Reader<Toy>>(
     alloc: Global,
     call: Call,
-    query: ReadQuery<'q, DB, M, DB::Arguments>,
-    conn: &mut E,
+    query: ReadQuery<'_, Toy, M, ToyArguments>,
+    conn: &mut ToyConnection,
 ) -> Result<String, OutOfMemory>
 where
-    DB::Arguments: IntoArguments<DB>,
-    DB::QueryResult: Debug,
     M::Out: Debug,
 {
     match call {
-        Call::Fetch => stream_read::<DB, M, E>(alloc, query, conn),
-        Call::FetchMany => steps_read::<DB, M, E>(alloc, query, conn),
-        Call::FetchAll => all_read::<DB, M, E>(alloc, query, conn),
-        Call::FetchOptional => optional_read::<DB, M, E>(alloc, query, conn),
-        Call::FetchOne => one_read::<DB, M, E>(alloc, query, conn),
-        _ => executed::<DB, _, E>(alloc, query, conn),
+        Call::Fetch => told_each::<_, ByDebug, _>(alloc, query.fetch(alloc, conn)),
+        Call::FetchMany => told_each::<_, Step<ByDebug>, _>(alloc, query.fetch_many(alloc, conn)),
+        Call::FetchAll => told::<_, ByDebug>(alloc, query.fetch_all(alloc, conn)),
+        Call::FetchOptional => told::<_, ByDebug>(alloc, query.fetch_optional(alloc, conn)),
+        Call::FetchOne => told::<_, ByDebug>(alloc, query.fetch_one(alloc, conn)),
+        _ => told::<_, ByDebug>(alloc, conn.execute(alloc, query)),
     }
 }
 
-fn stream_mapped<'q, DB: Database, F: Mapper<DB::Row> + Drop, E: Executor<DB>>(
-    alloc: Global,
-    query: Map<'q, DB, F, DB::Arguments>,
-    conn: &mut E,
-) -> Result<String, OutOfMemory>
-where
-    DB::Arguments: IntoArguments<DB>,
-    F::Out: Debug + Drop,
-    requires { F.ready query.mapper }
-{
-    told_each::<_, ByDebug, _>(alloc, query.fetch(alloc, conn))
-}
-
-fn steps_mapped<'q, DB: Database, F: Mapper<DB::Row> + Drop, E: Executor<DB>>(
-    alloc: Global,
-    query: Map<'q, DB, F, DB::Arguments>,
-    conn: &mut E,
-) -> Result<String, OutOfMemory>
-where
-    DB::QueryResult: Debug,
-    DB::Arguments: IntoArguments<DB>,
-    F::Out: Debug + Drop,
-    requires { F.ready query.mapper }
-{
-    told_each::<_, Step<ByDebug>, _>(alloc, query.fetch_many(alloc, conn))
-}
-
-fn all_mapped<'q, DB: Database, F: Mapper<DB::Row> + Drop, E: Executor<DB>>(
-    alloc: Global,
-    query: Map<'q, DB, F, DB::Arguments>,
-    conn: &mut E,
-) -> Result<String, OutOfMemory>
-where
-    DB::Arguments: IntoArguments<DB>,
-    F::Out: Debug + Drop,
-    requires { F.ready query.mapper }
-{
-    told::<_, ByDebug>(alloc, query.fetch_all(alloc, conn))
-}
-
-fn optional_mapped<'q, DB: Database, F: Mapper<DB::Row> + Drop, E: Executor<DB>>(
-    alloc: Global,
-    query: Map<'q, DB, F, DB::Arguments>,
-    conn: &mut E,
-) -> Result<String, OutOfMemory>
-where
-    DB::Arguments: IntoArguments<DB>,
-    F::Out: Debug + Drop,
-    requires { F.ready query.mapper }
-{
-    told::<_, ByDebug>(alloc, query.fetch_optional(alloc, conn))
-}
-
-fn one_mapped<'q, DB: Database, F: Mapper<DB::Row> + Drop, E: Executor<DB>>(
-    alloc: Global,
-    query: Map<'q, DB, F, DB::Arguments>,
-    conn: &mut E,
-) -> Result<String, OutOfMemory>
-where
-    DB::Arguments: IntoArguments<DB>,
-    F::Out: Debug + Drop,
-    requires { F.ready query.mapper }
-{
-    told::<_, ByDebug>(alloc, query.fetch_one(alloc, conn))
-}
-
 // What a call gives of a query whose rows are mapped; `Execute` is the executor's own.
-fn of_map<'q, DB: Database, F: Mapper<DB::Row> + Drop, E: Executor<DB>>(
+fn of_map<F: Mapper<ToyRow> + Drop>(
     alloc: Global,
     call: Call,
-    query: Map<'q, DB, F, DB::Arguments>,
-    conn: &mut E,
+    query: Map<'_, Toy, F, ToyArguments>,
+    conn: &mut ToyConnection,
 ) -> Result<String, OutOfMemory>
 where
-    DB::Arguments: IntoArguments<DB>,
-    DB::QueryResult: Debug,
     F::Out: Debug + Drop,
     requires { F.ready query.mapper }
 {
     match call {
-        Call::Fetch => stream_mapped::<DB, F, E>(alloc, query, conn),
-        Call::FetchMany => steps_mapped::<DB, F, E>(alloc, query, conn),
-        Call::FetchAll => all_mapped::<DB, F, E>(alloc, query, conn),
-        Call::FetchOptional => optional_mapped::<DB, F, E>(alloc, query, conn),
-        Call::FetchOne => one_mapped::<DB, F, E>(alloc, query, conn),
-        _ => executed::<DB, _, E>(alloc, query, conn),
+        Call::Fetch => told_each::<_, ByDebug, _>(alloc, query.fetch(alloc, conn)),
+        Call::FetchMany => told_each::<_, Step<ByDebug>, _>(alloc, query.fetch_many(alloc, conn)),
+        Call::FetchAll => told::<_, ByDebug>(alloc, query.fetch_all(alloc, conn)),
+        Call::FetchOptional => told::<_, ByDebug>(alloc, query.fetch_optional(alloc, conn)),
+        Call::FetchOne => told::<_, ByDebug>(alloc, query.fetch_one(alloc, conn)),
+        _ => told::<_, ByDebug>(alloc, conn.execute(alloc, query)),
     }
 }
 
-/// What an executor was asked, and what came of it.
-pub fn asked<DB: Database, E: Scripted<DB>>(
+/// What a connection was asked, and what came of it.
+pub fn asked(
     alloc: Global,
-    conn: E,
+    conn: ToyConnection,
     given: Result<String, OutOfMemory>,
 ) -> Result<String, OutOfMemory> {
-    let asked = conn.was_asked(alloc);
+    let asked = conn.asked_shown(alloc);
     drop(conn);
     joined(alloc, asked, ": ", given)
 }
@@ -294,21 +135,17 @@ pub fn joined(
     Ok(format!(in alloc; "{first}{between}{second}")?)
 }
 
-/// What an executor is asked by a query that runs, and what comes of the steps by letters.
-pub fn ran<DB: Database, E: Scripted<DB>>(
+/// What a connection is asked by a query that runs, and what comes of the steps by letters.
+pub fn ran(
     alloc: Global,
     letters: &str,
     call: Call,
-    query: Query<'_, DB, DB::Arguments>,
-) -> Result<String, OutOfMemory>
-where
-    DB::Arguments: IntoArguments<DB>,
-    DB::QueryResult: Debug,
-{
-    match E::by_letters(alloc, letters) {
+    query: ToyQuery<'_>,
+) -> Result<String, OutOfMemory> {
+    match by_letters(alloc, letters) {
         Ok(mut conn) => {
-            let given = of_query::<DB, E>(alloc, call, query, &mut conn);
-            asked::<DB, E>(alloc, conn, given)
+            let given = of_query(alloc, call, query, &mut conn);
+            asked(alloc, conn, given)
         }
         Err(want) => {
             drop(query);
@@ -318,19 +155,16 @@ where
 }
 
 /// The same of statements that are run as they stand.
-pub fn ran_raw<DB: Database, E: Scripted<DB>>(
+pub fn ran_raw(
     alloc: Global,
     letters: &str,
     call: Call,
     raw: RawSql,
-) -> Result<String, OutOfMemory>
-where
-    DB::QueryResult: Debug,
-{
-    match E::by_letters(alloc, letters) {
+) -> Result<String, OutOfMemory> {
+    match by_letters(alloc, letters) {
         Ok(mut conn) => {
-            let given = of_raw::<DB, E>(alloc, call, raw, &mut conn);
-            asked::<DB, E>(alloc, conn, given)
+            let given = of_raw(alloc, call, raw, &mut conn);
+            asked(alloc, conn, given)
         }
         Err(want) => {
             drop(raw);
@@ -340,21 +174,19 @@ where
 }
 
 /// The same of a query whose rows are read as values.
-pub fn ran_read<DB: Database, M: Reader<DB>, E: Scripted<DB>>(
+pub fn ran_read<M: Reader<Toy>>(
     alloc: Global,
     letters: &str,
     call: Call,
-    query: ReadQuery<'_, DB, M, DB::Arguments>,
+    query: ReadQuery<'_, Toy, M, ToyArguments>,
 ) -> Result<String, OutOfMemory>
 where
-    DB::Arguments: IntoArguments<DB>,
-    DB::QueryResult: Debug,
     M::Out: Debug,
 {
-    match E::by_letters(alloc, letters) {
+    match by_letters(alloc, letters) {
         Ok(mut conn) => {
-            let given = of_read::<DB, M, E>(alloc, call, query, &mut conn);
-            asked::<DB, E>(alloc, conn, given)
+            let given = of_read::<M>(alloc, call, query, &mut conn);
+            asked(alloc, conn, given)
         }
         Err(want) => {
             drop(query);
@@ -364,22 +196,20 @@ where
 }
 
 /// The same of a query whose rows are mapped.
-pub fn ran_map<DB: Database, F: Mapper<DB::Row> + Drop, E: Scripted<DB>>(
+pub fn ran_map<F: Mapper<ToyRow> + Drop>(
     alloc: Global,
     letters: &str,
     call: Call,
-    query: Map<'_, DB, F, DB::Arguments>,
+    query: Map<'_, Toy, F, ToyArguments>,
 ) -> Result<String, OutOfMemory>
 where
-    DB::Arguments: IntoArguments<DB>,
-    DB::QueryResult: Debug,
     F::Out: Debug + Drop,
     requires { F.ready query.mapper }
 {
-    match E::by_letters(alloc, letters) {
+    match by_letters(alloc, letters) {
         Ok(mut conn) => {
-            let given = of_map::<DB, F, E>(alloc, call, query, &mut conn);
-            asked::<DB, E>(alloc, conn, given)
+            let given = of_map::<F>(alloc, call, query, &mut conn);
+            asked(alloc, conn, given)
         }
         Err(want) => {
             drop(query);
@@ -389,11 +219,8 @@ where
 }
 
 /// Arguments that are these numbers.
-pub fn numbers<'t, DB: Database>(alloc: Global, numbers: &[i64]) -> Result<DB::Arguments, Fault>
-where
-    i64: Encode<'t, DB> + SqlType<DB>,
-{
-    let mut args = DB::Arguments::new(alloc);
+pub fn numbers(alloc: Global, numbers: &[i64]) -> Result<ToyArguments, Fault> {
+    let mut args = ToyArguments::new(alloc);
     for number in numbers {
         if let Err(fault) = args.add(alloc, *number) {
             drop(args);

@@ -1,68 +1,52 @@
 //! Queries whose rows become values, and queries of the first column.
 
-use crate::calls::{Scripted, numbers, ran_read};
+use crate::calls::{numbers, ran_read};
 use crate::rows::Note;
 use crate::says::says;
 use sqlx_query::*;
 use sqlx_text::{Fault, OutOfMemory};
-use sqlx_traits::*;
 use std::alloc::Global;
 use std::fmt::Debug;
 use std::test::*;
 use tests_database::steps::Call;
-use tests_database::{Toy, ToyConnection};
+use tests_database::{Toy, ToyArguments};
 
-/// A query of one argument, that isn't kept and whose rows become values.
-pub fn rows_as<
-    't,
-    DB: Database + HasStatementCache,
-    E: Scripted<DB>,
-    O: FromRow<DB> + Debug + Drop,
->(alloc: Global, call: Call, letters: &str) -> Result<String, OutOfMemory>
-where
-    DB::Arguments: IntoArguments<DB>,
-    DB::QueryResult: Debug,
-    i64: Encode<'t, DB> + SqlType<DB>,
-{
-    match query_as::<DB, O, _>(alloc, "SELECT") {
-        Ok(query) => {
-            let query = query.bind(alloc, 1i64).persistent(false);
-            ran_read::<DB, AsRows<O>, E>(alloc, letters, call, query)
-        }
-        Err(want) => Err(want),
-    }
-}
-
-// The same of the first column.
-fn scalars<'t, DB: Database + HasStatementCache, E: Scripted<DB>, O: FromColumn<DB> + Debug>(
+// A query of one argument, that isn't kept and whose rows become values.
+fn rows_as<O: FromRow<Toy> + Debug + Drop>(
     alloc: Global,
     call: Call,
     letters: &str,
-) -> Result<String, OutOfMemory>
-where
-    DB::Arguments: IntoArguments<DB>,
-    DB::QueryResult: Debug,
-    i64: Encode<'t, DB> + SqlType<DB>,
-{
-    match query_scalar::<DB, O, _>(alloc, "SELECT") {
-        Ok(query) => {
-            let query = query.bind(alloc, 1i64).persistent(false);
-            ran_read::<DB, AsScalars<O>, E>(alloc, letters, call, query)
-        }
-        Err(want) => Err(want),
-    }
+) -> Result<String, OutOfMemory> {
+    let query = query_as::<Toy, O, _>(alloc, "SELECT")?
+        .bind(alloc, 1i64)
+        .persistent(false);
+    ran_read::<AsRows<O>>(alloc, letters, call, query)
 }
 
-const MISMATCH: &str =
+// The same of the first column.
+fn scalars(alloc: Global, call: Call, letters: &str) -> Result<String, OutOfMemory> {
+    let query = query_scalar::<Toy, i64, _>(alloc, "SELECT")?
+        .bind(alloc, 1i64)
+        .persistent(false);
+    ran_read::<AsScalars<i64>>(alloc, letters, call, query)
+}
+
+/// What is told of a text that is read as a number.
+pub const MISMATCH: &str =
     "error occurred while decoding column 0: mismatched types; Rust type `i64` (as SQL type `BIGINT`) is not compatible with SQL type `TEXT`";
+
+const REFUSED_BETWEEN: &str =
+    "7|error occurred while decoding column 0: mismatched types; Rust type `i64` (as SQL type `BIGINT`) is not compatible with SQL type `TEXT`|7|";
+
+const REFUSED: &str =
+    "nothing: error occurred while encoding a value: out of range integral type conversion attempted";
 
 #[test]
 fn reads_columns(rt: HostRuntime) -> Result<(), Fail> {
     let alloc = rt.alloc();
-    let refused = format!(in alloc; "7|{MISMATCH}|7|")?;
-    for (call, letters, given) in [
+    for (call, letters, given) in &[
         (Call::Execute, "lt2", "ToyQueryResult(2)"),
-        (Call::Fetch, "ltl2", refused.as_str()),
+        (Call::Fetch, "ltl2", REFUSED_BETWEEN),
         (Call::FetchMany, "l2", "7|ToyQueryResult(2)|"),
         (Call::FetchAll, "ll", "[7, 7]"),
         (Call::FetchAll, "lt2", MISMATCH),
@@ -72,7 +56,7 @@ fn reads_columns(rt: HostRuntime) -> Result<(), Fail> {
         (Call::FetchOne, "tl", MISMATCH),
     ] {
         let want = format!(in alloc; "SELECT|1: {given}")?;
-        let told = scalars::<Toy, ToyConnection, i64>(alloc, call, letters);
+        let told = scalars(alloc, *call, letters);
         says(&rt, told, want.as_str())?;
     }
     Ok(())
@@ -81,14 +65,14 @@ fn reads_columns(rt: HostRuntime) -> Result<(), Fail> {
 #[test]
 fn reads_rows(rt: HostRuntime) -> Result<(), Fail> {
     let alloc = rt.alloc();
-    for (call, letters, given) in [
+    for (call, letters, given) in &[
         (Call::Fetch, "ll2", "(7,)|(7,)|"),
         (Call::FetchMany, "l2", "(7,)|ToyQueryResult(2)|"),
         (Call::FetchAll, "lt2", MISMATCH),
         (Call::FetchOne, "lt2", "(7,)"),
     ] {
         let want = format!(in alloc; "SELECT|1: {given}")?;
-        let told = rows_as::<Toy, ToyConnection, (i64,)>(alloc, call, letters);
+        let told = rows_as::<(i64,)>(alloc, *call, letters);
         says(&rt, told, want.as_str())?;
     }
     Ok(())
@@ -96,88 +80,67 @@ fn reads_rows(rt: HostRuntime) -> Result<(), Fail> {
 
 #[test]
 fn reads_a_struct(rt: HostRuntime) -> Result<(), Fail> {
-    for (letters, want) in [
+    for (letters, want) in &[
         (" lt", "SELECT|1: Note { number: 7, title: \"x\" }"),
         (
             " l",
             "SELECT|1: column index out of bounds: the len is 1, but the index is 1",
         ),
     ] {
-        let told = rows_as::<Toy, ToyConnection, Note>(rt.alloc(), Call::FetchOne, letters);
+        let told = rows_as::<Note>(rt.alloc(), Call::FetchOne, letters);
         says(&rt, told, want)?;
     }
     Ok(())
 }
 
-/// What a query takes its arguments from: an argument list, an answer with one, or an answer with a fault.
+// What a query takes its arguments from: an argument list, an answer with one, or an answer with a fault.
 #[derive(Clone, Copy)]
-pub enum Source {
+enum Source {
     Arguments,
     Answer,
     Fault,
 }
 
 // Such an answer.
-fn answer<'t, DB: Database>(alloc: Global, source: Source) -> Result<DB::Arguments, Fault>
-where
-    i64: Encode<'t, DB> + SqlType<DB>,
-{
+fn answer(alloc: Global, source: Source) -> Result<ToyArguments, Fault> {
     match source {
-        Source::Arguments => numbers::<DB>(alloc, &[6]),
-        Source::Answer => numbers::<DB>(alloc, &[7]),
+        Source::Arguments => numbers(alloc, &[6]),
+        Source::Answer => numbers(alloc, &[7]),
         Source::Fault => Err(Fault::OutOfRange),
     }
 }
 
-/// A row that becomes a value, by a query with such arguments.
-pub fn row_with<'t, DB: Database, E: Scripted<DB>, O: FromRow<DB> + Debug + Drop>(
-    alloc: Global,
-    source: Source,
-) -> Result<String, Fault>
-where
-    DB::Arguments: IntoArguments<DB>,
-    DB::QueryResult: Debug,
-    i64: Encode<'t, DB> + SqlType<DB>,
-{
-    let answer = answer::<DB>(alloc, source);
+// A row that becomes a value, by a query with such arguments.
+fn row_with(alloc: Global, source: Source) -> Result<String, Fault> {
+    let answer = answer(alloc, source);
     let query = match source {
-        Source::Arguments => query_as_with::<DB, O, _, _>(alloc, "SELECT", answer?)?,
-        _ => query_as_with_result::<DB, O, _, _>(alloc, "SELECT", answer)?,
+        Source::Arguments => query_as_with::<Toy, (i64,), _, _>(alloc, "SELECT", answer?)?,
+        _ => query_as_with_result::<Toy, (i64,), _, _>(alloc, "SELECT", answer)?,
     };
-    Ok(ran_read::<DB, AsRows<O>, E>(alloc, "l", Call::FetchOne, query)?)
+    Ok(ran_read(alloc, "l", Call::FetchOne, query)?)
 }
 
-/// The first column of a row, by a query with such arguments.
-pub fn scalar_with<'t, DB: Database, E: Scripted<DB>, O: FromColumn<DB> + Debug>(
-    alloc: Global,
-    source: Source,
-) -> Result<String, Fault>
-where
-    DB::Arguments: IntoArguments<DB>,
-    DB::QueryResult: Debug,
-    i64: Encode<'t, DB> + SqlType<DB>,
-{
-    let answer = answer::<DB>(alloc, source);
+// The first column of a row, by a query with such arguments.
+fn scalar_with(alloc: Global, source: Source) -> Result<String, Fault> {
+    let answer = answer(alloc, source);
     let query = match source {
-        Source::Arguments => query_scalar_with::<DB, O, _, _>(alloc, "SELECT", answer?)?,
-        _ => query_scalar_with_result::<DB, O, _, _>(alloc, "SELECT", answer)?,
+        Source::Arguments => query_scalar_with::<Toy, i64, _, _>(alloc, "SELECT", answer?)?,
+        _ => query_scalar_with_result::<Toy, i64, _, _>(alloc, "SELECT", answer)?,
     };
-    Ok(ran_read::<DB, AsScalars<O>, E>(alloc, "l", Call::FetchOne, query)?)
+    Ok(ran_read(alloc, "l", Call::FetchOne, query)?)
 }
 
 #[test]
 fn reads_with_arguments(rt: HostRuntime) -> Result<(), Fail> {
     let alloc = rt.alloc();
-    let refused =
-        "nothing: error occurred while encoding a value: out of range integral type conversion attempted";
-    for (source, row, column) in [
+    for (source, row, column) in &[
         (Source::Arguments, "SELECT kept|6: (7,)", "SELECT kept|6: 7"),
         (Source::Answer, "SELECT kept|7: (7,)", "SELECT kept|7: 7"),
-        (Source::Fault, refused, refused),
+        (Source::Fault, REFUSED, REFUSED),
     ] {
-        let told = row_with::<Toy, ToyConnection, (i64,)>(alloc, source);
+        let told = row_with(alloc, *source);
         says(&rt, told, row)?;
-        let told = scalar_with::<Toy, ToyConnection, i64>(alloc, source);
+        let told = scalar_with(alloc, *source);
         says(&rt, told, column)?;
     }
     Ok(())

@@ -37,9 +37,9 @@ where
 }
 
 // What a row becomes.
-fn made<DB: Database, T: FromRow<DB> + Debug + Drop>(
+fn made<T: FromRow<Toy> + Debug + Drop>(
     alloc: Global,
-    row: &DB::Row,
+    row: &ToyRow,
 ) -> Result<String, OutOfMemory> {
     shown(alloc, T::from_row(alloc, row))
 }
@@ -47,7 +47,7 @@ fn made<DB: Database, T: FromRow<DB> + Debug + Drop>(
 #[test]
 fn makes_a_struct(rt: HostRuntime) -> Result<(), Fail> {
     let alloc = rt.alloc();
-    for (letters, want) in [
+    for (letters, want) in &[
         ("lt", "Note { number: 7, title: \"x\" }"),
         (
             "ll",
@@ -59,7 +59,7 @@ fn makes_a_struct(rt: HostRuntime) -> Result<(), Fail> {
         ),
     ] {
         let row = row_of(alloc, letters)?;
-        says(&rt, made::<Toy, Note>(alloc, &row), want)?;
+        says(&rt, made::<Note>(alloc, &row), want)?;
     }
     Ok(())
 }
@@ -112,42 +112,33 @@ type SixteenNumbers = (
 );
 
 // Sixteen numbers, each from the column at its position.
-fn sixteen<DB: Database>(alloc: Global, row: &DB::Row) -> Result<[i64; 16], Error>
-where
-    i64: FromColumn<DB>,
-{
-    let all = <SixteenNumbers as FromRow<DB>>::from_row(alloc, row)?;
+fn sixteen(alloc: Global, row: &ToyRow) -> Result<[i64; 16], Error> {
+    let all = <SixteenNumbers as FromRow<Toy>>::from_row(alloc, row)?;
     Ok([
         all.0, all.1, all.2, all.3, all.4, all.5, all.6, all.7, all.8, all.9, all.10, all.11,
         all.12, all.13, all.14, all.15,
     ])
 }
 
-fn eight<DB: Database>(alloc: Global, row: &DB::Row) -> Result<[i64; 8], Error>
-where
-    i64: FromColumn<DB>,
-{
-    let all = <EightNumbers as FromRow<DB>>::from_row(alloc, row)?;
+fn eight(alloc: Global, row: &ToyRow) -> Result<[i64; 8], Error> {
+    let all = <EightNumbers as FromRow<Toy>>::from_row(alloc, row)?;
     Ok([all.0, all.1, all.2, all.3, all.4, all.5, all.6, all.7])
 }
 
 // What a row becomes as a tuple of so many numbers, of one where they are neither sixteen, eight nor none.
-fn numbers_of<DB: Database>(alloc: Global, row: &DB::Row, count: u8) -> Result<String, OutOfMemory>
-where
-    i64: FromColumn<DB>,
-{
+fn numbers_of(alloc: Global, row: &ToyRow, count: u8) -> Result<String, OutOfMemory> {
     match count {
-        16 => shown(alloc, sixteen::<DB>(alloc, row)),
-        8 => shown(alloc, eight::<DB>(alloc, row)),
-        0 => made::<DB, ()>(alloc, row),
-        _ => made::<DB, (i64,)>(alloc, row),
+        16 => shown(alloc, sixteen(alloc, row)),
+        8 => shown(alloc, eight(alloc, row)),
+        0 => made::<()>(alloc, row),
+        _ => made::<(i64,)>(alloc, row),
     }
 }
 
 #[test]
 fn tuples_read_each_column_in_turn(rt: HostRuntime) -> Result<(), Fail> {
     let alloc = rt.alloc();
-    for (columns, text_at, count, want) in [
+    for (columns, text_at, count, want) in &[
         (
             16,
             16,
@@ -176,8 +167,8 @@ fn tuples_read_each_column_in_turn(rt: HostRuntime) -> Result<(), Fail> {
             "column index out of bounds: the len is 15, but the index is 15",
         ),
     ] {
-        let row = numbers(alloc, columns, text_at)?;
-        let told = numbers_of::<Toy>(alloc, &row, count);
+        let row = numbers(alloc, *columns, *text_at)?;
+        let told = numbers_of(alloc, &row, *count);
         drop(row);
         says(&rt, told, want)?;
     }
