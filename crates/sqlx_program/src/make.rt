@@ -8,12 +8,11 @@ ghost use Rattle.sqlx_play.specs.Causes.{TextCause, WrotePart};
 ghost use Rattle.sqlx_program.specs.MadeRuns.{Summarizes, summary_due};
 ghost use Rattle.sqlx_play.specs.declared.error.PlayError.TheVariants.{OutOfMemory as out_of_memory};
 
-use crate::play::play;
 use sqlx_made::{made_script, made_summary};
-use sqlx_play::{PlayError, Sink, SureSink, SureSource, write_all};
+use sqlx_play::{ByStore, PlayError, Sink, SureSink, SureSource, play_by, write_all};
 use std::alloc::Global;
 
-// Plays the made script in memory.
+// Plays the made script in memory, straight to the store.
 fn played_made(alloc: Global, lines: u32, seed: u32) -> Result<SureSink, PlayError>
     requires some { 1 ≤ lines }
     requires few { lines ≤ 10000 }
@@ -23,7 +22,7 @@ fn played_made(alloc: Global, lines: u32, seed: u32) -> Result<SureSink, PlayErr
     let text = made_script(alloc, lines, seed)?;
     let mut source = SureSource::new(text.into_bytes());
     let mut sink = SureSink::new(alloc);
-    let played = play(alloc, &mut source, &mut sink)?;
+    let played = play_by::<ByStore, _, _>(alloc, &mut source, &mut sink)?;
     drop(played);
     Ok(sink)
 }
