@@ -4,12 +4,12 @@
 mod command;
 mod crowd;
 mod make;
-mod play;
+mod player;
 mod program;
 mod worker;
 
 pub use command::{Command, command_of};
-pub use play::play;
+pub use player::play;
 pub use program::run;
 pub use sqlx_play::{
     Failed, MemSink, MemSource, PlayError, Played, ScriptOutside, Sink, Source, StdSink, StdSource,

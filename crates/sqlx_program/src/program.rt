@@ -8,7 +8,7 @@ ghost use Rattle.sqlx_program.specs.Program.{Ran, RunCause};
 use crate::command::{Command, command_of};
 use crate::crowd::crowd;
 use crate::make::make;
-use crate::play::play;
+use crate::player::play;
 use sqlx_play::{PlayError, Sink, Source};
 use std::alloc::Global;
 use std::sync::Wait;
