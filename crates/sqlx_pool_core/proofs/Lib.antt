@@ -1,4 +1,4 @@
-pub mod ByNumber
+pub mod TicketPlaces
 pub mod Found
 pub mod Counting
 pub mod Soundness

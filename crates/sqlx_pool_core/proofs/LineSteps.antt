@@ -41,7 +41,7 @@ use Rattle.sqlx_pool_core.specs.Balance.{Balance, is_asked, is_ended, is_lent, a
 use Rattle.sqlx_pool_core.specs.ReturnSteps.{give_marks, core_after_give, end_marks, released, detach_marks, leak_marks, leaked}
 use Rattle.sqlx_pool_core.specs.MaintenanceSteps.{done, has_place_if, placed, closed_from, reaped}
 use Rattle.sqlx_pool_core.specs.KeptLine.{waiting_numbers, IsLined, IsNearlyLined, IsLone, leaves, taken_out}
-use Rattle.sqlx_pool_core.proofs.ByNumber.{all-counted}
+use Rattle.sqlx_pool_core.proofs.TicketPlaces.{all-counted}
 use Rattle.sqlx_pool_core.proofs.PollCode.{among}
 use Rattle.sqlx_pool_core.proofs.WaitingNumbers.{length-numbers, numbers-asked, numbers-ended, numbers-left, numbers-without, numbers-with, before-numbers}
 use Rattle.sqlx_pool_core.proofs.KeptLine.{nearly-beside, nearly-ended, nearly-left, nearly-asked, lined-beside, lined-past, one_if_waiting, Fewer, fewer, line-rises}

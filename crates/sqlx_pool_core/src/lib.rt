@@ -15,6 +15,7 @@ mod outside;
 mod pool_core;
 mod steps;
 mod ticket;
+mod ticket_places;
 mod tickets;
 
 pub use options::PoolOptions;

@@ -1,15 +1,17 @@
-//! The tickets that haven't ended, by their numbers: none of them is found, changed or ended by a look at the others.
-ghost use Rattle.std.specs.Prelude.{◌≡◌, ◌==◌, ◌*◌, ◌^◌, ◌<◌, ◌≤◌, nat_lt, true, if◌then◌else◌, [], ◌∷◌, ◌++◌, length, All, OnOk, OnErr, count_by, not, ◌&&◌};
+//! The tickets that haven't ended, in the order of asking: one is found, changed and ended without a look at the others.
+ghost use Rattle.std.specs.Prelude.{◌≡◌, ◌==◌, ◌*◌, ◌^◌, ◌<◌, ◌≤◌, nat_lt, true, if◌then◌else◌, [], ◌∷◌, ◌++◌, length, All, OnOk, OnErr, count_by, not, ◌&&◌, option_map};
 ghost use Rattle.sqlx_pool_core.specs.Core.{waiting, gone, ticket_of, has_gone, is_out, waits};
 ghost use Rattle.sqlx_pool_core.specs.Balance.{testing, left_to_test, all_left_to_test};
 ghost use Rattle.sqlx_pool_core.specs.CoreTurn.{before};
 ghost use Rattle.sqlx_pool_core.specs.Shared.{waits_before};
 ghost use Rattle.sqlx_pool_core.specs.Edits.{without_ticket, with_ticket};
+ghost use Rattle.sqlx_pool_core.specs.Tickets.{ticket_in};
 
 use crate::ticket::{Phase, Ticket};
+use crate::ticket_places::{Place, drop_first_gaps, drop_last_gaps, find, make_room};
 use sqlx_text::OutOfMemory;
 use std::alloc::Global;
-use std::collections::BTreeMap;
+use std::collections::VecDeque;
 use std::marker::Model;
 
 // No memory holds more tickets.
@@ -18,22 +20,23 @@ const MOST: usize = 1 << 57;
 /// The tickets that haven't ended, in the order of asking.
 #[derive(Drop)]
 pub struct Tickets {
-    by_number: BTreeMap<u64, Ticket>,
+    // The gaps before the first ticket are taken away, the others closed where the places are used up.
+    places: VecDeque<Place>,
+    len: usize,
     // How many have left the line.
     gone: usize,
 }
 
 impl Model for Tickets {
     ghost use Rattle.std.specs.Prelude.{List};
-    ghost use Rattle.std.specs.BTreeMap.{values};
     ghost use Rattle.sqlx_pool_core.specs.declared.ticket.Ticket.{Ticket};
-    ghost use Rattle.sqlx_pool_core.specs.Tickets.{AreKept};
+    ghost use Rattle.sqlx_pool_core.specs.Tickets.{AreKept, tickets_at};
 
     ghost Value = { List Ticket };
 
-    ghost view = { λ s. values s.by_number };
+    ghost view = { λ s. tickets_at s.places.items };
 
-    ghost invariant = { λ s. AreKept s.by_number.entries s.gone };
+    ghost invariant = { λ s. AreKept s.places.items s.len s.gone };
 }
 
 impl Phase {
@@ -57,6 +60,14 @@ fn tests_left(ticket: &Ticket, tries: u32) -> u32
     }
 }
 
+// How many more may be tested for the ticket at a place.
+fn tests_left_at(place: &Place, tries: u32) -> Option<usize>
+    ensures { result ≡ option_map (left_to_test tries) (ticket_in place.now) }
+{
+    let ticket = place.ticket()?;
+    Some(tests_left(&ticket, tries) as usize)
+}
+
 // One for a ticket that has left the line, none for one that waits.
 fn one_if_gone(ticket: &Ticket) -> usize
     ensures { result ≡ (if has_gone ticket.now then 1 else 0) }
@@ -70,7 +81,8 @@ impl Tickets {
         ensures { result ≡ [] }
     {
         Tickets {
-            by_number: BTreeMap::new(alloc),
+            places: VecDeque::new(alloc),
+            len: 0,
             gone: 0,
         }
     }
@@ -80,14 +92,14 @@ impl Tickets {
         ensures count { result ≡ length self.now }
         ensures few { result ≤ 2 ^ 57 }
     {
-        self.by_number.len()
+        self.len
     }
 
     /// There is none.
     pub fn is_empty(&self) -> bool
         ensures { result ≡ (length self.now == 0) }
     {
-        self.len() == 0
+        self.len == 0
     }
 
     /// How many have left the line.
@@ -102,15 +114,16 @@ impl Tickets {
     pub fn waiting(&self) -> usize
         ensures { result ≡ waiting self.now }
     {
-        self.len() - self.gone()
+        self.len - self.gone
     }
 
     /// How many have a connection under test.
     pub fn testing(&self) -> usize
         ensures { result ≡ testing self.now }
     {
-        self.by_number
-            .values()
+        self.places
+            .iter()
+            .filter_map(|p| p.ticket())
             .filter(|x| matches!(x.phase, Phase::Testing { .. }))
             .count()
     }
@@ -121,9 +134,9 @@ impl Tickets {
         ensures left { result ≡ all_left_to_test tries self.now }
         ensures few { result ≤ length self.now * 16 }
     {
-        self.by_number
-            .values()
-            .map(|x| tests_left(x, tries) as usize)
+        self.places
+            .iter()
+            .filter_map(|p| tests_left_at(p, tries))
             .sum()
     }
 
@@ -131,8 +144,9 @@ impl Tickets {
     pub fn before(&self, number: u64) -> usize
         ensures { result ≡ before number self.now }
     {
-        self.by_number
-            .values()
+        self.places
+            .iter()
+            .filter_map(|p| p.ticket())
             .take_while(|x| number != x.number)
             .filter(|x| !x.phase.is_out())
             .count()
@@ -142,8 +156,9 @@ impl Tickets {
     pub fn waiting_before(&self, number: u64) -> usize
         ensures { result ≡ count_by (waits_before number) self.now }
     {
-        self.by_number
-            .values()
+        self.places
+            .iter()
+            .filter_map(|p| p.ticket())
             .filter(|x| !x.phase.is_out() && x.number < number)
             .count()
     }
@@ -159,7 +174,7 @@ impl Tickets {
     pub fn find(&self, client: u32, number: u64) -> Option<Ticket>
         ensures { result ≡ ticket_of client number self.now }
     {
-        let found = self.by_number.get(&number).copied()?;
+        let (_, found) = find(&self.places, number)?;
         if found.client == client {
             Some(found)
         } else {
@@ -171,8 +186,11 @@ impl Tickets {
     pub fn end(&mut self, number: u64)
         ensures { self.new ≡ without_ticket number self.old }
     {
-        if let Some(ended) = self.by_number.remove(&number) {
+        if let Some((place, ended)) = find(&self.places, number) {
+            self.places[place] = Place::Gap(number);
+            self.len -= 1;
             self.gone -= one_if_gone(&ended);
+            drop_first_gaps(&mut self.places);
         }
     }
 
@@ -180,9 +198,9 @@ impl Tickets {
     pub fn put(&mut self, ticket: Ticket)
         ensures { self.new ≡ with_ticket ticket.number (λ _. ticket) self.old }
     {
-        if let Some(place) = self.by_number.get_mut(&ticket.number) {
-            self.gone -= one_if_gone(place);
-            *place = ticket;
+        if let Some((place, before)) = find(&self.places, ticket.number) {
+            self.places[place] = Place::Here(ticket);
+            self.gone -= one_if_gone(&before);
             self.gone += one_if_gone(&ticket);
         }
     }
@@ -194,9 +212,15 @@ impl Tickets {
         ensures ok { OnOk result (self.new ≡ self.old ++ ticket ∷ []) }
         ensures err { OnErr result (self.new ≡ self.old) }
     {
-        if self.len() == MOST || self.by_number.insert(ticket.number, ticket).is_err() {
+        if self.len == MOST {
             return Err(OutOfMemory);
         }
+        make_room(&mut self.places, self.len);
+        drop_last_gaps(&mut self.places, ticket.number);
+        if self.places.push_back(Place::Here(ticket)).is_err() {
+            return Err(OutOfMemory);
+        }
+        self.len += 1;
         Ok(())
     }
 }

@@ -1,30 +1,42 @@
-use Rattle.std.proofs.Common.{◌≡◌, ◌∙◌, ap, arith, rules, tests}
-use Rattle.std.specs.Ordering.{nat_cmp}
-use Rattle.std.specs.BTreeMap.{is_at}
-use Rattle.std.specs.Map.{lookup, values_of, remove_entry}
-use Rattle.sqlx_pool_core.proofs.ByNumber.{taken_out, named_without, gone-without, length-without, one_of}
+use Rattle.std.proofs.Common.{◌∙◌, sym, ap, arith, length}
+use Rattle.sqlx_pool_core.specs.Core.{gone}
+use Rattle.sqlx_pool_core.specs.declared.ticket_places.Place.TheVariants.{Gap}
+use Rattle.sqlx_pool_core.proofs.TicketPlaces.{found-at, missing, counted-at, rising-set}
 use Rattle.sqlx_pool_core.proofs.tickets.Tickets.end.Goals as goal
 
 pub overflow_sub-self : goal.overflow_sub-self
 overflow_sub-self c =
-    let es = c.self.inside.by_number.entries in
-    let is : one_of (lookup (is_at (nat_cmp c.args.number)) es) ≡ c.one_if_gone.result = search (rules, tests) in
-    omega (arith, gone-without (is_at (nat_cmp c.args.number)) es, c.self.invariant.counted_right)
+    let counts = counted-at c.args.number c.self.inside.places.items c.in-Some.place c.in-Some.ended c.in-Some.ensures.some.0 in
+    omega (arith, counts.len, c.self.invariant.counted_right)
+
+pub overflow_sub-self-in-Some : goal.overflow_sub-self-in-Some
+overflow_sub-self-in-Some c =
+    let counts = counted-at c.args.number c.self.inside.places.items c.in-Some.place c.in-Some.ended c.in-Some.ensures.some.0 in
+    omega (arith, counts.gone_without, c.self.invariant.out_right, c.one_if_gone.ensures)
+
+pub drop_first_gaps-requires : goal.drop_first_gaps-requires
+drop_first_gaps-requires c =
+    let there = c.in-Some.ensures.some in
+    rising-set c.self.inside.places.items c.in-Some.place _ (Gap c.args.number) c.self.invariant.rising there.0 (sym there.1)
 
 pub invariant_of-self : goal.invariant_of-self
 invariant_of-self c =
-    let es = c.self.inside.by_number.entries in
-    let is : one_of (lookup (is_at (nat_cmp c.args.number)) es) ≡ c.one_if_gone.result = search (rules, tests) in
-    let rest : c.remove.new.self.entries ≡ remove_entry (is_at (nat_cmp c.args.number)) es = c.remove.ensures.entries in
+    let counts = counted-at c.args.number c.self.inside.places.items c.in-Some.place c.in-Some.ended c.in-Some.ensures.some.0 in
+    let same = c.drop_first_gaps.ensures.tickets in
     record {
-      rising = c.remove.ensures.ordered;
-      named = rw rest (named_without (is_at (nat_cmp c.args.number)) es c.self.invariant.named);
-      counted_right = rw rest (omega (arith, gone-without (is_at (nat_cmp c.args.number)) es, c.self.invariant.counted_right));
-      few = rw rest (omega (arith, length-without (is_at (nat_cmp c.args.number)) es, c.self.invariant.few));
+      rising = c.drop_first_gaps.ensures.rising;
+      counted_right = omega (arith, ap length same, counts.len, c.self.invariant.counted_right);
+      out_right = omega (arith, ap gone same, counts.gone_without, c.self.invariant.out_right, c.one_if_gone.ensures);
+      few = omega (arith, c.self.invariant.few);
     }
 
 pub returns-in-Some : goal.returns-in-Some
-returns-in-Some c = rw (← c.self.view_is) (ap values_of c.remove.ensures.entries ∙ taken_out c.args.number c.self.inside.by_number.entries c.self.invariant.rising c.self.invariant.named)
+returns-in-Some c =
+    let there = c.in-Some.ensures.some in
+    let at = found-at 0 c.args.number c.self.inside.places.items c.in-Some.place c.in-Some.ended c.self.invariant.rising there.0 there.1 in
+    rw (← c.self.view_is) (c.drop_first_gaps.ensures.tickets ∙ at.ended)
 
 pub returns-in_default : goal.returns-in_default
-returns-in_default c = rw (← c.self.view_is) (ap values_of c.remove.ensures.entries ∙ taken_out c.args.number c.self.inside.by_number.entries c.self.invariant.rising c.self.invariant.named)
+returns-in_default c =
+    let none = rw c.in_default.is at c.find.ensures.none in
+    rw (← c.self.view_is) (sym (missing 0 c.args.number c.self.inside.places.items none).ended)

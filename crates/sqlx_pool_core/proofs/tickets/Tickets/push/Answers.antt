@@ -1,27 +1,36 @@
-use Rattle.std.proofs.Common.{◌≡◌, ◌∷◌, ◌++◌, [], ◌∙◌, ap, arith, rules, tests, length}
-use Rattle.std.specs.Map.{values_of}
-use Rattle.std.proofs.lemmas.List.{map-append, length-append, length-map}
+use Rattle.std.proofs.Common.{◌≡◌, ◌∷◌, ◌++◌, [], ◌∙◌, ◌<◌, ap, sym, subst, arith, rules, tests, length}
+use Rattle.std.specs.Prelude.{All}
+use Rattle.std.proofs.lemmas.List.{length-append}
 use Rattle.std.proofs.lemmas.Bool.Decides.{nat_tests}
-use Rattle.sqlx_pool_core.proofs.ByNumber.{joins_last, named_last, gone-last, one}
+use Rattle.sqlx_pool_core.specs.declared.ticket.Ticket.{Ticket}
+use Rattle.sqlx_pool_core.specs.declared.ticket_places.Place.TheVariants.{Here}
+use Rattle.sqlx_pool_core.specs.Core.{gone}
+use Rattle.sqlx_pool_core.specs.Tickets.{tickets_at}
+use Rattle.sqlx_pool_core.proofs.TicketPlaces.{one, rising-push, tickets-push, gone-push}
 use Rattle.sqlx_pool_core.proofs.tickets.Tickets.push.Goals as goal
 
-pub invariant_of-self-else-is_err : goal.invariant_of-self-else-is_err
-invariant_of-self-else-is_err c =
-    let es = c.self.inside.by_number.entries in
+pub drop_last_gaps-requires-clause-last : goal.drop_last_gaps-requires-clause-last
+drop_last_gaps-requires-clause-last c = subst (All (λ (x : Ticket). x.number < c.args.ticket.number)) (sym c.make_room.ensures.tickets) (rw c.self.view_is c.requires.last)
+
+pub invariant_of-self-2 : goal.invariant_of-self-2
+invariant_of-self-2 c =
     let w = c.args.ticket in
-    let is : c.insert.new.self.entries ≡ es ++ (w.number, w) ∷ [] = search (rules, tests, joins_last w es c.self.invariant.named (rw c.self.view_is c.requires.last)) in
-    let size : length c.args.self.now ≡ length es = rw (← c.self.view_is) (length-map es (λ e. e.1)) in
+    let front = c.drop_last_gaps.new.places.items in
+    let is : c.push_back.new.self.items ≡ front ++ Here w ∷ [] = search (rules, tests) in
+    let same = c.drop_last_gaps.ensures.tickets ∙ c.make_room.ensures.tickets in
     let still : one w ≡ 0 = search (rules, tests) in
+    let all = tickets-push front w in
     record {
-      rising = c.insert.ensures.ordered;
-      named = rw is (named_last w es c.self.invariant.named);
-      counted_right = rw is (omega (arith, gone-last w es, c.self.invariant.counted_right));
-      few = rw is (grind (arith, nat_tests, length-append es ((w.number, w) ∷ []), size, c.len.ensures.count, c.if-len-eq-MOST, c.self.invariant.few));
+      rising = rw is (rising-push front (Here w) c.drop_last_gaps.ensures.rising c.drop_last_gaps.ensures.below);
+      counted_right = rw is (omega (arith, ap length all, length-append (tickets_at front) (w ∷ []), ap length same, c.self.invariant.counted_right));
+      out_right = rw is (omega (arith, ap gone all, gone-push (tickets_at front) w, ap gone same, still, c.self.invariant.out_right));
+      few = grind (arith, nat_tests, c.if-self-eq-MOST, c.self.invariant.few);
     }
 
 pub returns-clause-ok : goal.returns-clause-ok
 returns-clause-ok c =
-    let es = c.self.inside.by_number.entries in
     let w = c.args.ticket in
-    let is : c.insert.new.self.entries ≡ es ++ (w.number, w) ∷ [] = search (rules, tests, joins_last w es c.self.invariant.named (rw c.self.view_is c.requires.last)) in
-    rw (← c.self.view_is) (ap values_of is ∙ map-append (λ e. e.1) es ((w.number, w) ∷ []))
+    let front = c.drop_last_gaps.new.places.items in
+    let is : c.push_back.new.self.items ≡ front ++ Here w ∷ [] = search (rules, tests) in
+    let same = c.drop_last_gaps.ensures.tickets ∙ c.make_room.ensures.tickets in
+    rw (← c.self.view_is) (ap tickets_at is ∙ tickets-push front w ∙ ap (λ l. l ++ w ∷ []) same)

@@ -1,6 +1,7 @@
 use Rattle.std.proofs.Common.{arith}
-use Rattle.sqlx_pool_core.proofs.ByNumber.{all-counted}
+use Rattle.sqlx_pool_core.specs.Tickets.{tickets_at}
+use Rattle.sqlx_pool_core.proofs.TicketPlaces.{all-counted}
 use Rattle.sqlx_pool_core.proofs.tickets.Tickets.waiting.Goals as goal
 
 pub returns : goal.returns
-returns c = omega (arith, all-counted c.args.self.now, c.len.ensures, c.gone.ensures)
+returns c = rw (← c.self.view_is) (omega (arith, all-counted (tickets_at c.self.inside.places.items), c.self.invariant.counted_right, c.self.invariant.out_right))
