@@ -1,5 +1,6 @@
 pub mod Trees
 pub mod Undoing
+pub mod FreeActs
 mod WorkedUndo
 pub mod ReadsBack
 pub mod UndoBoundLemmas

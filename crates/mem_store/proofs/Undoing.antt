@@ -1,5 +1,5 @@
 -- Changes that are noted and undone, and the savepoints behind them.
-use Rattle.std.proofs.Common.{◌≡◌, ℕ, ◌≤◌, ◌==◌, ◌||◌, nat_lt, min, ℤ, Bool, true, false, cond, is_some, IsSome, Option, Some, None, option_map, List, [], ◌∷◌, length, drop, Result, Ok, Err, is_ok, is_err, refl, sym, ap, subst, ◌∙◌, arith, eqb-true}
+use Rattle.std.proofs.Common.{◌≡◌, ℕ, ◌≤◌, ◌==◌, ◌||◌, nat_lt, min, ℤ, Bool, true, false, cond, is_some, IsSome, Option, Some, None, option_map, List, [], ◌∷◌, length, drop, refl, sym, ap, subst, ◌∙◌, arith, eqb-true}
 use Rattle.std.specs.List.{list_any}
 use Rattle.std.specs.Option.{unwrap_or}
 use Rattle.std.proofs.lemmas.Bool.{lt-ltb, le-ltb, cond-true, cond-false}
@@ -238,10 +238,6 @@ inserted-by key value before stack own own' changes changes' saved view marked b
     ∙ ap (λ (cs : List Change). stack_in (insert own key value) cs saved) (changes_is ∙ ap (λ (b : Option (Option ℤ)). record { key = key; before = b } ∷ changes) before_is)
     ∙ ap (λ (es : List Entry). record { own = insert own key value; entries = es; undo = record { len = length new; saved = saved } }) (entries-noted (length changes) saved changes own key value marked (omega arith))
     ∙ ap (λ (k : SavepointStack). record k { own = insert k.own key value; undo = noted k.undo }) view
-
-pub pushed : {X E : Type 0} (r : Result X E) (b : Bool) → b ≡ is_err r → b ≡ false → is_ok r ≡ true
-pushed (Ok x) b is none = refl
-pushed (Err e) b is some = absurd cc
 
 -- ---- the tree, where a value is put back
 

@@ -1,5 +1,5 @@
 -- What a statement does: which refusal it meets, and the session and the answer after it.
-use Rattle.std.specs.Prelude.{ℕ, ◌+◌, ◌-◌, ◌^◌, min, ℤ, nat_lt, is_some, if◌then◌else◌, List, [], ◌∷◌, Option, Some, None}
+use Rattle.std.specs.Prelude.{◌≡◌, ℕ, ◌+◌, ◌-◌, ◌^◌, min, ℤ, nat_lt, is_some, if◌then◌else◌, List, [], ◌∷◌, Option, Some, None}
 use Rattle.sqlx_savepoints.specs.Rows.{Rows, laid, sees}
 use Rattle.sqlx_savepoints.specs.NamedSavepoints.{Named, after, ran, wrote}
 use Rattle.sqlx_savepoints.specs.Texts.{rollback_at}
@@ -14,7 +14,7 @@ use Rattle.mem_store.specs.declared.statement.Statement.TheVariants.{Put as PutT
 use Rattle.mem_store.specs.declared.act.Act.{Act}
 use Rattle.mem_store.specs.declared.act.Act.TheVariants.{Put, Delete, Get, SelectAll, SelectOne, Level}
 use Rattle.mem_store.specs.declared.runs.Runs.{Runs}
-use Rattle.mem_store.specs.Store.{Store, Session, others_in_level, store_moved, state_of, moved}
+use Rattle.mem_store.specs.Store.{Store, Link, Session, at_work, others_in_level, store_moved, state_of, moved}
 use Rattle.mem_store.specs.Undo.{Undo, noted_at, undo_after, undo_rolled_back}
 
 -- a statement with its arguments; none where the text is no statement's or the arguments don't fit
@@ -64,6 +64,10 @@ refusal_here (Some (Level level)) session = level_refusal level (state_of sessio
 -- the refusal that a statement meets: the fault handed in comes first
 abbrev pub refusal_of : Option Act → Session → Option Refusal
 refusal_of act session = first_of (fault_of session.answer) (refusal_here act session)
+
+-- an act that isn't refused by state and other connections
+abbrev pub IsFree : Act → Store → Link → Type 0
+IsFree act store link = refusal_here (Some act) (at_work store link Accept) ≡ None
 
 -- one more, and no more at the greatest count
 abbrev pub counted : ℕ → ℕ

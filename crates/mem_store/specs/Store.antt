@@ -31,6 +31,10 @@ pub record Session : Type 0 where
   pub link : Link
   pub answer : Answer
 
+-- a store and a link of it put to work, where this meets the next statement
+abbrev pub at_work : Store → Link → Answer → Session
+at_work store link answer = record { store = store; link = link; answer = answer }
+
 -- an answer as two truth values, and back
 abbrev pub bools_of : Answer → Bool × Bool
 bools_of Accept = (true, true)

@@ -1,4 +1,8 @@
 //! What is handed to a session for its first statement.
+ghost use Rattle.std.specs.Prelude.{◌≡◌};
+ghost use Rattle.mem_store.specs.Acts.{fault_of};
+
+use crate::refusal::Refusal;
 
 /// What the first statement of a session meets.
 #[derive(Clone, Copy)]
@@ -9,4 +13,17 @@ pub enum Answer {
     Io,
     /// The database refuses it with the message `refused`.
     Refuse,
+}
+
+impl Answer {
+    /// What was handed in, as a refusal.
+    pub fn fault(self) -> Option<Refusal>
+        ensures { result ≡ fault_of self }
+    {
+        match self {
+            Answer::Accept => None,
+            Answer::Io => Some(Refusal::Fault),
+            Answer::Refuse => Some(Refusal::Refused),
+        }
+    }
 }

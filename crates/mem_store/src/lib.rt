@@ -4,6 +4,7 @@
 
 mod act;
 mod answer;
+mod in_place;
 pub mod laws;
 mod levels;
 mod link;

@@ -139,21 +139,18 @@ impl SavepointStack {
         self.changes.len()
     }
 
+    /// A write, and a note of what stood at its key. Room for the note comes first, so that the own
+    /// writes are searched once.
     pub(crate) fn insert(&mut self, key: i64, value: Option<i64>) -> Result<(), OutOfMemory>
         ensures ok { OnOk result (self.new ≡ record self.old { own = finite.insert self.old.own key value; undo = noted self.old.undo }) }
         ensures err { OnErr result (self.new ≡ self.old) }
     {
-        let before = self.own.get(key);
-        if self.changes.push_front(Change { key, before }).is_err() {
+        if self.changes.reserve(1).is_err() {
             return Err(OutOfMemory);
         }
-        match self.own.insert(key, value) {
-            Ok(()) => Ok(()),
-            Err(error) => {
-                let _ = self.changes.pop_front();
-                Err(error)
-            }
-        }
+        let before = self.own.insert(key, value)?;
+        self.changes.push_front_reserved(Change { key, before });
+        Ok(())
     }
 }
 

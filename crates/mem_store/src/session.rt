@@ -1,5 +1,5 @@
-//! One link of a store at work.
-ghost use Rattle.std.specs.Prelude.{◌≡◌, ◌≤◌, ◌<◌, Some, None, IfOk, OnOk, OnErr, MatchResult};
+//! One link of a store at work: the session holds both, and does each act where they lie.
+ghost use Rattle.std.specs.Prelude.{◌≡◌, ◌≤◌, Some, None, IfOk, OnOk, OnErr, MatchResult};
 ghost use Rattle.std.specs.FinMap.{entries};
 ghost use Rattle.mem_store.specs.Acts.{refusal_of, refusal_here, fault_of, level_refusal, after_act, refused, rows_seen, seen_by, after_start_rollback};
 ghost use Rattle.mem_store.specs.Undo.{Counts, CountsFall};
@@ -15,8 +15,8 @@ use sqlx_line::Steps;
 use sqlx_savepoints::LevelText;
 use sqlx_text::OutOfMemory;
 use std::alloc::Global;
-use std::marker::{Brand, Model};
-use std::sync::ledger::{Blank, Ledger};
+use std::marker::Model;
+use std::sync::ledger::Ledger;
 
 /// A connection at work: it runs statements on its store.
 #[derive(Drop)]
@@ -76,7 +76,7 @@ impl StoreSession {
         requires { 1 ≤ self.old.link.depth }
         ensures { self.new ≡ after_start_rollback self.old }
     {
-        uncounted_rollback::<Brand>(self, Blank::new(1));
+        self.store.roll_back(&mut self.link);
     }
 
     /// The same; each change of the own writes that it undoes is a step.
@@ -107,56 +107,14 @@ impl StoreSession {
     pub fn admitted(&self, act: Option<Act>) -> Result<Act, Refusal>
         ensures { MatchResult result (λ a. (act ≡ Some a) × (refusal_of act self.now ≡ None)) (λ r. refusal_of act self.now ≡ Some r) }
     {
-        if let Some(fault) = self.fault() {
-            return Err(fault);
-        }
-        let Some(act) = act else {
-            return Err(Refusal::Unread);
-        };
-        match self.refusal(act) {
-            Some(refusal) => Err(refusal),
-            None => Ok(act),
-        }
+        self.store.admitted(&self.link, self.answer, act)
     }
 
     /// What was handed in, as a refusal.
     pub fn fault(&self) -> Option<Refusal>
         ensures { result ≡ fault_of self.now.answer }
     {
-        match self.answer {
-            Answer::Accept => None,
-            Answer::Io => Some(Refusal::Fault),
-            Answer::Refuse => Some(Refusal::Refused),
-        }
-    }
-
-    /// The refusal by state and other connections.
-    fn refusal(&self, act: Act) -> Option<Refusal>
-        ensures { result ≡ refusal_here (Some act) self.now }
-    {
-        match act {
-            Act::Put(_, _) | Act::Delete(_) => {
-                if self.store.others_in_level(&self.link) {
-                    Some(Refusal::Busy)
-                } else {
-                    None
-                }
-            }
-            Act::Get(_) | Act::SelectAll | Act::SelectOne => None,
-            Act::Level(level) => self.level_refusal(level),
-        }
-    }
-
-    fn level_refusal(&self, level: LevelText) -> Option<Refusal>
-        ensures { result ≡ level_refusal level (state_of self.now) }
-    {
-        if self.link.allows(level) {
-            return None;
-        }
-        match level {
-            LevelText::Savepoint(_) if self.link.depth() >= 100 => Some(Refusal::Deep),
-            _ => Some(Refusal::Unread),
-        }
+        self.answer.fault()
     }
 
     /// The value of a key, as the connection sees it.
@@ -175,20 +133,13 @@ impl StoreSession {
     }
 
     /// Does an act that isn't refused.
+    #[tactic(auto, using(crate::proofs::FreeActs::free_here))]
     pub fn run(&mut self, act: Act) -> Result<(), OutOfMemory>
         requires { refusal_here (Some act) self.old ≡ None }
         ensures ok { OnOk result (self.new ≡ after_act act self.old) }
         ensures err { OnErr result (self.new ≡ self.old) }
     {
-        match act {
-            Act::Put(key, value) => self.store.write(&mut self.link, key, Some(value)),
-            Act::Delete(key) => self.store.write(&mut self.link, key, None),
-            Act::Get(_) | Act::SelectAll | Act::SelectOne => {
-                self.store.count_read();
-                Ok(())
-            }
-            Act::Level(level) => uncounted_level::<Brand>(self, level, Blank::new(1)),
-        }
+        self.store.do_act(&mut self.link, act)
     }
 
     /// Runs a level text that isn't refused. A text that rolls back has a step for each change that
@@ -205,32 +156,4 @@ impl StoreSession {
     {
         self.store.run(&mut self.link, level, steps)
     }
-}
-
-// The same without a count.
-fn uncounted_level<L: Ledger>(
-    session: &mut StoreSession,
-    level: LevelText,
-    blank: Blank,
-) -> Result<(), OutOfMemory>
-    requires free { level_refusal level (state_of session.old) ≡ None }
-    requires named { blank.name ≡ L.name }
-    requires whole { blank.parts ≡ L.parts }
-    requires some { 0 < blank.parts }
-    ensures ok { OnOk result (session.new ≡ after_act (Doing.Level level) session.old) }
-    ensures err { OnErr result (session.new ≡ session.old) }
-{
-    let mut steps = Steps::<L>::new(blank);
-    session.run_level(level, &mut steps)
-}
-
-fn uncounted_rollback<L: Ledger>(session: &mut StoreSession, blank: Blank)
-    requires level { 1 ≤ session.old.link.depth }
-    requires named { blank.name ≡ L.name }
-    requires whole { blank.parts ≡ L.parts }
-    requires some { 0 < blank.parts }
-    ensures { session.new ≡ after_start_rollback session.old }
-{
-    let mut steps = Steps::<L>::new(blank);
-    session.start_rollback_counted(&mut steps);
 }

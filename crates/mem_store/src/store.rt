@@ -100,7 +100,7 @@ impl MemStore {
     }
 
     /// The value of a key as the link sees it.
-    pub(crate) fn seen_by(&self, link: &StoreLink, key: i64) -> Option<i64>
+    pub fn seen_by(&self, link: &StoreLink, key: i64) -> Option<i64>
         ensures { result ≡ sees link.now.own self.now.rows key }
     {
         link.sees(&self.rows, key)

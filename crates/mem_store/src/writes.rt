@@ -53,12 +53,18 @@ impl Writes {
         self.tree.get(&key).copied()
     }
 
-    pub(crate) fn insert(&mut self, key: i64, value: Option<i64>) -> Result<(), OutOfMemory>
+    /// A write at the key. Answers what stood there.
+    pub(crate) fn insert(
+        &mut self,
+        key: i64,
+        value: Option<i64>,
+    ) -> Result<Option<Option<i64>>, OutOfMemory>
+        ensures before { IfOk result (λ before. before ≡ finite.get self.old key) }
         ensures ok { OnOk result (self.new ≡ finite.insert self.old key value) }
         ensures err { OnErr result (self.new ≡ self.old) }
     {
         match self.tree.insert(key, value) {
-            Ok(_) => Ok(()),
+            Ok(before) => Ok(before),
             Err(_) => Err(OutOfMemory),
         }
     }
@@ -139,7 +145,10 @@ pub(crate) fn write(rows: &mut Rows, key: i64, value: Option<i64>) -> Result<(),
     ensures err { OnErr result (rows.new ≡ rows.old) }
 {
     match value {
-        Some(value) => rows.insert(key, value),
+        Some(value) => {
+            let _ = rows.insert(key, value)?;
+            Ok(())
+        }
         None => {
             rows.remove(key);
             Ok(())
@@ -147,7 +156,8 @@ pub(crate) fn write(rows: &mut Rows, key: i64, value: Option<i64>) -> Result<(),
     }
 }
 
-/// A value into rows; what it overwrites is noted.
+/// A value into rows; what it overwrites is noted. Room for the note comes first, so that the rows are
+/// searched once.
 fn overwrite(
     rows: &mut Rows,
     noted: &mut VecDeque<Overwrite>,
@@ -157,17 +167,12 @@ fn overwrite(
     ensures ok { OnOk result (rows.new ≡ finite.insert rows.old key value) }
     ensures undo { unwritten noted.new.items rows.new ≡ unwritten noted.old.items rows.old }
 {
-    let before = rows.get(key);
-    if noted.push_front(Overwrite { key, before }).is_err() {
+    if noted.reserve(1).is_err() {
         return Err(OutOfMemory);
     }
-    match rows.insert(key, value) {
-        Ok(()) => Ok(()),
-        Err(error) => {
-            let _ = noted.pop_front();
-            Err(error)
-        }
-    }
+    let before = rows.insert(key, value)?;
+    noted.push_front_reserved(Overwrite { key, before });
+    Ok(())
 }
 
 fn insert_pair(
