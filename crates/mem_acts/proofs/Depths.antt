@@ -1,8 +1,7 @@
 -- A level that can be begun is begun at a depth below the greatest.
 use Rattle.std.proofs.Common.{◌≡◌, ℕ, zero, suc, ◌<◌, nat_lt, Bool, true, false, cond, Option, Some, None, refl, arith}
-use Rattle.mem_store.specs.declared.act.Act.TheVariants.{Level}
-use Rattle.mem_store.specs.Store.{Session}
-use Rattle.mem_store.specs.Acts.{refusal_of}
+use Rattle.mem_store.specs.Store.{Store, Link}
+use Rattle.mem_store.specs.Acts.{IsFree, level_refusal, unallowed}
 use Rattle.mem_acts.specs.ClientActs.{statement_at}
 use Rattle.mem_acts.specs.declared.act.Act.TheVariants.{Begin}
 use Rattle.std.proofs.lemmas.Bool.{ltb-true}
@@ -12,7 +11,6 @@ use Rattle.sqlx_savepoints.specs.NamedSavepoints.{Entry, pushed}
 use Rattle.sqlx_savepoints.specs.Texts.{begin_at}
 use Rattle.sqlx_savepoints.specs.declared.level_text.LevelText.TheVariants.{Savepoint}
 use Rattle.mem_store.specs.declared.refusal.Refusal.{Refusal}
-use Rattle.mem_store.specs.Acts.{fault_of, first_of, level_refusal, unallowed}
 
 by_test : (rows : Rows) (own : Writes) (entries : List Entry) (d : ℕ) (b : Bool) → nat_lt (suc d) 100 ≡ b
     → ◌≡◌ {A = Option Refusal} (if is_some (cond b (Some (pushed (suc d) (record { rows = rows; own = own; entries = entries; depth = suc d }))) None) then None else Some (unallowed (Savepoint (suc d)) (suc d))) None
@@ -20,11 +18,9 @@ by_test : (rows : Rows) (own : Writes) (entries : List Entry) (d : ℕ) (b : Boo
 by_test rows own entries d true is e = ltb-true (suc d) 100 is
 by_test rows own entries d false is e = absurd cc
 
-of_depth : (rows : Rows) (own : Writes) (entries : List Entry) (depth : ℕ) (fault : Option Refusal)
-    → first_of fault (level_refusal (begin_at depth) (record { rows = rows; own = own; entries = entries; depth = depth })) ≡ None → depth < 100
-of_depth rows own entries depth (Some reason) e = absurd cc
-of_depth rows own entries zero None e = omega arith
-of_depth rows own entries (suc d) None e = by_test rows own entries d (nat_lt (suc d) 100) refl e
+of_depth : (rows : Rows) (own : Writes) (entries : List Entry) (depth : ℕ) → level_refusal (begin_at depth) (record { rows = rows; own = own; entries = entries; depth = depth }) ≡ None → depth < 100
+of_depth rows own entries zero e = omega arith
+of_depth rows own entries (suc d) e = by_test rows own entries d (nat_lt (suc d) 100) refl e
 
-pub begun_is_shallow : (session : Session) → refusal_of (Some (statement_at Begin session.link.depth)) session ≡ None → session.link.depth < 100
-begun_is_shallow session e = of_depth session.store.rows session.link.own session.link.entries session.link.depth (fault_of session.answer) e
+pub begun_is_shallow : (store : Store) (link : Link) → IsFree (statement_at Begin link.depth) store link → link.depth < 100
+begun_is_shallow store link e = of_depth store.rows link.own link.entries link.depth e

@@ -106,6 +106,14 @@ abbrev pub GivesThis : {E : Type 0} → Reply → Session → (Session → Type 
 GivesThis due left wanting (Ok reply) after = (reply ≡ due) × (after ≡ left)
 GivesThis due left wanting (Err none) after = wanting after
 
+-- the same of an act whose statement meets this refusal, or none
+abbrev pub GivesMet : {E : Type 0} → Act → Option Refusal → Session → Result Reply E → Session → Type 0
+GivesMet act met before result after = GivesThis (reply_met act before met) (left_met act before met) (LeavesWanting act before) result after
+
+-- the same of an act whose statement is run, or refused by state and what was handed in
+abbrev pub GivesStatement : {E : Type 0} → Act → Session → Result Reply E → Session → Type 0
+GivesStatement act before result after = GivesMet act (refusal_of (Some (statement_at act before.link.depth)) before) before result after
+
 -- the reply to an act and the session after it, or what is left where memory was wanting
 abbrev pub Gives : {E : Type 0} → Act → Session → Result Reply E → Session → Type 0
 Gives act before result after = GivesThis (reply_on act before) (left_by act before) (LeavesWanting act before) result after

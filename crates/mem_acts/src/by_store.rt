@@ -1,22 +1,22 @@
-//! The shortest way to the database: the act is done on the store's session, and no statement is written.
+//! The shortest way to the database: the act is done on the store and the link where they lie, and no statement is written.
 ghost use Rattle.std.specs.Prelude.{◌≡◌, ◌≤◌, ◌<◌, suc, pred, true, Some, None};
-ghost use Rattle.mem_store.specs.Acts.{refusal_of, refused};
-ghost use Rattle.mem_store.specs.Store.{Session};
+ghost use Rattle.mem_store.specs.Acts.{IsFree};
+ghost use Rattle.mem_store.specs.Store.{at_work};
+ghost use Rattle.mem_store.specs.declared.answer.Answer.{Answer as Met};
 ghost use Rattle.sqlx_savepoints.specs.Texts as texts;
 ghost use Rattle.mem_acts.specs.ClientActs as spec;
-ghost use Rattle.mem_acts.specs.ClientActs.{Gives, GivesThis, LeavesWanting, left_met, reply_met};
+ghost use Rattle.mem_acts.specs.ClientActs.{Gives, GivesMet, GivesStatement, LeavesWanting};
 
 use crate::act::Act;
 use crate::link::ClientLink;
 use crate::route::Route;
 use mem_store::{
-    Act as Doing, Answer, MemStore, Refusal, StoreSession, begin_at, commit_at, rollback_at,
+    Act as Doing, Answer, MemStore, Refusal, StoreLink, begin_at, commit_at, rollback_at,
 };
 use sqlx_savepoints::LevelText;
 use sqlx_script::Reply;
 use sqlx_text::OutOfMemory;
 use std::alloc::Global;
-use std::mem;
 
 /// Straight to the store.
 pub struct ByStore;
@@ -72,12 +72,12 @@ fn found_reply(found: Option<i64>) -> Reply
 
 // The reply where the statement runs.
 #[tactic(auto, using(crate::proofs::Depths::begun_is_shallow))]
-fn ran_reply(act: Act, session: &StoreSession) -> Reply
-    requires level { spec.needs_level act ≡ true → 1 ≤ session.now.link.depth }
-    requires free { refusal_of (Some (spec.statement_at act session.now.link.depth)) session.now ≡ None }
-    ensures { result ≡ spec.ran_reply act session.now }
+fn ran_reply(act: Act, store: &MemStore, link: &StoreLink) -> Reply
+    requires level { spec.needs_level act ≡ true → 1 ≤ link.now.depth }
+    requires free { IsFree (spec.statement_at act link.now.depth) store.now link.now }
+    ensures { (met : Met) → result ≡ spec.ran_reply act (at_work store.now link.now met) }
 {
-    let depth = session.depth();
+    let depth = link.depth();
     match act {
         Act::Begin => begun_reply(depth),
         Act::Custom(true) => Reply::Level {
@@ -86,8 +86,8 @@ fn ran_reply(act: Act, session: &StoreSession) -> Reply
         },
         Act::Custom(false) => Reply::BeginFailed,
         Act::Put(_, _) => Reply::Written(1),
-        Act::Delete(key) => Reply::Written(u64::from(session.seen(key).is_some())),
-        Act::Get(key) => found_reply(session.seen(key)),
+        Act::Delete(key) => Reply::Written(u64::from(store.seen_by(link, key).is_some())),
+        Act::Get(key) => found_reply(store.seen_by(link, key)),
         Act::Commit => ended_reply(depth, commit_at(depth)),
         Act::Rollback | Act::GiveUp => ended_reply(depth, rollback_at(depth)),
     }
@@ -106,92 +106,106 @@ fn refused_reply(reason: Refusal) -> Reply
 }
 
 // A level that couldn't be ended is rolled back.
-fn roll_back(act: Act, session: &mut StoreSession)
-    requires { spec.needs_level act ≡ true → 1 ≤ session.old.link.depth }
-    ensures wanting { LeavesWanting act session.old session.new }
-    ensures refused { (before : Session) → session.old ≡ refused before → session.new ≡ spec.left_refused act before }
+fn roll_back(act: Act, store: &mut MemStore, link: &mut StoreLink)
+    requires { spec.needs_level act ≡ true → 1 ≤ link.old.depth }
+    ensures wanting { (met : Met) → LeavesWanting act (at_work store.old link.old met) (at_work store.new link.new met) }
+    ensures refused { (met : Met) → at_work store.new link.new Met.Accept ≡ spec.left_refused act (at_work store.old link.old met) }
 {
     if matches!(act, Act::Commit | Act::Rollback) {
-        session.start_rollback();
+        store.roll_back(link);
     }
 }
 
 // Runs the act's statement, which isn't refused.
-fn run_free(act: Act, doing: Doing, session: &mut StoreSession) -> Result<Reply, OutOfMemory>
-    requires level { spec.needs_level act ≡ true → 1 ≤ session.old.link.depth }
-    requires doing { doing ≡ spec.statement_at act session.old.link.depth }
-    requires free { refusal_of (Some doing) session.old ≡ None }
-    ensures { GivesThis (spec.ran_reply act session.old) (left_met act session.old None) (LeavesWanting act session.old) result session.new }
+fn run_free(
+    act: Act,
+    doing: Doing,
+    store: &mut MemStore,
+    link: &mut StoreLink,
+) -> Result<Reply, OutOfMemory>
+    requires level { spec.needs_level act ≡ true → 1 ≤ link.old.depth }
+    requires doing { doing ≡ spec.statement_at act link.old.depth }
+    requires free { IsFree doing store.old link.old }
+    ensures { (met : Met) → GivesMet act None (at_work store.old link.old met) result (at_work store.new link.new met) }
 {
-    let reply = ran_reply(act, session);
-    match session.run(doing) {
+    let reply = ran_reply(act, store, link);
+    match store.do_act(link, doing) {
         Ok(()) => Ok(reply),
         Err(OutOfMemory) => {
-            roll_back(act, session);
+            roll_back(act, store, link);
             Err(OutOfMemory)
         }
     }
 }
 
 // Runs the act's statement, or tells why it is refused.
-fn run_statement(act: Act, session: &mut StoreSession) -> Result<Reply, OutOfMemory>
-    requires { spec.needs_level act ≡ true → 1 ≤ session.old.link.depth }
-    ensures { GivesThis (reply_met act session.old (refusal_of (Some (spec.statement_at act session.old.link.depth)) session.old))
-        (left_met act session.old (refusal_of (Some (spec.statement_at act session.old.link.depth)) session.old)) (LeavesWanting act session.old) result session.new }
+fn run_statement(
+    act: Act,
+    store: &mut MemStore,
+    link: &mut StoreLink,
+    answer: &mut Answer,
+) -> Result<Reply, OutOfMemory>
+    requires { spec.needs_level act ≡ true → 1 ≤ link.old.depth }
+    ensures { GivesStatement act (at_work store.old link.old answer.old) result (at_work store.new link.new answer.new) }
 {
-    match session.admitted(Some(statement_at(act, session.depth()))) {
-        Ok(doing) => run_free(act, doing, session),
+    match store.admitted(link, *answer, Some(statement_at(act, link.depth()))) {
+        Ok(doing) => run_free(act, doing, store, link),
         Err(reason) => {
-            session.refuse();
-            roll_back(act, session);
+            *answer = Answer::Accept;
+            roll_back(act, store, link);
             Ok(refused_reply(reason))
         }
     }
 }
 
 // A transaction is begun by a statement of the client's own; inside of another one no statement runs.
-fn run_custom(starts: bool, session: &mut StoreSession) -> Result<Reply, OutOfMemory>
-    ensures { Gives (Act.Custom starts) session.old result session.new }
+fn run_custom(
+    starts: bool,
+    store: &mut MemStore,
+    link: &mut StoreLink,
+    answer: &mut Answer,
+) -> Result<Reply, OutOfMemory>
+    ensures { Gives (Act.Custom starts) (at_work store.old link.old answer.old) result (at_work store.new link.new answer.new) }
 {
-    if session.depth() > 0 {
+    if link.depth() > 0 {
         return Ok(Reply::InvalidSavePointStatement);
     }
-    run_statement(Act::Custom(starts), session)
+    run_statement(Act::Custom(starts), store, link, answer)
 }
 
-// Does the act on a session.
-fn run_on(act: Act, session: &mut StoreSession) -> Result<Reply, OutOfMemory>
-    ensures { Gives act session.old result session.new }
+// Does the act where the store and the link lie.
+fn run_on(
+    act: Act,
+    store: &mut MemStore,
+    link: &mut StoreLink,
+    answer: &mut Answer,
+) -> Result<Reply, OutOfMemory>
+    ensures { Gives act (at_work store.old link.old answer.old) result (at_work store.new link.new answer.new) }
 {
-    let depth = session.depth();
+    let depth = link.depth();
     if act.needs_level() && depth == 0 {
         return Ok(Reply::NotHeld);
     }
     match act {
-        Act::Custom(starts) => run_custom(starts, session),
+        Act::Custom(starts) => run_custom(starts, store, link, answer),
         Act::GiveUp => {
-            session.start_rollback();
+            store.roll_back(link);
             Ok(ended_reply(depth, rollback_at(depth)))
         }
         Act::Begin | Act::Put(_, _) | Act::Delete(_) | Act::Get(_) | Act::Commit | Act::Rollback =>
-            run_statement(act, session),
+            run_statement(act, store, link, answer),
     }
 }
 
 impl Route for ByStore {
     fn run(
-        alloc: Global,
+        _alloc: Global,
         store: &mut MemStore,
         link: &mut ClientLink,
         act: Act,
         answer: Answer,
     ) -> Result<Reply, OutOfMemory> {
-        let whole = mem::replace(store, MemStore::new(alloc));
-        let mut session = whole.session(link.take_side(alloc), answer);
-        let reply = run_on(act, &mut session);
-        let (whole, side) = session.into_parts();
-        *store = whole;
-        link.put_side(side);
-        reply
+        let mut answer = answer;
+        run_on(act, store, &mut link.parts.side, &mut answer)
     }
 }

@@ -12,7 +12,13 @@ use std::mem;
 /// the first act begins that needs one. It is seen as its link.
 #[derive(Drop)]
 pub struct ClientLink {
-    side: StoreLink,
+    // They stay where they lie when the connection goes from hand to hand.
+    pub(crate) parts: Box<Parts>,
+}
+
+#[derive(Drop)]
+pub(crate) struct Parts {
+    pub(crate) side: StoreLink,
     cache: Option<StatementCache<()>>,
 }
 
@@ -23,7 +29,7 @@ impl Model for ClientLink {
 
     ghost coded = { link_code };
 
-    ghost view = { λ a. a.side };
+    ghost view = { λ a. a.parts.value.side };
 }
 
 impl ClientLink {
@@ -33,15 +39,22 @@ impl ClientLink {
         ensures ok { OnOk result (store.new ≡ connected (store.old.given + 1) store.old) }
         ensures err { OnErr result (store.new ≡ store.old) }
     {
-        let side = store.connect(alloc)?;
-        Ok(ClientLink { side, cache: None })
+        let room = Parts {
+            side: StoreLink::of_no_store(alloc),
+            cache: None,
+        };
+        let Ok(mut parts) = Box::new(alloc, room) else {
+            return Err(OutOfMemory);
+        };
+        parts.side = store.connect(alloc)?;
+        Ok(ClientLink { parts })
     }
 
     /// Ends the connection, its levels as rolled back.
     pub fn close(self, store: &mut MemStore)
         ensures { store.new ≡ closed_at self.depth store.old }
     {
-        let ClientLink { side, cache } = self;
+        let Parts { side, cache } = Box::into_inner(self.parts);
         drop(cache);
         store.close(side);
     }
@@ -50,28 +63,28 @@ impl ClientLink {
     pub fn number(&self) -> u64
         ensures { result ≡ self.now.number }
     {
-        self.side.number()
+        self.parts.side.number()
     }
 
     /// How many levels are open.
     pub fn depth(&self) -> usize
         ensures { result ≡ self.now.depth }
     {
-        self.side.depth()
+        self.parts.side.depth()
     }
 
     /// Takes the store's link out. In its place stands one of no store.
     pub fn take_side(&mut self, alloc: Global) -> StoreLink
         ensures side { result ≡ self.old }
     {
-        mem::replace(&mut self.side, StoreLink::of_no_store(alloc))
+        mem::replace(&mut self.parts.side, StoreLink::of_no_store(alloc))
     }
 
     /// Takes the cache of its statements out, or a new one where none was begun.
     pub fn take_cache(&mut self, alloc: Global) -> Result<StatementCache<()>, OutOfMemory>
         ensures { self.new ≡ self.old }
     {
-        match self.cache.take() {
+        match self.parts.cache.take() {
             Some(cache) => Ok(cache),
             None => StatementCache::new(alloc, 100),
         }
@@ -81,13 +94,13 @@ impl ClientLink {
     pub fn put_side(&mut self, side: StoreLink)
         ensures { self.new ≡ side }
     {
-        self.side = side;
+        self.parts.side = side;
     }
 
     /// Puts the cache back.
     pub fn put_cache(&mut self, cache: StatementCache<()>)
         ensures { self.new ≡ self.old }
     {
-        self.cache = Some(cache);
+        self.parts.cache = Some(cache);
     }
 }
