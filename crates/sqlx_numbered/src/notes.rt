@@ -8,6 +8,9 @@ use crate::numbering::Numbering;
 use std::alloc::Global;
 use std::collections::HashMap;
 
+// Among no more places than these, a look at each is sooner done than a note is found.
+const FEW: usize = 16;
+
 /// Where numbered things stand among places, some of which are gaps.
 #[derive(Drop)]
 pub struct Notes {
@@ -93,7 +96,7 @@ impl Notes {
         ensures some { IfSome result (IsFirstAt N.number number places.now) }
         ensures none { IfNone result (HasNone N.number number places.now (length places.now)) }
     {
-        if !self.all {
+        if !self.all || places.len() <= FEW {
             return look_for::<T, N>(places, number);
         }
         let place = self.noted.get(&number).copied()?;
