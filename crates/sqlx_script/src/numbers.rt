@@ -26,6 +26,7 @@ fn digits(word: &[u8]) -> Option<u64>
 const FEW: usize = 19;
 
 /// The number that the digits in front write, and how many they are: all, or as many as are surely below 2^64.
+#[inline(always)]
 pub fn leading_digits(text: &[u8]) -> (u64, usize)
     ensures within { result.1 ≤ length text.now }
     ensures digits { all_ascii_digits (take result.1 text.now) ≡ true }
@@ -43,6 +44,7 @@ pub fn leading_digits(text: &[u8]) -> (u64, usize)
 }
 
 /// Whether the first of several digits is `0`.
+#[inline]
 pub fn has_leading_zero(word: &[u8]) -> bool
     ensures { result ≡ spec.has_leading_zero word.now }
 {

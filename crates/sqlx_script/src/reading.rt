@@ -1,7 +1,6 @@
 //! What a line of a script says.
 ghost use Rattle.std.specs.Prelude.{◌≡◌, ◌≤◌, IfSome, true};
 ghost use Rattle.sqlx_script.specs.Built.{has_few_opens};
-ghost use Rattle.std.specs.Str.{bytes_eq};
 ghost use Rattle.sqlx_script.specs.Grammar.{statement_of, step_of, event_of, limits_after, pool_of};
 
 use crate::fields;
@@ -11,36 +10,21 @@ use crate::step::{Event, Step};
 use crate::words::Words;
 use sqlx_text::Moment;
 
-// Whether a word is this text.
-fn is(word: &[u8], text: &[u8]) -> bool
-    ensures { result ≡ bytes_eq word.now text.now }
-{
-    word == text
-}
-
 // What follows the moment, for the name of a statement.
 #[tactic(auto, unfolding(crate::specs::Grammar::statement_of))]
 fn statement(name: &[u8], words: &mut Words<'_>) -> Option<Step>
     ensures { result ≡ statement_of name.now words.old }
 {
-    if is(name, b"begin") {
-        fields::begin(words)
-    } else if is(name, b"custom") {
-        fields::custom(words)
-    } else if is(name, b"put") {
-        fields::put(words)
-    } else if is(name, b"del") {
-        fields::del(words)
-    } else if is(name, b"get") {
-        fields::get(words)
-    } else if is(name, b"commit") {
-        fields::commit(words)
-    } else if is(name, b"rollback") {
-        fields::rollback(words)
-    } else if is(name, b"giveup") {
-        fields::give_up(words)
-    } else {
-        None
+    match name {
+        b"begin" => fields::begin(words),
+        b"custom" => fields::custom(words),
+        b"put" => fields::put(words),
+        b"del" => fields::del(words),
+        b"get" => fields::get(words),
+        b"commit" => fields::commit(words),
+        b"rollback" => fields::rollback(words),
+        b"giveup" => fields::give_up(words),
+        _ => None,
     }
 }
 
@@ -49,32 +33,20 @@ fn statement(name: &[u8], words: &mut Words<'_>) -> Option<Step>
 fn step(name: &[u8], words: &mut Words<'_>, counts_tests: bool) -> Option<Step>
     ensures { result ≡ step_of counts_tests name.now words.old }
 {
-    if is(name, b"ask") {
-        fields::ask(words)
-    } else if is(name, b"poll") {
-        fields::poll(words, counts_tests)
-    } else if is(name, b"cancel") {
-        fields::cancel(words)
-    } else if is(name, b"try") {
-        fields::try_idle(words)
-    } else if is(name, b"give") {
-        fields::give(words)
-    } else if is(name, b"end") {
-        fields::end(words)
-    } else if is(name, b"detach") {
-        fields::detach(words)
-    } else if is(name, b"leak") {
-        fields::leak(words)
-    } else if is(name, b"reap") {
-        fields::reap(words)
-    } else if is(name, b"min") {
-        fields::min(words)
-    } else if is(name, b"closed") {
-        fields::close_state(words)
-    } else if is(name, b"close") {
-        fields::close(words)
-    } else {
-        statement(name, words)
+    match name {
+        b"ask" => fields::ask(words),
+        b"poll" => fields::poll(words, counts_tests),
+        b"cancel" => fields::cancel(words),
+        b"try" => fields::try_idle(words),
+        b"give" => fields::give(words),
+        b"end" => fields::end(words),
+        b"detach" => fields::detach(words),
+        b"leak" => fields::leak(words),
+        b"reap" => fields::reap(words),
+        b"min" => fields::min(words),
+        b"closed" => fields::close_state(words),
+        b"close" => fields::close(words),
+        _ => statement(name, words),
     }
 }
 

@@ -1,7 +1,9 @@
 //! The replies to the events of a script.
 ghost use Rattle.std.specs.Prelude.{◌≡◌, ◌++◌};
+ghost use Rattle.std.specs.Fmt.{WritesOnOk};
 ghost use Rattle.sqlx_script.specs.Texts.{reply_text, reply_numbers};
 
+use itoa::{Buffer, Integer};
 use sqlx_savepoints::LevelText;
 use std::fmt;
 
@@ -107,6 +109,15 @@ impl Reply {
     }
 }
 
+// Writes a number by its digits alone, whatever a formatter may be told of widths and signs.
+#[inline]
+fn write_number<W: fmt::Write, I: Integer>(f: &mut fmt::Formatter<W>, n: I) -> fmt::Result
+    ensures { WritesOnOk W.write_str_gives f.old result (I.text n) f.new }
+{
+    let mut digits = Buffer::new();
+    f.write_str(digits.format(n))
+}
+
 impl fmt::Display for Reply {
     ghost use Rattle.std.specs.Prelude.{Some};
 
@@ -122,11 +133,19 @@ impl fmt::Display for Reply {
             | Reply::Leaked(n)
             | Reply::Opened(n)
             | Reply::Closing(n)
-            | Reply::Written(n) => write!(f, "{n}"),
-            Reply::Backoff(until) => write!(f, "{until}"),
-            Reply::Reaped { reaped, opened } => write!(f, "{reaped} opened {opened}"),
-            Reply::Level { depth, text } => write!(f, "{depth} {text}"),
-            Reply::Value(value) => write!(f, "{value}"),
+            | Reply::Written(n) => write_number(f, n),
+            Reply::Backoff(until) => write_number(f, until),
+            Reply::Reaped { reaped, opened } => {
+                write_number(f, reaped)?;
+                f.write_str(" opened ")?;
+                write_number(f, opened)
+            }
+            Reply::Level { depth, text } => {
+                write_number(f, depth)?;
+                f.write_str(" ")?;
+                text.fmt(f)
+            }
+            Reply::Value(value) => write_number(f, value),
             _ => Ok(()),
         }
     }

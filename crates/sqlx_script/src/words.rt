@@ -14,6 +14,7 @@ use crate::{letters, numbers};
 use std::marker::Model;
 
 // What stands before the first blank, and what stands after it if there is one.
+#[inline]
 fn cut_word(text: &[u8]) -> (&[u8], Option<&[u8]>)
     ensures { slice_split is_blank text.now ≡ result.0.now ∷ option_map_or (λ rest. slice_split is_blank rest.now) result.1 [] }
 {
@@ -73,6 +74,7 @@ impl<'a> Words<'a> {
     }
 
     // The number of the next word in one pass, where it is as it should be and not too long.
+    #[inline(always)]
     fn short_number(&mut self, low: u64, high: u64) -> Option<u64>
         ensures some { IfSome result (λ n. word (numbers_spec.number_in low high) self.old ≡ Some (n, self.new)) }
         ensures within { IfSome result (λ n. (low ≤ n) × (n < high)) }
@@ -96,8 +98,19 @@ impl<'a> Words<'a> {
         Some(n)
     }
 
-    /// The number of the next word, from `low` to below `high`.
+    // The number of the next word, however long it is.
+    #[cold]
+    #[inline(never)]
     #[tactic(auto, unfolding(crate::specs::Rows::word))]
+    fn any_number(&mut self, low: u64, high: u64) -> Option<u64>
+        ensures reads { Reads (numbers_spec.number_in low high) result self.old self.new }
+        ensures within { IfSome result (λ n. (low ≤ n) × (n < high)) }
+    {
+        numbers::number_in(self.next()?, low, high)
+    }
+
+    /// The number of the next word, from `low` to below `high`.
+    #[inline(always)]
     pub fn number(&mut self, low: u64, high: u64) -> Option<u64>
         ensures reads { Reads (numbers_spec.number_in low high) result self.old self.new }
         ensures within { IfSome result (λ n. (low ≤ n) × (n < high)) }
@@ -105,7 +118,7 @@ impl<'a> Words<'a> {
         if let Some(n) = self.short_number(low, high) {
             return Some(n);
         }
-        numbers::number_in(self.next()?, low, high)
+        self.any_number(low, high)
     }
 
     /// A moment or a duration, in milliseconds.
@@ -221,6 +234,7 @@ impl<'a> Words<'a> {
     }
 
     /// What the words made, where none is left.
+    #[inline]
     #[tactic(auto, using(crate::proofs::Cuts::has_word, crate::proofs::Cuts::not_ended))]
     pub fn finish<T: Drop>(&self, made: T) -> Option<T>
         ensures { result ≡ ended made self.now }
