@@ -1,6 +1,7 @@
 //! Plays a script.
 ghost use Rattle.std.specs.Prelude.{◌≡◌, true, ◌^◌, ◌≤◌, ℕ, List, length, IfOk, IfErr, IfSome, OnOk};
 ghost use Rattle.std.specs.Io.KnownBytes.{Appends};
+ghost use Rattle.std.specs.String.{string_bytes};
 ghost use Rattle.sqlx_script.specs.Texts.{line_of};
 ghost use Rattle.sqlx_script.specs.Built.{has_few_opens};
 ghost use Rattle.sqlx_script.specs.Grammar.{limit};
@@ -16,8 +17,9 @@ use crate::stage::{Stage, answer, new_stage, report};
 use mem_acts::{ClientLink, MemStore, Route};
 use sqlx_pool_core::PoolCore;
 use sqlx_script::{Event, cut_line, read_event, read_pool_line};
-use std::alloc::Global;
-use std::fmt::{Display, Write};
+use std::alloc::{AllocError, Global};
+use std::fmt;
+use std::fmt::Display;
 
 /// What a script left: the pool's core and the database that it was played on.
 #[derive(Drop)]
@@ -26,7 +28,18 @@ pub struct Played {
     pub store: MemStore,
 }
 
-// Writes a value's text and a newline, by one call if the sink takes it whole. The line's room is used again.
+// Makes a line of a value's text and a newline. Its room is used again.
+fn set_line<T: Display>(line: &mut String, value: &T) -> Result<(), AllocError>
+    ensures { OnOk result (IfSome (T.output value.now) (λ text. string_bytes line.new ≡ line_of text)) }
+{
+    line.clear();
+    match fmt::Write::write(line, value) {
+        Ok(()) => line.push_str("\n"),
+        Err(_) => Err(AllocError),
+    }
+}
+
+// Writes a value's text and a newline, by one call if the sink takes it whole.
 #[tactic(auto, using(crate::proofs::scripts::Parts::none_yet))]
 fn write_line<K: Sink, T: Display>(
     line: &mut String,
@@ -38,8 +51,7 @@ fn write_line<K: Sink, T: Display>(
     ensures cause { IfErr result (TextCause (λ _. ⊥) (IfSome (T.output value.now) (λ text. WrotePart (K.written sink.old) (K.written sink.new) (line_of text)))
         (K.faults sink.old) (K.faults sink.new)) }
 {
-    line.clear();
-    write!(line, "{value}\n")?;
+    set_line(line, value)?;
     write_all(sink, line.as_bytes())
 }
 
