@@ -1,14 +1,15 @@
 //! The lines of a block.
-ghost use Rattle.std.specs.Prelude.{◌≡◌, ◌<◌, IfOk, string_bytes};
+ghost use Rattle.std.specs.Prelude.{◌≡◌, ◌<◌, ◌++◌, OnOk, string_bytes};
 ghost use Rattle.sqlx_made.specs.Made.{line_in};
 
 use crate::block::Block;
-use std::alloc::{AllocError, Global};
+use std::alloc::AllocError;
+use std::fmt::Write;
 
-/// The line at this place of a block, from 0 to 6, `line` being its number.
-pub fn line_in(alloc: Global, line: u32, block: Block, place: u32) -> Result<String, AllocError>
+/// Writes the line at this place of a block behind a text, the place being from 0 to 6 and `line` the line's number.
+pub fn push_line(text: &mut String, line: u32, block: Block, place: u32) -> Result<(), AllocError>
     requires { place < 7 }
-    ensures { IfOk result (λ text. string_bytes text ≡ line_in line block place) }
+    ensures { OnOk result (string_bytes text.new ≡ string_bytes text.old ++ line_in line block place) }
 {
     let client = block.client();
     let Block {
@@ -17,24 +18,24 @@ pub fn line_in(alloc: Global, line: u32, block: Block, place: u32) -> Result<Str
         connection,
     } = block;
     match place {
-        0 => format!(in alloc; "ask {line} {client}\n"),
-        1 => format!(in alloc; "poll {line} {client} {ticket} ++++\n"),
-        2 => format!(in alloc; "begin {line} {client} {connection} +\n"),
+        0 => write!(text, "ask {line} {client}\n"),
+        1 => write!(text, "poll {line} {client} {ticket} ++++\n"),
+        2 => write!(text, "begin {line} {client} {connection} +\n"),
         3 => {
             let key = block.key();
-            format!(in alloc; "put {line} {client} {connection} {key} {drawn} +\n")
+            write!(text, "put {line} {client} {connection} {key} {drawn} +\n")
         }
         4 => {
             let end = block.end_word();
-            format!(in alloc; "{end} {line} {client} {connection} +\n")
+            write!(text, "{end} {line} {client} {connection} +\n")
         }
         5 => {
             let key = block.key();
-            format!(in alloc; "get {line} {client} {connection} {key} +\n")
+            write!(text, "get {line} {client} {connection} {key} +\n")
         }
         _ => {
             let give = block.give_word();
-            format!(in alloc; "give {line} {client} {connection} {give} 0\n")
+            write!(text, "give {line} {client} {connection} {give} 0\n")
         }
     }
 }

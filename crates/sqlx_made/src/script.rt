@@ -3,7 +3,7 @@ ghost use Rattle.std.specs.Prelude.{◌≡◌, ◌<◌, ◌≤◌, ◌^◌, IfOk
 ghost use Rattle.sqlx_made.specs.Made.{made_text};
 
 use crate::block::Block;
-use crate::lines::line_in;
+use crate::lines::push_line;
 use std::alloc::{AllocError, Global};
 
 /// The script of so many lines, its first line among them, for this seed.
@@ -16,8 +16,7 @@ pub fn made_script(alloc: Global, lines: u32, seed: u32) -> Result<String, Alloc
     let mut block = Block::first(seed);
     for line in 2..lines + 1 {
         let place = (line - 2) % 7;
-        let next = line_in(alloc, line, block, place)?;
-        text.push_str(&next)?;
+        push_line(&mut text, line, block, place)?;
         if place == 6 {
             block = block.next();
         }

@@ -1,4 +1,4 @@
-use Rattle.std.proofs.Common.{◌+◌, ◌-◌, ◌/◌, ◌++◌, string_bytes, ap, ◌∙◌, arith}
+use Rattle.std.proofs.Common.{◌+◌, ◌-◌, ◌/◌, ◌++◌, ap, refl, ◌∙◌, arith}
 use Rattle.sqlx_made.specs.Blocks.{block_at}
 use Rattle.sqlx_made.specs.Made.{lines_from, first_line}
 use Rattle.sqlx_made.proofs.ScriptLemmas.{text_more, text_all, block_stays, block_more, small_block}
@@ -23,8 +23,8 @@ next-block-requires-clause-connection c =
 pub loop-line-preserved : goal.loop-line-preserved
 loop-line-preserved c = record {
   text =
-      text_more c.args.seed c.loop-line.line c.args.lines _ _ _ _ c.loop-line.block (omega (arith, c.loop-line-test.true)) c.loop-line.invariant.block c.loop-line.invariant.text c.in_ok-next.ensures
-      (c.in_ok-push_str.ensures.bytes ∙ ap (λ t. string_bytes c.loop-line.text ++ t) c.deref.ensures);
+      text_more c.args.seed c.loop-line.line c.args.lines _ _ _ _ c.loop-line.block (omega (arith, c.loop-line-test.true)) c.loop-line.invariant.block c.loop-line.invariant.text refl
+      c.in_ok-push_line.ensures;
   block = elim c.if-place-eq6.branch [
     | then-place-eq6 w ↦ w.block-is ∙ w.next-block.ensures ∙ block_more c.args.seed c.loop-line.line c.loop-line.block c.loop-line.auto.line c.loop-line.invariant.block w.if-place-eq6.true
     | else-place-eq6 w ↦ w.block-is ∙ block_stays c.args.seed c.loop-line.line c.loop-line.block c.loop-line.auto.line c.loop-line.invariant.block w.if-place-eq6.false
