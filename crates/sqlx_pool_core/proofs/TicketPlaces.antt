@@ -1,17 +1,20 @@
 -- Tickets at their places, with gaps between them.
-use Rattle.std.proofs.Common.{◌≡◌, ℕ, zero, suc, ◌+◌, ◌<◌, ◌≤◌, ◌==◌, Bool, true, false, not, cond, nat_lt, List, [], ◌∷◌, ◌++◌, Option, Some, None, length, filter, get_or, slice_get, slice_set, is_some, option_map, refl, sym, ap, subst, ◌∙◌, arith}
+use Rattle.std.proofs.Common.{◌≡◌, ℕ, zero, suc, ◌+◌, ◌-◌, ◌*◌, ◌<◌, ◌≤◌, ◌==◌, Bool, true, false, not, cond, nat_lt, List, [], ◌∷◌, ◌++◌, take, sum_by, Option, Some, None, length, filter, get_or, slice_get, slice_set, is_some, option_map, refl, sym, ap, subst, ◌∙◌, arith}
 use Rattle.std.specs.Prelude.{All}
-use Rattle.std.specs.List.{filter_map, sum}
+use Rattle.std.specs.List.{filter_map}
 use Rattle.std.specs.List.Sorted.{IsNonDecreasingBy, IsPartitionPoint}
 use Rattle.std.proofs.lemmas.Bool.Decides.{nat_tests}
 use Rattle.std.proofs.lemmas.Option.{slice_get_within, slice_get-get_or, get_or_from_slice_get}
 use Rattle.std.proofs.lemmas.List.Elements.{All-head, All-tail}
-use Rattle.std.proofs.lemmas.List.Sums.{sum_by-cons}
+use Rattle.std.proofs.lemmas.List.Sums.{sum_by-cons, length-filter}
+use Rattle.std.proofs.Math.Seq.{take-length}
 use Rattle.sqlx_pool_core.specs.declared.ticket.Ticket.{Ticket}
 use Rattle.sqlx_pool_core.specs.declared.ticket_places.Place.{Place}
 use Rattle.sqlx_pool_core.specs.declared.ticket_places.Place.TheVariants.{Here, Gap}
-use Rattle.sqlx_pool_core.specs.Core.{gone, has_gone, waiting, ticket_of}
-use Rattle.sqlx_pool_core.specs.Balance.{left_to_test, all_left_to_test}
+use Rattle.sqlx_pool_core.specs.declared.ticket.Phase.{Phase}
+use Rattle.sqlx_pool_core.specs.declared.ticket.Phase.TheVariants as phase
+use Rattle.sqlx_pool_core.specs.Core.{gone, has_gone, is_out, waiting, ticket_of}
+use Rattle.sqlx_pool_core.specs.Balance.{tests_one, is_testing, testing, tests_left, left_to_test, all_left_to_test}
 use Rattle.sqlx_pool_core.specs.Edits.{without_ticket, with_ticket}
 use Rattle.sqlx_pool_core.specs.Tickets.{ticket_in, number_at, tickets_at, AreAbove, AreBelow, IsRising, IsNowhere, IsNowhereElse}
 
@@ -241,11 +244,48 @@ all-counted (x ∷ xs) = by (all-counted xs) (has_gone x) refl
     by rest true is = omega (arith, gone-cons x xs, sum_by-cons (λ y. cond {A = ℕ} (not (has_gone y)) 1 0) x xs, ap (λ b. cond {A = ℕ} b 1 0) is, ap (λ b. cond {A = ℕ} (not b) 1 0) is)
     by rest false is = omega (arith, gone-cons x xs, sum_by-cons (λ y. cond {A = ℕ} (not (has_gone y)) 1 0) x xs, ap (λ b. cond {A = ℕ} b 1 0) is, ap (λ b. cond {A = ℕ} (not b) 1 0) is)
 
--- how many more may be tested for the ticket at a place
-abbrev pub left_at : ℕ → Place → Option ℕ
-left_at tries p = option_map (left_to_test tries) (ticket_in p)
+-- ---- those that have left the line
 
-pub left-all : (tries : ℕ) (ps : List Place) → sum (filter_map (left_at tries) ps) ≡ all_left_to_test tries (tickets_at ps)
-left-all tries [] = refl
-left-all tries (Here x ∷ rest) = sum_by-cons (λ (n : ℕ). n) (left_to_test tries x) (filter_map (left_at tries) rest) ∙ ap (λ n. left_to_test tries x + n) (left-all tries rest) ∙ sym (sum_by-cons (left_to_test tries) x (tickets_at rest))
-left-all tries (Gap n ∷ rest) = left-all tries rest
+-- so many have left it
+pub all-gone : (xs : List Ticket) → take (gone xs) (filter has_gone xs) ≡ filter has_gone xs
+all-gone xs = ap (λ n. take n (filter has_gone xs)) (sym (length-filter has_gone xs)) ∙ take-length (filter has_gone xs)
+
+not_tested : (p : Phase) → is_out p ≡ false → tests_one p ≡ false
+not_tested phase.Waiting e = refl
+not_tested phase.Connecting e = absurd cc
+not_tested (phase.Testing c created before) e = absurd cc
+not_tested (phase.Backoff until) e = absurd cc
+
+one_tested : (x : Ticket) (xs : List Ticket) (g t : Bool) → is_out x.phase ≡ g → tests_one x.phase ≡ t → (g ≡ false → t ≡ false) → length (filter is_testing (filter has_gone (x ∷ xs))) ≡ cond {A = ℕ} t 1 0 + length (filter is_testing (filter has_gone xs))
+one_tested x xs true true e f still = rw (e, f) (omega arith)
+one_tested x xs true false e f still = rw (e, f) (omega arith)
+one_tested x xs false true e f still = absurd (let it : true ≡ false = still refl in cc)
+one_tested x xs false false e f still = rw e (omega arith)
+
+-- each whose connection is under test has left it
+pub testing-gone : (xs : List Ticket) → length (filter is_testing (filter has_gone xs)) ≡ testing xs
+testing-gone [] = refl
+testing-gone (x ∷ xs) =
+    let one = one_tested x xs (is_out x.phase) (tests_one x.phase) refl refl (not_tested x.phase) in
+    omega (arith, one, testing-gone xs, sum_by-cons (λ y. cond {A = ℕ} (is_testing y) 1 0) x xs)
+
+left_waiting : (tries : ℕ) (p : Phase) → is_out p ≡ false → tests_left tries p ≡ tries - 1
+left_waiting tries phase.Waiting e = refl
+left_waiting tries phase.Connecting e = absurd cc
+left_waiting tries (phase.Testing c created before) e = absurd cc
+left_waiting tries (phase.Backoff until) e = absurd cc
+
+-- what is left to test for those that have left the line, and for each that waits
+pub left-parts : (tries : ℕ) (xs : List Ticket) → sum_by (left_to_test tries) (filter has_gone xs) + waiting xs * (tries - 1) ≡ all_left_to_test tries xs
+left-parts tries [] = omega arith
+left-parts tries (x ∷ xs) = by (left-parts tries xs) (is_out x.phase) refl
+  where
+    wait : (g : Bool) → is_out x.phase ≡ g → waiting (x ∷ xs) ≡ cond {A = ℕ} (not g) 1 0 + waiting xs
+    wait g e = sum_by-cons (λ y. cond {A = ℕ} (not (has_gone y)) 1 0) x xs ∙ ap (λ b. cond {A = ℕ} (not b) 1 0 + waiting xs) e
+    by : sum_by (left_to_test tries) (filter has_gone xs) + waiting xs * (tries - 1) ≡ all_left_to_test tries xs → (g : Bool) → is_out x.phase ≡ g → sum_by (left_to_test tries) (filter has_gone (x ∷ xs)) + waiting (x ∷ xs) * (tries - 1) ≡ all_left_to_test tries (x ∷ xs)
+    by rest true e =
+        let out : sum_by (left_to_test tries) (filter has_gone (x ∷ xs)) ≡ left_to_test tries x + sum_by (left_to_test tries) (filter has_gone xs) = rw e (sum_by-cons (left_to_test tries) x (filter has_gone xs)) in
+        omega (arith, out, ap (λ n. n * (tries - 1)) (wait true e), sum_by-cons (left_to_test tries) x xs, rest)
+    by rest false e =
+        let out : sum_by (left_to_test tries) (filter has_gone (x ∷ xs)) ≡ sum_by (left_to_test tries) (filter has_gone xs) = rw e refl in
+        omega (arith, out, ap (λ n. n * (tries - 1)) (wait false e), left_waiting tries x.phase e, sum_by-cons (left_to_test tries) x xs, rest)

@@ -90,24 +90,24 @@ fn place_for(places: &VecDeque<Place>, number: u64) -> usize
 }
 
 // The ticket at a place, where it has this number.
-fn ticket_at(places: &VecDeque<Place>, place: usize, number: u64) -> Option<Ticket>
-    ensures some { IfSome result (λ x. (slice_get places.now.items place ≡ Some (Here x)) × (x.number ≡ number)) }
+fn ticket_at(places: &VecDeque<Place>, place: usize, number: u64) -> Option<&Ticket>
+    ensures some { IfSome result (λ x. (slice_get places.now.items place ≡ Some (Here x.now)) × (x.now.number ≡ number)) }
     ensures none { IfNone result ((x : Ticket) → slice_get places.now.items place ≡ Some (Here x) → (number == x.number) ≡ false) }
 {
     let Some(Place::Here(ticket)) = places.get(place) else {
         return None;
     };
     if number == ticket.number {
-        Some(*ticket)
+        Some(ticket)
     } else {
         None
     }
 }
 
 /// The ticket of this number, and its place.
-pub fn find(places: &VecDeque<Place>, number: u64) -> Option<(usize, Ticket)>
+pub fn find(places: &VecDeque<Place>, number: u64) -> Option<(usize, &Ticket)>
     requires { IsRising places.now.items }
-    ensures some { IfSome result (λ p. (slice_get places.now.items p.0 ≡ Some (Here p.1)) × (p.1.number ≡ number)) }
+    ensures some { IfSome result (λ p. (slice_get places.now.items p.0 ≡ Some (Here p.1.now)) × (p.1.now.number ≡ number)) }
     ensures none { IfNone result (IsNowhere number places.now.items) }
 {
     let place = place_for(places, number);
@@ -142,7 +142,7 @@ pub fn drop_last_gaps(places: &mut VecDeque<Place>, number: u64)
     }
 }
 
-/// Closes the gaps where the places are used up, so many tickets stand there, and a quarter of the places are gaps.
+/// Closes the gaps, where the places are used up and at most three quarters of them hold one of so many tickets.
 pub fn make_room(places: &mut VecDeque<Place>, tickets: usize)
     requires { IsRising places.old.items }
     ensures rising { IsRising places.new.items }

@@ -1,11 +1,10 @@
 //! The tickets that haven't ended, in the order of asking: one is found, changed and ended without a look at the others.
-ghost use Rattle.std.specs.Prelude.{◌≡◌, ◌==◌, ◌*◌, ◌^◌, ◌<◌, ◌≤◌, nat_lt, true, if◌then◌else◌, [], ◌∷◌, ◌++◌, length, All, OnOk, OnErr, count_by, not, ◌&&◌, option_map};
+ghost use Rattle.std.specs.Prelude.{◌≡◌, ◌==◌, ◌*◌, ◌^◌, ◌<◌, ◌≤◌, nat_lt, true, if◌then◌else◌, [], ◌∷◌, ◌++◌, length, All, OnOk, OnErr, count_by, sum_by, filter, not, ◌&&◌};
 ghost use Rattle.sqlx_pool_core.specs.Core.{waiting, gone, ticket_of, has_gone, is_out, waits};
 ghost use Rattle.sqlx_pool_core.specs.Balance.{testing, left_to_test, all_left_to_test};
 ghost use Rattle.sqlx_pool_core.specs.CoreTurn.{before};
 ghost use Rattle.sqlx_pool_core.specs.Shared.{waits_before};
 ghost use Rattle.sqlx_pool_core.specs.Edits.{without_ticket, with_ticket};
-ghost use Rattle.sqlx_pool_core.specs.Tickets.{ticket_in};
 
 use crate::ticket::{Phase, Ticket};
 use crate::ticket_places::{Place, drop_first_gaps, drop_last_gaps, find, make_room};
@@ -60,14 +59,6 @@ fn tests_left(ticket: &Ticket, tries: u32) -> u32
     }
 }
 
-// How many more may be tested for the ticket at a place.
-fn tests_left_at(place: &Place, tries: u32) -> Option<usize>
-    ensures { result ≡ option_map (left_to_test tries) (ticket_in place.now) }
-{
-    let ticket = place.ticket()?;
-    Some(tests_left(&ticket, tries) as usize)
-}
-
 // One for a ticket that has left the line, none for one that waits.
 fn one_if_gone(ticket: &Ticket) -> usize
     ensures { result ≡ (if has_gone ticket.now then 1 else 0) }
@@ -117,27 +108,42 @@ impl Tickets {
         self.len - self.gone
     }
 
-    /// How many have a connection under test.
+    /// How many have a connection under test. It looks no further than the last ticket that has left the line.
     pub fn testing(&self) -> usize
         ensures { result ≡ testing self.now }
     {
         self.places
             .iter()
             .filter_map(|p| p.ticket())
+            .filter(|x| x.phase.is_out())
+            .take(self.gone)
             .filter(|x| matches!(x.phase, Phase::Testing { .. }))
             .count()
     }
 
-    /// How many idle connections more may be tested for all tickets.
+    // How many idle connections more may be tested for those that have left the line.
+    fn left_for_gone(&self, tries: u32) -> usize
+        requires { tries ≤ 16 }
+        ensures left { result ≡ sum_by (left_to_test tries) (filter has_gone self.now) }
+        ensures few { length self.now ≤ 2 ^ 57 }
+    {
+        self.places
+            .iter()
+            .filter_map(|p| p.ticket())
+            .filter(|x| x.phase.is_out())
+            .take(self.gone)
+            .map(|x| tests_left(&x, tries) as usize)
+            .sum()
+    }
+
+    /// How many idle connections more may be tested for all tickets. It looks no further than the last ticket that has
+    /// left the line.
     pub fn left_to_test(&self, tries: u32) -> usize
         requires { tries ≤ 16 }
         ensures left { result ≡ all_left_to_test tries self.now }
         ensures few { result ≤ length self.now * 16 }
     {
-        self.places
-            .iter()
-            .filter_map(|p| tests_left_at(p, tries))
-            .sum()
+        self.left_for_gone(tries) + self.waiting() * tries.saturating_sub(1) as usize
     }
 
     /// How many waiting tickets were asked before this one.
@@ -176,7 +182,7 @@ impl Tickets {
     {
         let (_, found) = find(&self.places, number)?;
         if found.client == client {
-            Some(found)
+            Some(*found)
         } else {
             None
         }
@@ -187,9 +193,9 @@ impl Tickets {
         ensures { self.new ≡ without_ticket number self.old }
     {
         if let Some((place, ended)) = find(&self.places, number) {
-            self.places[place] = Place::Gap(number);
+            self.gone -= one_if_gone(ended);
             self.len -= 1;
-            self.gone -= one_if_gone(&ended);
+            self.places[place] = Place::Gap(number);
             drop_first_gaps(&mut self.places);
         }
     }
@@ -199,9 +205,9 @@ impl Tickets {
         ensures { self.new ≡ with_ticket ticket.number (λ _. ticket) self.old }
     {
         if let Some((place, before)) = find(&self.places, ticket.number) {
-            self.places[place] = Place::Here(ticket);
-            self.gone -= one_if_gone(&before);
+            self.gone -= one_if_gone(before);
             self.gone += one_if_gone(&ticket);
+            self.places[place] = Place::Here(ticket);
         }
     }
 

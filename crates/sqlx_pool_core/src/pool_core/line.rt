@@ -21,7 +21,7 @@ fn entitled(line: &Line) -> usize
 pub fn is_entitled<C>(pool: &Member<C>, line: &Line, client: u32, ticket: u64) -> bool
     ensures { result ≡ (is_in_line (phase_for client ticket pool.now.tickets) && is_below_edge ticket line.now) }
 {
-    pool.waits(client, ticket) && line.is_entitled(ticket)
+    line.is_entitled(ticket) && pool.waits(client, ticket)
 }
 
 /// Whether a poll's start takes its ticket out of the line, or ends it.

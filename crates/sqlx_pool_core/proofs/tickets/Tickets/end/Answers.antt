@@ -6,13 +6,13 @@ use Rattle.sqlx_pool_core.proofs.tickets.Tickets.end.Goals as goal
 
 pub overflow_sub-self : goal.overflow_sub-self
 overflow_sub-self c =
-    let counts = counted-at c.args.number c.self.inside.places.items c.in-Some.place c.in-Some.ended c.in-Some.ensures.some.0 in
-    omega (arith, counts.len, c.self.invariant.counted_right)
+    let counts = counted-at c.args.number c.self.inside.places.items c.in-Some.place c.in-Some.ended.now c.in-Some.ensures.some.0 in
+    omega (arith, counts.gone_without, c.self.invariant.out_right, c.one_if_gone.ensures)
 
 pub overflow_sub-self-in-Some : goal.overflow_sub-self-in-Some
 overflow_sub-self-in-Some c =
-    let counts = counted-at c.args.number c.self.inside.places.items c.in-Some.place c.in-Some.ended c.in-Some.ensures.some.0 in
-    omega (arith, counts.gone_without, c.self.invariant.out_right, c.one_if_gone.ensures)
+    let counts = counted-at c.args.number c.self.inside.places.items c.in-Some.place c.in-Some.ended.now c.in-Some.ensures.some.0 in
+    omega (arith, counts.len, c.self.invariant.counted_right)
 
 pub drop_first_gaps-requires : goal.drop_first_gaps-requires
 drop_first_gaps-requires c =
@@ -21,7 +21,7 @@ drop_first_gaps-requires c =
 
 pub invariant_of-self : goal.invariant_of-self
 invariant_of-self c =
-    let counts = counted-at c.args.number c.self.inside.places.items c.in-Some.place c.in-Some.ended c.in-Some.ensures.some.0 in
+    let counts = counted-at c.args.number c.self.inside.places.items c.in-Some.place c.in-Some.ended.now c.in-Some.ensures.some.0 in
     let same = c.drop_first_gaps.ensures.tickets in
     record {
       rising = c.drop_first_gaps.ensures.rising;
@@ -33,7 +33,7 @@ invariant_of-self c =
 pub returns-in-Some : goal.returns-in-Some
 returns-in-Some c =
     let there = c.in-Some.ensures.some in
-    let at = found-at 0 c.args.number c.self.inside.places.items c.in-Some.place c.in-Some.ended c.self.invariant.rising there.0 there.1 in
+    let at = found-at 0 c.args.number c.self.inside.places.items c.in-Some.place c.in-Some.ended.now c.self.invariant.rising there.0 there.1 in
     rw (← c.self.view_is) (c.drop_first_gaps.ensures.tickets ∙ at.ended)
 
 pub returns-in_default : goal.returns-in_default

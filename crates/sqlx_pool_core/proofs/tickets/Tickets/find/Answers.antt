@@ -10,11 +10,11 @@ returns-in_err-found c =
 pub returns-then-found-client : goal.returns-then-found-client
 returns-then-found-client c =
     let there = c.in_ok-found.ensures.some in
-    let at = found-at c.args.client c.args.number c.self.inside.places.items _ c.in_ok-found.found c.self.invariant.rising there.0 there.1 in
-    rw (← c.self.view_is) (sym (at.found ∙ mine c.args.client c.in_ok-found.found c.if-found-client.true))
+    let at = found-at c.args.client c.args.number c.self.inside.places.items _ c.in_ok-found.found.now c.self.invariant.rising there.0 there.1 in
+    rw (← c.self.view_is) (sym (at.found ∙ mine c.args.client c.in_ok-found.found.now c.if-found-client.true))
 
 pub returns-else-found-client : goal.returns-else-found-client
 returns-else-found-client c =
     let there = c.in_ok-found.ensures.some in
-    let at = found-at c.args.client c.args.number c.self.inside.places.items _ c.in_ok-found.found c.self.invariant.rising there.0 there.1 in
-    rw (← c.self.view_is) (sym (at.found ∙ another c.args.client c.in_ok-found.found c.if-found-client.false))
+    let at = found-at c.args.client c.args.number c.self.inside.places.items _ c.in_ok-found.found.now c.self.invariant.rising there.0 there.1 in
+    rw (← c.self.view_is) (sym (at.found ∙ another c.args.client c.in_ok-found.found.now c.if-found-client.false))

@@ -6,14 +6,14 @@ use Rattle.sqlx_pool_core.proofs.tickets.Tickets.put.Goals as goal
 pub overflow_sub-self : goal.overflow_sub-self
 overflow_sub-self c =
     let there = c.in-Some.ensures.some in
-    let counts = counted-at c.args.ticket.number c.self.inside.places.items c.in-Some.place c.in-Some.before there.0 in
+    let counts = counted-at c.args.ticket.number c.self.inside.places.items c.in-Some.place c.in-Some.before.now there.0 in
     omega (arith, counts.gone_without, c.self.invariant.out_right, c.one_if_gone.ensures)
 
 pub invariant_of-self : goal.invariant_of-self
 invariant_of-self c =
     let there = c.in-Some.ensures.some in
     let w = c.args.ticket in
-    let counts = counted-at w.number c.self.inside.places.items c.in-Some.place c.in-Some.before there.0 in
+    let counts = counted-at w.number c.self.inside.places.items c.in-Some.place c.in-Some.before.now there.0 in
     record {
       rising = rising-set c.self.inside.places.items c.in-Some.place _ (Here w) c.self.invariant.rising there.0 (sym there.1);
       counted_right = c.self.invariant.counted_right ∙ sym (counts.same_len w);
@@ -24,7 +24,7 @@ invariant_of-self c =
 pub returns-in-Some : goal.returns-in-Some
 returns-in-Some c =
     let there = c.in-Some.ensures.some in
-    let at = found-at 0 c.args.ticket.number c.self.inside.places.items c.in-Some.place c.in-Some.before c.self.invariant.rising there.0 there.1 in
+    let at = found-at 0 c.args.ticket.number c.self.inside.places.items c.in-Some.place c.in-Some.before.now c.self.invariant.rising there.0 there.1 in
     rw (← c.self.view_is) (at.changed c.args.ticket)
 
 pub returns-in_default : goal.returns-in_default
