@@ -1,3 +1,4 @@
 pub mod Rising
 pub mod Edge
+pub mod Places
 pub mod Served

@@ -3,6 +3,8 @@ use Rattle.std.specs.Prelude.{◌≡◌, ℕ, ◌+◌, ◌-◌, ◌<◌, ◌≤�
 use Rattle.std.specs.List.{All, list_any}
 use Rattle.std.specs.List.Sorted.{IsStrictlySortedBy}
 use Rattle.std.specs.Ordering.{nat_cmp}
+use Rattle.sqlx_numbered.specs.declared.rising_places.Place.{Place}
+use Rattle.sqlx_numbered.specs.Rising.{IsRising, things_at}
 use Rattle.sqlx_line.specs.declared.took.Took.{Took}
 use Rattle.sqlx_line.specs.declared.took.Took.TheVariants.{Absent, Beyond, Taken}
 
@@ -89,3 +91,9 @@ pub record IsSound (waiting : List ℕ) (counted edge moves : ℕ) : Type 0 wher
   pub counted_right : counted ≡ entitled (line_of waiting edge moves)
   pub few_moves : moves ≤ edge
   pub few_entitled : counted ≤ moves
+
+-- The numbers rise at their places, those that wait are counted, and the line of them is sound.
+pub record IsKept (places : List (Place ℕ)) (counted entitled edge moves : ℕ) : Type 0 where
+  pub rising : IsRising (λ n. n) places
+  pub counted_right : counted ≡ length (things_at places)
+  pub sound : IsSound (things_at places) entitled edge moves

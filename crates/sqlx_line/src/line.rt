@@ -1,37 +1,48 @@
 //! The line itself. Each call that looks at a ticket looks once.
-ghost use Rattle.std.specs.Prelude.{◌≡◌, ◌+◌, ◌-◌, ◌<◌, ◌≤◌, ◌^◌, ◌&&◌, if◌then◌else◌, length, find, not, nat_lt, true, OnOk, OnErr};
+ghost use Rattle.std.specs.Prelude.{◌≡◌, ◌+◌, ◌-◌, ◌<◌, ◌≤◌, ◌^◌, if◌then◌else◌, length, true, OnOk, OnErr};
 ghost use Rattle.std.specs.List.Sorted.{IsStrictlyIncreasing};
 ghost use Rattle.sqlx_line.specs.Line.{ComesLast, no_line, is_waiting, is_below_edge, entitled, beyond, pushed, without, advanced, take_answer, after_take};
 
 use crate::steps::Steps;
 use crate::took::Took;
+use sqlx_numbered::{
+    Numbering, Place, drop_first_gaps, drop_last_gaps, find_place, first_from, make_room,
+};
 use sqlx_text::OutOfMemory;
 use std::alloc::Global;
-use std::collections::BTreeSet;
+use std::collections::VecDeque;
 use std::marker::Model;
 use std::sync::ledger::Ledger;
 
 /// Waiting tickets by their numbers, and an edge: a ticket below it is entitled.
 #[derive(Drop)]
 pub struct Line {
-    waiting: BTreeSet<u64>,
+    // The gaps before the first ticket are taken away, the others closed where the places are used up.
+    places: VecDeque<Place<u64>>,
+    waiting: usize,
     entitled: usize,
     edge: u64,
     moves: u64,
 }
 
 impl Model for Line {
-    ghost use Rattle.std.specs.Prelude.{◌≡◌, ◌<◌, ◌≤◌, ◌-◌, ◌^◌};
-    ghost use Rattle.std.specs.List.{AllByRecursion};
-    ghost use Rattle.std.specs.List.Sorted.{IsStrictlySortedBy};
-    ghost use Rattle.std.specs.Ordering.{nat_cmp};
-    ghost use Rattle.sqlx_line.specs.Line.{TicketLine, IsSound, line_of, before};
+    ghost use Rattle.sqlx_numbered.specs.Rising.{things_at};
+    ghost use Rattle.sqlx_line.specs.Line.{TicketLine, IsKept, line_of};
 
     ghost Value = { TicketLine };
 
-    ghost view = { λ s. line_of s.waiting.keys s.edge s.moves };
+    ghost view = { λ s. line_of (things_at s.places.items) s.edge s.moves };
 
-    ghost invariant = { λ s. IsSound s.waiting.keys s.entitled s.edge s.moves };
+    ghost invariant = { λ s. IsKept s.places.items s.waiting s.entitled s.edge s.moves };
+}
+
+// A ticket is its number.
+impl Numbering<u64> for Line {
+    ghost number = { λ n. n };
+
+    fn number(thing: &u64) -> u64 {
+        *thing
+    }
 }
 
 impl Line {
@@ -40,7 +51,8 @@ impl Line {
         ensures { result ≡ no_line }
     {
         Line {
-            waiting: BTreeSet::new(alloc),
+            places: VecDeque::new(alloc),
+            waiting: 0,
             entitled: 0,
             edge: 0,
             moves: 0,
@@ -52,14 +64,14 @@ impl Line {
         ensures count { result ≡ length self.now.waiting }
         ensures rising { IsStrictlyIncreasing self.now.waiting }
     {
-        self.waiting.len()
+        self.waiting
     }
 
     /// How many of them aren't entitled.
     pub fn beyond(&self) -> usize
         ensures { result ≡ beyond self.now }
     {
-        self.waiting.len() - self.entitled
+        self.waiting - self.entitled
     }
 
     /// How often the edge moved.
@@ -84,6 +96,13 @@ impl Line {
         self.edge > ticket
     }
 
+    // Whether the ticket waits.
+    fn waits(&self, ticket: u64) -> bool
+        ensures { result ≡ is_waiting ticket self.now }
+    {
+        find_place::<u64, Line>(&self.places, ticket).is_some()
+    }
+
     /// A ticket joins behind all others.
     pub fn push<L: Ledger>(&mut self, ticket: u64, steps: &mut Steps<L>) -> Result<(), OutOfMemory>
         requires last { ComesLast ticket self.old }
@@ -93,10 +112,13 @@ impl Line {
         ensures cost { steps.new ≡ steps.old + 1 }
     {
         steps.tick();
-        match self.waiting.insert(ticket) {
-            Ok(_) => Ok(()),
-            Err(_) => Err(OutOfMemory),
+        make_room::<u64, Line>(&mut self.places, self.waiting);
+        drop_last_gaps::<u64, Line>(&mut self.places, ticket);
+        if self.places.push_back(Place::Here(ticket)).is_err() {
+            return Err(OutOfMemory);
         }
+        self.waiting += 1;
+        Ok(())
     }
 
     /// Takes a ticket out of the line, where it is entitled.
@@ -113,7 +135,7 @@ impl Line {
             }
         } else {
             steps.tick();
-            if self.waiting.contains(&ticket) {
+            if self.waits(ticket) {
                 Took::Beyond
             } else {
                 Took::Absent
@@ -128,10 +150,15 @@ impl Line {
         ensures cost { steps.new ≡ steps.old + 1 }
     {
         steps.tick();
-        let waited = self.waiting.remove(&ticket);
-        let was_entitled = both(waited, ticket < self.edge);
-        self.entitled = less(self.entitled, was_entitled);
-        waited
+        if let Some((place, number)) = find_place::<u64, Line>(&self.places, ticket) {
+            self.entitled = less(self.entitled, *number < self.edge);
+            self.waiting -= 1;
+            self.places[place] = Place::Gap(ticket);
+            drop_first_gaps::<u64, Line>(&mut self.places);
+            true
+        } else {
+            false
+        }
     }
 
     /// Moves the edge past the first ticket that isn't entitled. Answers true.
@@ -144,7 +171,7 @@ impl Line {
         ensures cost { steps.new ≡ steps.old + 1 }
     {
         steps.tick();
-        match first_from(&self.waiting, self.edge) {
+        match first_from::<u64, Line>(&self.places, self.edge) {
             Some(next) => {
                 self.edge = next + 1;
                 self.moves += 1;
@@ -156,23 +183,10 @@ impl Line {
     }
 }
 
-fn both(waited: bool, below: bool) -> bool
-    ensures { result ≡ (waited && below) }
-{
-    waited && below
-}
-
 /// One less, where one went.
 fn less(count: usize, went: bool) -> usize
     requires { (if went then 1 else 0) ≤ count }
     ensures { result + (if went then 1 else 0) ≡ count }
 {
     if went { count - 1 } else { count }
-}
-
-/// The first number from the edge on.
-fn first_from(waiting: &BTreeSet<u64>, edge: u64) -> Option<u64>
-    ensures { result ≡ find (λ n. not (nat_lt n edge)) waiting.now.keys }
-{
-    waiting.range(edge..).next().copied()
 }

@@ -1,32 +1,41 @@
-use Rattle.std.proofs.Common.{◌≡◌, ℕ, ◌<◌, ◌++◌, List, [], ◌∷◌, ◌∙◌, sym, ap, subst}
-use Rattle.std.specs.Ordering.{nat_cmp}
-use Rattle.std.specs.BTreeSet.{insert_key}
+use Rattle.std.proofs.Common.{rules, tests, arith, ◌≡◌, ◌<◌, ◌∙◌, ◌++◌, ◌∷◌, [], length, ap, sym, subst}
+use Rattle.std.proofs.lemmas.List.{length-append}
 use Rattle.std.proofs.lemmas.List.Elements.{recursion_from_All}
-use Rattle.sqlx_line.specs.Line.{TicketLine, ComesLast, line_of}
-use Rattle.sqlx_line.proofs.Rising.{joins_last}
+use Rattle.std.proofs.lemmas.Map.Views.{length-le_from_below}
+use Rattle.sqlx_numbered.specs.declared.rising_places.Place.TheVariants.{Here}
+use Rattle.sqlx_numbered.specs.Rising.{things_at}
+use Rattle.sqlx_numbered.proofs.Rising.{rising-push, things-push}
+use Rattle.sqlx_line.specs.Line.{ComesLast, line_of}
+use Rattle.sqlx_line.proofs.Rising.{joined-rises}
 use Rattle.sqlx_line.proofs.Edge.{sound_pushed}
 use Rattle.sqlx_line.proofs.line.Line.push.Goals as goal
-use Rattle.sqlx_line.proofs.line.Line.push.Goals.{in-Ok, in-Err}
 
--- behind all others it joins at the end
-joined : (t : ℕ) (ks : List ℕ) (edge moves : ℕ) (line : TicketLine) → line_of ks edge moves ≡ line → ComesLast t line → insert_key nat_cmp ks t ≡ ks ++ t ∷ []
-joined t ks edge moves line is last = joins_last t ks (recursion_from_All (λ n. n < t) ks (subst (λ l. ComesLast t l) (sym is) last).behind)
+-- each that waits has a number below the new one's
+pub overflow_add-self : goal.overflow_add-self
+overflow_add-self g c =
+    let i = c.self.inside in
+    let last = subst (λ l. ComesLast c.args.ticket l) (sym c.self.view_is) c.requires.last in
+    omega (arith, length-le_from_below c.args.ticket (things_at i.places.items) c.self.invariant.sound.rising last.behind, c.self.invariant.counted_right, c.requires.numbered)
 
-pub invariant_of-self : goal.invariant_of-self
-invariant_of-self g c =
+pub invariant_of-self-2 : goal.invariant_of-self-2
+invariant_of-self-2 g c =
     let t = c.args.ticket in
     let i = c.self.inside in
-    elim c.match-insert.branch [
-      | in-Ok w ↦
-          let is = (rw w.in-Ok.is at c.insert.ensures.keys) ∙ joined t i.waiting.keys i.edge i.moves _ c.self.view_is c.requires.last in
-          rw is (sound_pushed t i.entitled i.edge i.moves i.waiting.keys c.self.invariant (subst (λ l. ComesLast t l) (sym c.self.view_is) c.requires.last) c.requires.numbered (rw is at c.insert.ensures.ordered))
-      | in-Err w ↦ rw (rw w.in-Err.is at c.insert.ensures.err) c.self.invariant
-    ]
+    let ks = things_at i.places.items in
+    let front = c.drop_last_gaps.new.places.items in
+    let last = subst (λ l. ComesLast t l) (sym c.self.view_is) c.requires.last in
+    let is : c.push_back.new.self.items ≡ front ++ Here t ∷ [] = search (rules, tests) in
+    let all : things_at c.push_back.new.self.items ≡ ks ++ t ∷ [] = ap things_at is ∙ things-push (λ n. n) front t ∙ ap (λ l. l ++ t ∷ []) (c.drop_last_gaps.ensures.things ∙ c.make_room.ensures.things) in
+    record {
+      rising = rw is (rising-push (λ n. n) front (Here t) c.drop_last_gaps.ensures.rising c.drop_last_gaps.ensures.below);
+      counted_right = omega (arith, ap length all, length-append ks (t ∷ []), c.self.invariant.counted_right);
+      sound = rw all (sound_pushed t i.entitled i.edge i.moves ks c.self.invariant.sound last c.requires.numbered (joined-rises t ks c.self.invariant.sound.rising (recursion_from_All (λ n. n < t) ks last.behind)));
+    }
 
 pub returns-clause-ok : goal.returns-clause-ok
 returns-clause-ok g c =
+    let t = c.args.ticket in
     let i = c.self.inside in
-    elim c.match-insert.branch [
-      | in-Ok w ↦ rw (w.result-is, ← c.self.view_is) (ap (λ ks. line_of ks i.edge i.moves) ((rw w.in-Ok.is at c.insert.ensures.keys) ∙ joined c.args.ticket i.waiting.keys i.edge i.moves _ c.self.view_is c.requires.last))
-      | in-Err w ↦ rw w.result-is tt
-    ]
+    let front = c.drop_last_gaps.new.places.items in
+    let is : c.push_back.new.self.items ≡ front ++ Here t ∷ [] = search (rules, tests) in
+    rw (← c.self.view_is) (ap (λ ks. line_of ks i.edge i.moves) (ap things_at is ∙ things-push (λ n. n) front t ∙ ap (λ l. l ++ t ∷ []) (c.drop_last_gaps.ensures.things ∙ c.make_room.ensures.things)))

@@ -1,29 +1,93 @@
-use Rattle.std.proofs.Common.{◌≡◌, ℕ, ◌+◌, ◌≤◌, ◌&&◌, cond, Bool, List, ◌∙◌, sym, ap, arith}
+use Rattle.std.proofs.Common.{arith, ◌≡◌, ℕ, ◌+◌, ◌==◌, ◌<◌, ◌&&◌, ◌∙◌, not, cond, List, Some, length, slice_get, slice_set, ap, sym, subst}
 use Rattle.std.specs.Prelude.{nat_lt}
-use Rattle.sqlx_line.specs.Line.{entitled, line_of}
-use Rattle.sqlx_line.proofs.Rising.{IsRising, found, taken_out}
-use Rattle.sqlx_line.proofs.Edge.{has, below-left_out, sound_without}
+use Rattle.std.specs.Ordering.{nat_cmp}
+use Rattle.std.proofs.lemmas.Option.{slice_get_within}
+use Rattle.std.proofs.lemmas.List.Kept.{IsStrictlySortedBy-filter}
+use Rattle.sqlx_numbered.specs.declared.rising_places.Place.{Place}
+use Rattle.sqlx_numbered.specs.declared.rising_places.Place.TheVariants.{Here, Gap}
+use Rattle.sqlx_numbered.specs.Rising.{things_at}
+use Rattle.sqlx_numbered.proofs.Rising.{all-others, ended-at, rising-set}
+use Rattle.sqlx_line.specs.Line.{IsKept, line_of}
+use Rattle.sqlx_line.proofs.Edge.{below, left_out, below-left_out, length-left_out, sound_without}
+use Rattle.sqlx_line.proofs.Places.{others, has-there, has-not}
 use Rattle.sqlx_line.proofs.line.Line.remove.Goals as goal
 
--- the count of those below the edge covers the one that goes
-enough : (t edge counted moves : ℕ) (ks : List ℕ) (went : Bool) → IsRising ks → went ≡ (has t ks && nat_lt t edge) → counted ≡ entitled (line_of ks edge moves) → cond {A = ℕ} went 1 0 ≤ counted
-enough t edge counted moves ks went rising is are = let e : cond {A = ℕ} went 1 0 ≡ cond {A = ℕ} (has t ks && nat_lt t edge) 1 0 = ap (λ b. cond {A = ℕ} b 1 0) is in omega (arith, below-left_out t edge ks rising)
+-- What holds where a ticket stands at a place.
+record Stands (t counted entitled edge moves : ℕ) (ps : List (Place ℕ)) (place : ℕ) : Type 0 where
+  within : place < length ps
+  fewer : length (left_out t (things_at ps)) + 1 ≡ length (things_at ps)
+  fewer_entitled : below edge (left_out t (things_at ps)) + cond (nat_lt t edge) 1 0 ≡ entitled
+  ended : things_at (slice_set ps place (Gap t)) ≡ left_out t (things_at ps)
+
+stands : (t counted entitled edge moves : ℕ) (ps : List (Place ℕ)) (place n : ℕ) → IsKept ps counted entitled edge moves → slice_get ps place ≡ Some (Here n) → n ≡ t → Stands t counted entitled edge moves ps place
+stands t counted entitled edge moves ps place n kept at is =
+    let ks = things_at ps in
+    let there = has-there ps place t (at ∙ ap (λ m. Some (Here m)) is) in
+    record {
+      within = slice_get_within ps place (Here n) at;
+      fewer = subst (λ b. length (left_out t ks) + cond {A = ℕ} b 1 0 ≡ length ks) there (length-left_out t ks kept.sound.rising);
+      fewer_entitled = subst (λ b. below edge (left_out t ks) + cond {A = ℕ} (b && nat_lt t edge) 1 0 ≡ below edge ks) there (below-left_out t edge ks kept.sound.rising) ∙ sym kept.sound.counted_right;
+      ended = ended-at (λ m. m) t ps place n kept.rising at is ∙ others t ks;
+    }
 
 pub less-self-inside-requires : goal.less-self-inside-requires
 less-self-inside-requires g c =
-    enough c.args.ticket c.self.inside.edge c.self.inside.entitled c.self.inside.moves c.self.inside.waiting.keys _ c.self.invariant.rising
-    (c.both-was_entitled.ensures ∙ ap (λ b. b && nat_lt c.args.ticket c.self.inside.edge) (c.remove-waited.ensures.test ∙ found c.args.ticket c.self.inside.waiting.keys)) c.self.invariant.counted_right
+    let i = c.self.inside in
+    let there = c.in-Some.ensures.some in
+    let stand = stands c.args.ticket i.waiting i.entitled i.edge i.moves i.places.items c.in-Some.place _ c.self.invariant there.0 there.1 in
+    rw there.1 (omega (arith, stand.fewer_entitled))
+
+pub overflow_sub-self : goal.overflow_sub-self
+overflow_sub-self g c =
+    let i = c.self.inside in
+    let there = c.in-Some.ensures.some in
+    let stand = stands c.args.ticket i.waiting i.entitled i.edge i.moves i.places.items c.in-Some.place _ c.self.invariant there.0 there.1 in
+    omega (arith, stand.fewer, c.self.invariant.counted_right)
+
+pub index_mut-requires : goal.index_mut-requires
+index_mut-requires g c =
+    let i = c.self.inside in
+    omega (arith, slice_get_within i.places.items c.in-Some.place _ c.in-Some.ensures.some.0, i.places.ok.0)
+
+pub drop_first_gaps-requires : goal.drop_first_gaps-requires
+drop_first_gaps-requires g c =
+    let there = c.in-Some.ensures.some in
+    rising-set (λ m. m) c.self.inside.places.items c.in-Some.place _ (Gap c.args.ticket) c.self.invariant.rising there.0 (sym there.1)
 
 pub invariant_of-self : goal.invariant_of-self
 invariant_of-self g c =
     let t = c.args.ticket in
-    let ks = c.self.inside.waiting.keys in
-    let is = c.remove-waited.ensures.keys ∙ taken_out t ks c.self.invariant.rising in
-    let went = c.both-was_entitled.ensures ∙ ap (λ b. b && nat_lt t c.self.inside.edge) (c.remove-waited.ensures.test ∙ found t ks) in
-    rw is (sound_without t c.self.inside.entitled _ c.self.inside.edge c.self.inside.moves ks c.self.invariant (ap (λ b. c.less-self-inside.result + cond {A = ℕ} b 1 0) (sym went) ∙ c.less-self-inside.ensures) (rw is at c.remove-waited.ensures.ordered))
+    let i = c.self.inside in
+    let ks = things_at i.places.items in
+    let there = c.in-Some.ensures.some in
+    let stand = stands t i.waiting i.entitled i.edge i.moves i.places.items c.in-Some.place _ c.self.invariant there.0 there.1 in
+    let same : things_at c.drop_first_gaps.new.places.items ≡ left_out t ks = c.drop_first_gaps.ensures.things ∙ stand.ended in
+    let one = below-left_out t i.edge ks c.self.invariant.sound.rising in
+    record {
+      rising = c.drop_first_gaps.ensures.rising;
+      counted_right = omega (arith, ap length same, stand.fewer, c.self.invariant.counted_right);
+      sound = rw same (sound_without t i.entitled c.less-self-inside.result i.edge i.moves ks c.self.invariant.sound (omega (arith, one, stand.fewer_entitled, c.self.invariant.sound.counted_right, (rw there.1 at c.less-self-inside.ensures))) (IsStrictlySortedBy-filter nat_cmp (λ m. not (m == t)) ks c.self.invariant.sound.rising));
+    }
 
-pub returns-clause-answer : goal.returns-clause-answer
-returns-clause-answer g c = rw (← c.self.view_is) (c.remove-waited.ensures.test ∙ found c.args.ticket c.self.inside.waiting.keys)
+pub returns-in-Some-clause-answer : goal.returns-in-Some-clause-answer
+returns-in-Some-clause-answer g c =
+    let there = c.in-Some.ensures.some in
+    rw (← c.self.view_is) (sym (has-there c.self.inside.places.items c.in-Some.place c.args.ticket (there.0 ∙ ap (λ m. Some (Here m)) there.1)))
 
-pub returns-clause-becomes : goal.returns-clause-becomes
-returns-clause-becomes g c = rw (← c.self.view_is) (ap (λ ks. line_of ks c.self.inside.edge c.self.inside.moves) (c.remove-waited.ensures.keys ∙ taken_out c.args.ticket c.self.inside.waiting.keys c.self.invariant.rising))
+pub returns-in-Some-clause-becomes : goal.returns-in-Some-clause-becomes
+returns-in-Some-clause-becomes g c =
+    let i = c.self.inside in
+    let there = c.in-Some.ensures.some in
+    let stand = stands c.args.ticket i.waiting i.entitled i.edge i.moves i.places.items c.in-Some.place _ c.self.invariant there.0 there.1 in
+    rw (← c.self.view_is) (ap (λ ks. line_of ks i.edge i.moves) (c.drop_first_gaps.ensures.things ∙ stand.ended))
+
+pub returns-in_default-clause-answer : goal.returns-in_default-clause-answer
+returns-in_default-clause-answer g c =
+    let none = rw c.in_default.is at c.find_place.ensures.none in
+    rw (← c.self.view_is) (sym (has-not c.self.inside.places.items c.args.ticket none))
+
+pub returns-in_default-clause-becomes : goal.returns-in_default-clause-becomes
+returns-in_default-clause-becomes g c =
+    let i = c.self.inside in
+    let none = rw c.in_default.is at c.find_place.ensures.none in
+    rw (← c.self.view_is) (ap (λ ks. line_of ks i.edge i.moves) (sym (all-others (λ m. m) c.args.ticket i.places.items none) ∙ others c.args.ticket (things_at i.places.items)))
