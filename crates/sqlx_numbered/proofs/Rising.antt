@@ -16,7 +16,7 @@ is_taken p = is_some (thing_in p)
 module _ {X : Type 0} (number : X → ℕ) where
   -- ---- numbers that rise
 
-  above-at : (n : ℕ) (ps : List (Place X)) (i : ℕ) (p : Place X) → AreAbove number n ps → slice_get ps i ≡ Some p → n < number_at number p
+  pub above-at : (n : ℕ) (ps : List (Place X)) (i : ℕ) (p : Place X) → AreAbove number n ps → slice_get ps i ≡ Some p → n < number_at number p
   above-at n [] i p above e = absurd cc
   above-at n (q ∷ rest) zero p above e = let here : q ≡ p = cc in subst (λ r. n < number_at number r) here above.0
   above-at n (q ∷ rest) (suc i) p above e = above-at n rest i p above.1 e
@@ -141,7 +141,7 @@ module _ {X : Type 0} (number : X → ℕ) where
   last-gap n (Here x ∷ rest) p all l = last-gap n rest p (All-tail (λ x. number x < n) x (things_at (rest ++ p ∷ [])) all) l
   last-gap n (Gap m ∷ rest) p all l = last-gap n rest p all l
 
-  above-nowhere : (n : ℕ) (ps : List (Place X)) → AreAbove number n ps → IsNowhere number n ps
+  pub above-nowhere : (n : ℕ) (ps : List (Place X)) → AreAbove number n ps → IsNowhere number n ps
   above-nowhere n ps above = λ i x at. let l = above-at n ps i (Here x) above at in grind (arith, nat_tests, l)
 
   -- ---- a thing at its place

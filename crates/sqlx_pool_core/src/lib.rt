@@ -15,7 +15,6 @@ mod outside;
 mod pool_core;
 mod steps;
 mod ticket;
-mod ticket_places;
 mod tickets;
 
 pub use options::PoolOptions;

@@ -7,7 +7,7 @@ ghost use Rattle.sqlx_pool_core.specs.Shared.{waits_before};
 ghost use Rattle.sqlx_pool_core.specs.Edits.{without_ticket, with_ticket};
 
 use crate::ticket::{Phase, Ticket};
-use crate::ticket_places::{Place, drop_first_gaps, drop_last_gaps, find, make_room};
+use sqlx_numbered::{Numbering, Place, drop_first_gaps, drop_last_gaps, find_place, make_room};
 use sqlx_text::OutOfMemory;
 use std::alloc::Global;
 use std::collections::VecDeque;
@@ -20,7 +20,7 @@ const MOST: usize = 1 << 57;
 #[derive(Drop)]
 pub struct Tickets {
     // The gaps before the first ticket are taken away, the others closed where the places are used up.
-    places: VecDeque<Place>,
+    places: VecDeque<Place<Ticket>>,
     len: usize,
     // How many have left the line.
     gone: usize,
@@ -29,13 +29,24 @@ pub struct Tickets {
 impl Model for Tickets {
     ghost use Rattle.std.specs.Prelude.{List};
     ghost use Rattle.sqlx_pool_core.specs.declared.ticket.Ticket.{Ticket};
-    ghost use Rattle.sqlx_pool_core.specs.Tickets.{AreKept, tickets_at};
+    ghost use Rattle.sqlx_numbered.specs.Rising.{things_at};
+    ghost use Rattle.sqlx_pool_core.specs.Tickets.{AreKept};
 
     ghost Value = { List Ticket };
 
-    ghost view = { λ s. tickets_at s.places.items };
+    ghost view = { λ s. things_at s.places.items };
 
     ghost invariant = { λ s. AreKept s.places.items s.len s.gone };
+}
+
+impl Numbering<Ticket> for Tickets {
+    ghost use Rattle.sqlx_pool_core.specs.Sound.{number_of};
+
+    ghost number = { number_of };
+
+    fn number(thing: &Ticket) -> u64 {
+        thing.number
+    }
 }
 
 impl Phase {
@@ -114,7 +125,7 @@ impl Tickets {
     {
         self.places
             .iter()
-            .filter_map(|p| p.ticket())
+            .filter_map(|p| p.thing())
             .filter(|x| x.phase.is_out())
             .take(self.gone)
             .filter(|x| matches!(x.phase, Phase::Testing { .. }))
@@ -129,7 +140,7 @@ impl Tickets {
     {
         self.places
             .iter()
-            .filter_map(|p| p.ticket())
+            .filter_map(|p| p.thing())
             .filter(|x| x.phase.is_out())
             .take(self.gone)
             .map(|x| tests_left(&x, tries) as usize)
@@ -152,7 +163,7 @@ impl Tickets {
     {
         self.places
             .iter()
-            .filter_map(|p| p.ticket())
+            .filter_map(|p| p.thing())
             .take_while(|x| number != x.number)
             .filter(|x| !x.phase.is_out())
             .count()
@@ -164,7 +175,7 @@ impl Tickets {
     {
         self.places
             .iter()
-            .filter_map(|p| p.ticket())
+            .filter_map(|p| p.thing())
             .filter(|x| !x.phase.is_out() && x.number < number)
             .count()
     }
@@ -180,7 +191,7 @@ impl Tickets {
     pub fn find(&self, client: u32, number: u64) -> Option<Ticket>
         ensures { result ≡ ticket_of client number self.now }
     {
-        let (_, found) = find(&self.places, number)?;
+        let (_, found) = find_place::<Ticket, Tickets>(&self.places, number)?;
         if found.client == client {
             Some(*found)
         } else {
@@ -192,11 +203,11 @@ impl Tickets {
     pub fn end(&mut self, number: u64)
         ensures { self.new ≡ without_ticket number self.old }
     {
-        if let Some((place, ended)) = find(&self.places, number) {
+        if let Some((place, ended)) = find_place::<Ticket, Tickets>(&self.places, number) {
             self.gone -= one_if_gone(ended);
             self.len -= 1;
             self.places[place] = Place::Gap(number);
-            drop_first_gaps(&mut self.places);
+            drop_first_gaps::<Ticket, Tickets>(&mut self.places);
         }
     }
 
@@ -204,7 +215,7 @@ impl Tickets {
     pub fn put(&mut self, ticket: Ticket)
         ensures { self.new ≡ with_ticket ticket.number (λ _. ticket) self.old }
     {
-        if let Some((place, before)) = find(&self.places, ticket.number) {
+        if let Some((place, before)) = find_place::<Ticket, Tickets>(&self.places, ticket.number) {
             self.gone -= one_if_gone(before);
             self.gone += one_if_gone(&ticket);
             self.places[place] = Place::Here(ticket);
@@ -221,8 +232,8 @@ impl Tickets {
         if self.len == MOST {
             return Err(OutOfMemory);
         }
-        make_room(&mut self.places, self.len);
-        drop_last_gaps(&mut self.places, ticket.number);
+        make_room::<Ticket, Tickets>(&mut self.places, self.len);
+        drop_last_gaps::<Ticket, Tickets>(&mut self.places, ticket.number);
         if self.places.push_back(Place::Here(ticket)).is_err() {
             return Err(OutOfMemory);
         }

@@ -1,7 +1,9 @@
 use Rattle.std.proofs.Common.{◌∙◌, sym, ap, arith, length}
 use Rattle.sqlx_pool_core.specs.Core.{gone}
-use Rattle.sqlx_pool_core.specs.declared.ticket_places.Place.TheVariants.{Gap}
-use Rattle.sqlx_pool_core.proofs.TicketPlaces.{found-at, missing, counted-at, rising-set}
+use Rattle.sqlx_numbered.specs.declared.rising_places.Place.TheVariants.{Gap}
+use Rattle.sqlx_numbered.proofs.Rising.{rising-set}
+use Rattle.sqlx_pool_core.specs.Sound.{number_of}
+use Rattle.sqlx_pool_core.proofs.TicketPlaces.{found-at, missing, counted-at}
 use Rattle.sqlx_pool_core.proofs.tickets.Tickets.end.Goals as goal
 
 pub overflow_sub-self : goal.overflow_sub-self
@@ -17,12 +19,12 @@ overflow_sub-self-in-Some c =
 pub drop_first_gaps-requires : goal.drop_first_gaps-requires
 drop_first_gaps-requires c =
     let there = c.in-Some.ensures.some in
-    rising-set c.self.inside.places.items c.in-Some.place _ (Gap c.args.number) c.self.invariant.rising there.0 (sym there.1)
+    rising-set number_of c.self.inside.places.items c.in-Some.place _ (Gap c.args.number) c.self.invariant.rising there.0 (sym there.1)
 
 pub invariant_of-self : goal.invariant_of-self
 invariant_of-self c =
     let counts = counted-at c.args.number c.self.inside.places.items c.in-Some.place c.in-Some.ended.now c.in-Some.ensures.some.0 in
-    let same = c.drop_first_gaps.ensures.tickets in
+    let same = c.drop_first_gaps.ensures.things in
     record {
       rising = c.drop_first_gaps.ensures.rising;
       counted_right = omega (arith, ap length same, counts.len, c.self.invariant.counted_right);
@@ -34,9 +36,9 @@ pub returns-in-Some : goal.returns-in-Some
 returns-in-Some c =
     let there = c.in-Some.ensures.some in
     let at = found-at 0 c.args.number c.self.inside.places.items c.in-Some.place c.in-Some.ended.now c.self.invariant.rising there.0 there.1 in
-    rw (← c.self.view_is) (c.drop_first_gaps.ensures.tickets ∙ at.ended)
+    rw (← c.self.view_is) (c.drop_first_gaps.ensures.things ∙ at.ended)
 
 pub returns-in_default : goal.returns-in_default
 returns-in_default c =
-    let none = rw c.in_default.is at c.find.ensures.none in
+    let none = rw c.in_default.is at c.find_place.ensures.none in
     rw (← c.self.view_is) (sym (missing 0 c.args.number c.self.inside.places.items none).ended)

@@ -4,7 +4,7 @@ use Rattle.sqlx_pool_core.proofs.tickets.Tickets.find.Goals as goal
 
 pub returns-in_err-found : goal.returns-in_err-found
 returns-in_err-found c =
-    let none = rw c.in_err-found.was at c.find.ensures.none in
+    let none = rw c.in_err-found.was at c.find_place.ensures.none in
     rw (← c.self.view_is) (c.from_residual.ensures ∙ sym (missing c.args.client c.args.number c.self.inside.places.items none).found)
 
 pub returns-then-found-client : goal.returns-then-found-client

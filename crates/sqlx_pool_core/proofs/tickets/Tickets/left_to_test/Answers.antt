@@ -1,4 +1,4 @@
-use Rattle.std.proofs.Common.{rules, tests, arith, ◌≡◌, ◌+◌, ◌-◌, ◌*◌, ◌≤◌, length}
+use Rattle.std.proofs.Common.{rules, tests, arith, ◌≡◌, ◌-◌}
 use Rattle.sqlx_pool_core.proofs.Counting.{few-left}
 use Rattle.sqlx_pool_core.proofs.TicketPlaces.{left-parts}
 use Rattle.sqlx_pool_core.proofs.tickets.Tickets.left_to_test.Goals as goal

@@ -1,6 +1,8 @@
 use Rattle.std.proofs.Common.{◌∙◌, sym, arith}
-use Rattle.sqlx_pool_core.specs.declared.ticket_places.Place.TheVariants.{Here}
-use Rattle.sqlx_pool_core.proofs.TicketPlaces.{found-at, missing, counted-at, rising-set}
+use Rattle.sqlx_numbered.specs.declared.rising_places.Place.TheVariants.{Here}
+use Rattle.sqlx_numbered.proofs.Rising.{rising-set}
+use Rattle.sqlx_pool_core.specs.Sound.{number_of}
+use Rattle.sqlx_pool_core.proofs.TicketPlaces.{found-at, missing, counted-at}
 use Rattle.sqlx_pool_core.proofs.tickets.Tickets.put.Goals as goal
 
 pub overflow_sub-self : goal.overflow_sub-self
@@ -15,7 +17,7 @@ invariant_of-self c =
     let w = c.args.ticket in
     let counts = counted-at w.number c.self.inside.places.items c.in-Some.place c.in-Some.before.now there.0 in
     record {
-      rising = rising-set c.self.inside.places.items c.in-Some.place _ (Here w) c.self.invariant.rising there.0 (sym there.1);
+      rising = rising-set number_of c.self.inside.places.items c.in-Some.place _ (Here w) c.self.invariant.rising there.0 (sym there.1);
       counted_right = c.self.invariant.counted_right ∙ sym (counts.same_len w);
       out_right = omega (arith, counts.gone_with w, counts.gone_without, c.self.invariant.out_right, c.one_if_gone.ensures, c.one_if_gone-in-Some.ensures);
       few = c.self.invariant.few;
@@ -29,5 +31,5 @@ returns-in-Some c =
 
 pub returns-in_default : goal.returns-in_default
 returns-in_default c =
-    let none = rw c.in_default.is at c.find.ensures.none in
+    let none = rw c.in_default.is at c.find_place.ensures.none in
     rw (← c.self.view_is) (sym ((missing 0 c.args.ticket.number c.self.inside.places.items none).changed c.args.ticket))
