@@ -107,7 +107,7 @@ fn the_minimum_ends_at_the_first_refusal(rt: HostRuntime) -> Result<(), Fail> {
         let filled = core.keep_minimum(alloc, Moment(1), &(), &mut out);
         assert_eq!(rt; filled.opened, opened);
         assert_eq!(rt; filled.short, !memory);
-        assert_eq!(rt; core.num_idle() as u32, opened);
+        assert_eq!(rt; core.num_idle(), opened as usize);
     }
     Ok(())
 }
