@@ -1,6 +1,8 @@
 //! The texts that begin, keep and undo a level of a transaction.
-ghost use Rattle.std.specs.Prelude.{◌++◌};
-ghost use Rattle.std.specs.Fmt.{WritesOnOk, decimal};
+ghost use Rattle.std.specs.Prelude.{◌≡◌, ◌++◌, ◌≤◌, [], length};
+ghost use Rattle.std.specs.Fmt.{decimal};
+ghost use Rattle.std.specs.Option.{option_map_or};
+ghost use Rattle.sqlx_savepoints.specs.Texts.{text_of};
 
 use std::fmt;
 
@@ -23,12 +25,23 @@ pub enum LevelText {
     RollbackTo(u64),
 }
 
-// Writes words and a number behind them.
-fn write_numbered<W: fmt::Write>(f: &mut fmt::Formatter<W>, words: &str, n: u64) -> fmt::Result
-    ensures { WritesOnOk W.write_str_gives f.old result (words.now ++ decimal n) f.new }
-{
-    f.write_str(words)?;
-    f.write(n)
+impl LevelText {
+    /// The words of the text, and the number of a savepoint that stands behind them, if one does.
+    #[inline]
+    pub fn parts(&self) -> (&'static str, Option<u64>)
+        ensures text { text_of self.now ≡ result.0.now ++ option_map_or decimal result.1 [] }
+        ensures short { length result.0.now ≤ 39 }
+    {
+        match *self {
+            LevelText::Begin => ("BEGIN", None),
+            LevelText::BeginImmediate => ("BEGIN IMMEDIATE", None),
+            LevelText::Commit => ("COMMIT", None),
+            LevelText::Rollback => ("ROLLBACK", None),
+            LevelText::Savepoint(n) => ("SAVEPOINT _sqlx_savepoint_", Some(n)),
+            LevelText::Release(n) => ("RELEASE SAVEPOINT _sqlx_savepoint_", Some(n)),
+            LevelText::RollbackTo(n) => ("ROLLBACK TO SAVEPOINT _sqlx_savepoint_", Some(n)),
+        }
+    }
 }
 
 impl fmt::Display for LevelText {
@@ -38,18 +51,11 @@ impl fmt::Display for LevelText {
     ghost output = { λ level. Some (text_of level) };
 
     fn fmt<W: fmt::Write>(&self, f: &mut fmt::Formatter<W>) -> fmt::Result {
-        match *self {
-            LevelText::Begin => f.write_str("BEGIN"),
-            LevelText::BeginImmediate => f.write_str("BEGIN IMMEDIATE"),
-            LevelText::Commit => f.write_str("COMMIT"),
-            LevelText::Rollback => f.write_str("ROLLBACK"),
-            LevelText::Savepoint(n) => write_numbered(f, "SAVEPOINT _sqlx_savepoint_", n),
-            LevelText::Release(n) => write_numbered(f, "RELEASE SAVEPOINT _sqlx_savepoint_", n),
-            LevelText::RollbackTo(n) => write_numbered(
-                f,
-                "ROLLBACK TO SAVEPOINT _sqlx_savepoint_",
-                n,
-            ),
+        let (words, number) = self.parts();
+        f.write_str(words)?;
+        match number {
+            Some(n) => f.write(n),
+            None => Ok(()),
         }
     }
 }
