@@ -1,13 +1,11 @@
 //! Plays a script.
-ghost use Rattle.std.specs.Prelude.{◌≡◌, true, ◌^◌, ◌≤◌, ℕ, List, length, IfOk, IfErr, IfSome, OnOk};
+ghost use Rattle.std.specs.Prelude.{◌≡◌, true, ◌^◌, ◌≤◌, ℕ, List, length, IfOk, IfErr, OnOk};
 ghost use Rattle.std.specs.Io.KnownBytes.{Appends};
-ghost use Rattle.std.specs.String.{string_bytes};
-ghost use Rattle.sqlx_script.specs.Texts.{line_of};
 ghost use Rattle.sqlx_script.specs.Built.{has_few_opens};
 ghost use Rattle.sqlx_script.specs.Grammar.{limit};
 ghost use Rattle.sqlx_play.specs.stage.EventFrame.{Frame};
 ghost use Rattle.sqlx_play.specs.stage.StageStands.{IsFresh, last_of, numbers_of};
-ghost use Rattle.sqlx_play.specs.Causes.{TookAll, WrotePart, TextCause, ScriptCause, PlayCause, IsComplete, shown};
+ghost use Rattle.sqlx_play.specs.Causes.{TookAll, TextCause, ScriptCause, PlayCause, IsComplete, shown};
 ghost use Rattle.sqlx_play.specs.Plays.{Replies, RepliesInPart, PlaysLines, LinesCause, Plays};
 
 use crate::error::PlayError;
@@ -16,10 +14,8 @@ use crate::pour::{read_all, write_all};
 use crate::stage::{Stage, answer, new_stage, report};
 use mem_acts::{ClientLink, MemStore, Route};
 use sqlx_pool_core::PoolCore;
-use sqlx_script::{Event, cut_line, read_event, read_pool_line};
-use std::alloc::{AllocError, Global};
-use std::fmt;
-use std::fmt::Display;
+use sqlx_script::{Event, OutputLine, cut_line, read_event, read_pool_line};
+use std::alloc::Global;
 
 /// What a script left: the pool's core and the database that it was played on.
 #[derive(Drop)]
@@ -28,40 +24,13 @@ pub struct Played {
     pub store: MemStore,
 }
 
-// Makes a line of a value's text and a newline. Its room is used again.
-fn set_line<T: Display>(line: &mut String, value: &T) -> Result<(), AllocError>
-    ensures { OnOk result (IfSome (T.output value.now) (λ text. string_bytes line.new ≡ line_of text)) }
-{
-    line.clear();
-    match fmt::Write::write(line, value) {
-        Ok(()) => line.push_str("\n"),
-        Err(_) => Err(AllocError),
-    }
-}
-
-// Writes a value's text and a newline, by one call if the sink takes it whole.
-#[tactic(auto, using(crate::proofs::scripts::Parts::none_yet))]
-fn write_line<K: Sink, T: Display>(
-    line: &mut String,
-    sink: &mut K,
-    value: &T,
-) -> Result<(), PlayError>
-    ensures ok { OnOk result (IfSome (T.output value.now) (λ text. Appends (K.written sink.old) (K.written sink.new) (line_of text))) }
-    ensures rises { K.faults sink.old ≤ K.faults sink.new }
-    ensures cause { IfErr result (TextCause (λ _. ⊥) (IfSome (T.output value.now) (λ text. WrotePart (K.written sink.old) (K.written sink.new) (line_of text)))
-        (K.faults sink.old) (K.faults sink.new)) }
-{
-    set_line(line, value)?;
-    write_all(sink, line.as_bytes())
-}
-
 // Plays an event and writes its reply.
 #[tactic(auto, using(crate::proofs::scripts::Parts::none_yet))]
 fn play_event<R: Route, K: Sink>(
     alloc: Global,
     stage: &mut Stage,
     event: &Event,
-    line: &mut String,
+    line: &mut OutputLine,
     sink: &mut K,
 ) -> Result<(), PlayError>
     requires few { has_few_opens event.now.step ≡ true }
@@ -73,7 +42,8 @@ fn play_event<R: Route, K: Sink>(
     ensures cause { IfErr result (TextCause (λ _. ⊥) (RepliesInPart (K.written sink.old) (K.written sink.new) stage.old event.now) (K.faults sink.old) (K.faults sink.new)) }
 {
     let reply = answer::<R>(stage, alloc, event)?;
-    write_line(line, sink, &reply)
+    reply.set_line(line);
+    write_all(sink, line.as_str().as_bytes())
 }
 
 // Plays the lines after the first.
@@ -81,7 +51,7 @@ fn play_lines<R: Route, K: Sink>(
     alloc: Global,
     stage: &mut Stage,
     text: &[u8],
-    reply: &mut String,
+    reply: &mut OutputLine,
     sink: &mut K,
 ) -> Result<(), PlayError>
     requires fresh { IsFresh stage.old }
@@ -137,17 +107,18 @@ fn play_text<R: Route, K: Sink>(
     if text.is_empty() {
         return Err(PlayError::ScriptLine(1));
     }
-    let (line, rest) = cut_line(text);
-    let Some(pool) = read_pool_line(line) else {
+    let (first, rest) = cut_line(text);
+    let Some(pool) = read_pool_line(first) else {
         return Err(PlayError::ScriptLine(1));
     };
     let mut stage = new_stage(alloc, pool)?;
-    let mut reply = String::new(alloc);
-    if let Err(error) = play_lines::<R, K>(alloc, &mut stage, rest, &mut reply, sink) {
+    let mut line = OutputLine::new();
+    if let Err(error) = play_lines::<R, K>(alloc, &mut stage, rest, &mut line, sink) {
         drop(stage);
         return Err(error);
     }
-    if let Err(error) = write_line(&mut reply, sink, &report(&stage)) {
+    report(&stage).set_line(&mut line);
+    if let Err(error) = write_all(sink, line.as_str().as_bytes()) {
         drop(stage);
         return Err(error);
     }

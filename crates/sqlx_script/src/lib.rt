@@ -8,6 +8,7 @@ pub mod laws;
 mod letters;
 mod lines;
 mod numbers;
+mod output_line;
 mod pool_line;
 mod reading;
 mod reply;
@@ -20,6 +21,7 @@ pub use answers::{
 };
 pub use lines::cut_line;
 pub use numbers::number_in;
+pub use output_line::{OutputLine, push_number};
 pub use pool_line::PoolLine;
 pub use reading::{read_event, read_pool_line};
 pub use reply::Reply;

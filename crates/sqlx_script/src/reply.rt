@@ -1,9 +1,8 @@
 //! The replies to the events of a script.
-ghost use Rattle.std.specs.Prelude.{◌≡◌, ◌++◌};
-ghost use Rattle.std.specs.Fmt.{WritesOnOk};
-ghost use Rattle.sqlx_script.specs.Texts.{reply_text, reply_numbers};
+ghost use Rattle.std.specs.Prelude.{◌≡◌, ◌++◌, ◌≤◌, [], length};
+ghost use Rattle.sqlx_script.specs.Texts.{reply_text, reply_numbers, line_of};
 
-use itoa::{Buffer, Integer};
+use crate::output_line::{OutputLine, push_level, push_number};
 use sqlx_savepoints::LevelText;
 use std::fmt;
 
@@ -73,7 +72,8 @@ pub enum Reply {
 impl Reply {
     // The text, or what stands of it before the first number.
     fn words(&self) -> &'static str
-        ensures { reply_text self.now ≡ result.now ++ reply_numbers self.now }
+        ensures text { reply_text self.now ≡ result.now ++ reply_numbers self.now }
+        ensures short { length result.now ≤ 25 }
     {
         match self {
             Reply::Ticket(_) => "ticket ",
@@ -107,24 +107,13 @@ impl Reply {
             Reply::RowNotFound => "RowNotFound",
         }
     }
-}
 
-// Writes a number by its digits alone, whatever a formatter may be told of widths and signs.
-#[inline]
-fn write_number<W: fmt::Write, I: Integer>(f: &mut fmt::Formatter<W>, n: I) -> fmt::Result
-    ensures { WritesOnOk W.write_str_gives f.old result (I.text n) f.new }
-{
-    let mut digits = Buffer::new();
-    f.write_str(digits.format(n))
-}
-
-impl fmt::Display for Reply {
-    ghost use Rattle.std.specs.Prelude.{Some};
-
-    ghost output = { λ reply. Some (reply_text reply) };
-
-    fn fmt<W: fmt::Write>(&self, f: &mut fmt::Formatter<W>) -> fmt::Result {
-        f.write_str(self.words())?;
+    // Puts what stands in the text from the first number on behind what the line holds.
+    fn push_numbers(&self, line: &mut OutputLine)
+        requires room { length line.old.bytes ≤ 25 }
+        ensures bytes { line.new.bytes ≡ line.old.bytes ++ reply_numbers self.now }
+        ensures short { length line.new.bytes ≤ 127 }
+    {
         match *self {
             Reply::Ticket(n)
             | Reply::Ready(n)
@@ -133,20 +122,50 @@ impl fmt::Display for Reply {
             | Reply::Leaked(n)
             | Reply::Opened(n)
             | Reply::Closing(n)
-            | Reply::Written(n) => write_number(f, n),
-            Reply::Backoff(until) => write_number(f, until),
+            | Reply::Written(n) => push_number(line, n),
+            Reply::Backoff(until) => push_number(line, until),
             Reply::Reaped { reaped, opened } => {
-                write_number(f, reaped)?;
-                f.write_str(" opened ")?;
-                write_number(f, opened)
+                push_number(line, reaped);
+                line.push_str(" opened ");
+                push_number(line, opened);
             }
             Reply::Level { depth, text } => {
-                write_number(f, depth)?;
-                f.write_str(" ")?;
-                text.fmt(f)
+                push_number(line, depth);
+                line.push_str(" ");
+                push_level(line, text);
             }
-            Reply::Value(value) => write_number(f, value),
-            _ => Ok(()),
+            Reply::Value(value) => push_number(line, value),
+            _ => (),
         }
+    }
+
+    // Puts the text in place of what the line holds.
+    fn set_text(&self, line: &mut OutputLine)
+        ensures bytes { line.new.bytes ≡ reply_text self.now }
+        ensures short { length line.new.bytes ≤ 127 }
+    {
+        line.clear();
+        line.push_str(self.words());
+        self.push_numbers(line);
+    }
+
+    /// Puts the text and a newline in place of what the line holds.
+    pub fn set_line(&self, line: &mut OutputLine)
+        ensures { line.new.bytes ≡ line_of (reply_text self.now) }
+    {
+        self.set_text(line);
+        line.push_str("\n");
+    }
+}
+
+impl fmt::Display for Reply {
+    ghost use Rattle.std.specs.Prelude.{Some};
+
+    ghost output = { λ reply. Some (reply_text reply) };
+
+    fn fmt<W: fmt::Write>(&self, f: &mut fmt::Formatter<W>) -> fmt::Result {
+        let mut line = OutputLine::new();
+        self.set_text(&mut line);
+        f.write_str(line.as_str())
     }
 }

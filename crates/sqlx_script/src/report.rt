@@ -1,4 +1,8 @@
 //! The closing report of a script.
+ghost use Rattle.std.specs.Prelude.{◌≡◌, ◌≤◌, length};
+ghost use Rattle.sqlx_script.specs.Texts.{report_text, line_of};
+
+use crate::output_line::{OutputLine, push_number};
 use std::fmt;
 
 /// What the pool holds after the last event.
@@ -14,22 +18,40 @@ pub struct Report {
     pub waiting: u64,
 }
 
+impl Report {
+    // Puts the text in place of what the line holds.
+    fn set_text(&self, line: &mut OutputLine)
+        ensures bytes { line.new.bytes ≡ report_text self.now }
+        ensures short { length line.new.bytes ≤ 127 }
+    {
+        line.clear();
+        line.push_str("held ");
+        push_number(line, self.held);
+        line.push_str(" idle ");
+        push_number(line, self.idle);
+        line.push_str(" leaked ");
+        push_number(line, self.leaked);
+        line.push_str(" waiting ");
+        push_number(line, self.waiting);
+    }
+
+    /// Puts the text and a newline in place of what the line holds.
+    pub fn set_line(&self, line: &mut OutputLine)
+        ensures { line.new.bytes ≡ line_of (report_text self.now) }
+    {
+        self.set_text(line);
+        line.push_str("\n");
+    }
+}
+
 impl fmt::Display for Report {
     ghost use Rattle.std.specs.Prelude.{Some};
-    ghost use Rattle.sqlx_script.specs.Texts.{report_text};
 
     ghost output = { λ report. Some (report_text report) };
 
     fn fmt<W: fmt::Write>(&self, f: &mut fmt::Formatter<W>) -> fmt::Result {
-        let Report {
-            held,
-            idle,
-            leaked,
-            waiting,
-        } = self;
-        write!(
-            f,
-            "held {held} idle {idle} leaked {leaked} waiting {waiting}"
-        )
+        let mut line = OutputLine::new();
+        self.set_text(&mut line);
+        f.write_str(line.as_str())
     }
 }

@@ -1,0 +1,35 @@
+//! The line in which a text of the language is made, without memory of the allocator's.
+ghost use Rattle.std.specs.Prelude.{◌≡◌, ◌+◌, ◌++◌, ◌≤◌, length};
+ghost use Rattle.sqlx_savepoints.specs.Texts.{text_of};
+
+use arrayvec::ArrayString;
+use itoa::{Buffer, Integer};
+use sqlx_savepoints::LevelText;
+
+/// A line of a script or of its output, which lies in the value itself. Each line that is made fits into 128 bytes.
+pub type OutputLine = ArrayString<128>;
+
+/// Puts a number's digits behind what the line holds.
+#[inline]
+pub fn push_number<I: Integer>(line: &mut OutputLine, n: I)
+    requires room { length line.old.bytes + I.MAX_STR_LEN ≤ 128 }
+    ensures bytes { line.new.bytes ≡ line.old.bytes ++ I.text n }
+    ensures short { length line.new.bytes ≤ length line.old.bytes + I.MAX_STR_LEN }
+{
+    let mut digits = Buffer::new();
+    line.push_str(digits.format(n));
+}
+
+// Puts a level's text behind what the line holds.
+#[inline]
+pub(crate) fn push_level(line: &mut OutputLine, level: LevelText)
+    requires room { length line.old.bytes ≤ 69 }
+    ensures bytes { line.new.bytes ≡ line.old.bytes ++ text_of level }
+    ensures short { length line.new.bytes ≤ length line.old.bytes + 59 }
+{
+    let (words, number) = level.parts();
+    line.push_str(words);
+    if let Some(n) = number {
+        push_number(line, n);
+    }
+}
