@@ -1,11 +1,12 @@
 //! Plays a script.
 ghost use Rattle.std.specs.Prelude.{◌≡◌, true, ◌^◌, ◌≤◌, ℕ, List, length, IfOk, IfErr, OnOk};
 ghost use Rattle.std.specs.Io.KnownBytes.{Appends};
+ghost use Rattle.sqlx_script.specs.Texts.{line_of, report_text};
 ghost use Rattle.sqlx_script.specs.Built.{has_few_opens};
 ghost use Rattle.sqlx_script.specs.Grammar.{limit};
 ghost use Rattle.sqlx_play.specs.stage.EventFrame.{Frame};
 ghost use Rattle.sqlx_play.specs.stage.StageStands.{IsFresh, last_of, numbers_of};
-ghost use Rattle.sqlx_play.specs.Causes.{TookAll, TextCause, ScriptCause, PlayCause, IsComplete, shown};
+ghost use Rattle.sqlx_play.specs.Causes.{TookAll, WrotePart, TextCause, ScriptCause, PlayCause, IsComplete, shown};
 ghost use Rattle.sqlx_play.specs.Plays.{Replies, RepliesInPart, PlaysLines, LinesCause, Plays};
 
 use crate::error::PlayError;
@@ -14,7 +15,7 @@ use crate::pour::{read_all, write_all};
 use crate::stage::{Stage, answer, new_stage, report};
 use mem_acts::{ClientLink, MemStore, Route};
 use sqlx_pool_core::PoolCore;
-use sqlx_script::{Event, OutputLine, cut_line, read_event, read_pool_line};
+use sqlx_script::{Event, OutputLine, Report, cut_line, read_event, read_pool_line};
 use std::alloc::Global;
 
 /// What a script left: the pool's core and the database that it was played on.
@@ -93,6 +94,21 @@ fn played_on(stage: Stage) -> Played
     }
 }
 
+// Writes the closing report, by one call if the sink takes it whole.
+fn write_report<K: Sink>(
+    line: &mut OutputLine,
+    sink: &mut K,
+    report: &Report,
+) -> Result<(), PlayError>
+    ensures ok { OnOk result (Appends (K.written sink.old) (K.written sink.new) (line_of (report_text report.now))) }
+    ensures rises { K.faults sink.old ≤ K.faults sink.new }
+    ensures cause { IfErr result (TextCause (λ _. ⊥) (WrotePart (K.written sink.old) (K.written sink.new) (line_of (report_text report.now)))
+        (K.faults sink.old) (K.faults sink.new)) }
+{
+    report.set_line(line);
+    write_all(sink, line.as_str().as_bytes())
+}
+
 // Plays a script that was read whole.
 fn play_text<R: Route, K: Sink>(
     alloc: Global,
@@ -117,8 +133,7 @@ fn play_text<R: Route, K: Sink>(
         drop(stage);
         return Err(error);
     }
-    report(&stage).set_line(&mut line);
-    if let Err(error) = write_all(sink, line.as_str().as_bytes()) {
+    if let Err(error) = write_report(&mut line, sink, &report(&stage)) {
         drop(stage);
         return Err(error);
     }

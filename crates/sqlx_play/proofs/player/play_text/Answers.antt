@@ -20,15 +20,15 @@ returns-in-Err-clause-cause g c =
     let is = script_is c.args.text.now c.cut_line.result.0.now c.cut_line.result.1.now c.in_ok-stage.stage.pool c.cut_line.ensures.line (sym c.read_pool_line.ensures.says ∙ c.in-Some.is ∙ ap Some (sym c.in_ok-stage.ensures.pool)) in
     cause_at_first _ _ _ _ _ _ c.in-Err.error (λ n. stops_later c.args.text.now c.cut_line.result.1.now _ _ _ n is) (part_of_replies c.args.text.now c.cut_line.result.1.now _ _ _ is) c.in-Err.ensures.cause
 
-pub returns-in-Err-write_line-clause-cause : goal.returns-in-Err-write_line-clause-cause
-returns-in-Err-write_line-clause-cause g c =
+pub returns-in-Err-write_report-clause-cause : goal.returns-in-Err-write_report-clause-cause
+returns-in-Err-write_report-clause-cause g c =
     let is = script_is c.args.text.now c.cut_line.result.0.now c.cut_line.result.1.now c.in_ok-stage.stage.pool c.cut_line.ensures.line (sym c.read_pool_line.ensures.says ∙ c.in-Some.is ∙ ap Some (sym c.in_ok-stage.ensures.pool)) in
-    cause_of _ _ _ _ _ _ _ c.in-Err-write_line.error (λ n stops. absurd stops)
-    (part_of_report c.args.text.now c.cut_line.result.1.now _ _ _ _ _ _ is c.play_lines.ensures.pool c.in_default-play_lines.ensures.ok c.report.ensures) c.play_lines.ensures.rises c.in-Err-write_line.ensures.cause
+    cause_of _ _ _ _ _ _ _ c.in-Err-write_report.error (λ n stops. absurd stops)
+    (part_of_report c.args.text.now c.cut_line.result.1.now _ _ _ _ _ _ is c.play_lines.ensures.pool c.in_default-play_lines.ensures.ok c.report.ensures) c.play_lines.ensures.rises c.in-Err-write_report.ensures.cause
 
 pub returns-clause-ok : goal.returns-clause-ok
 returns-clause-ok g c =
     let is = script_is c.args.text.now c.cut_line.result.0.now c.cut_line.result.1.now c.in_ok-stage.stage.pool c.cut_line.ensures.line (sym c.read_pool_line.ensures.says ∙ c.in-Some.is ∙ ap Some (sym c.in_ok-stage.ensures.pool)) in
-    subst (λ (core : Core Link). Plays c.args.text.now (g.K.Sink.written c.args.sink.now) (g.K.Sink.written c.write_line.new.sink) core c.played_on.result.store) (sym c.played_on.ensures.core)
-    (subst (λ (store : Store). Plays c.args.text.now (g.K.Sink.written c.args.sink.now) (g.K.Sink.written c.write_line.new.sink) c.play_lines.new.stage.core store) (sym c.played_on.ensures.store)
-    (plays_text c.args.text.now c.cut_line.result.1.now _ _ _ _ _ _ c.requires is (subst (λ (p : PoolLine). 1 ≤ p.tries) (sym c.in_ok-stage.ensures.pool) c.in-Some.ensures.tries.0) c.play_lines.ensures.pool c.in_default-play_lines.ensures.ok c.report.ensures c.in_default-write_line.ensures.ok))
+    subst (λ (core : Core Link). Plays c.args.text.now (g.K.Sink.written c.args.sink.now) (g.K.Sink.written c.write_report.new.sink) core c.played_on.result.store) (sym c.played_on.ensures.core)
+    (subst (λ (store : Store). Plays c.args.text.now (g.K.Sink.written c.args.sink.now) (g.K.Sink.written c.write_report.new.sink) c.play_lines.new.stage.core store) (sym c.played_on.ensures.store)
+    (plays_text c.args.text.now c.cut_line.result.1.now _ _ _ _ _ _ c.requires is (subst (λ (p : PoolLine). 1 ≤ p.tries) (sym c.in_ok-stage.ensures.pool) c.in-Some.ensures.tries.0) c.play_lines.ensures.pool c.in_default-play_lines.ensures.ok c.report.ensures c.in_default-write_report.ensures.ok))
