@@ -10,19 +10,19 @@ use std::alloc::AllocError;
 // Puts a blank and a number behind what the line holds.
 #[inline]
 fn push_word(line: &mut OutputLine, n: u32)
-    requires room { length line.old.bytes ≤ 117 }
+    requires room { length line.old.bytes ≤ 107 }
     ensures bytes { line.new.bytes ≡ line.old.bytes ++ 32 ∷ decimal n }
-    ensures short { length line.new.bytes ≤ length line.old.bytes + 11 }
+    ensures short { length line.new.bytes ≤ length line.old.bytes + 21 }
 {
     line.push_str(" ");
-    push_number(line, n);
+    push_number(line, u64::from(n));
 }
 
 // The front of each line: its first word, its number and its client.
 fn set_front(line: &mut OutputLine, word: &str, number: u32, client: u32)
     requires short { length word.now ≤ 8 }
     ensures bytes { line.new.bytes ≡ word.now ++ 32 ∷ decimal number ++ 32 ∷ decimal client }
-    ensures short { length line.new.bytes ≤ 30 }
+    ensures short { length line.new.bytes ≤ 50 }
 {
     line.clear();
     line.push_str(word);

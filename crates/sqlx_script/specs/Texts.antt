@@ -38,22 +38,6 @@ reply_text (Written rows) = codes "ok " ++ decimal rows
 reply_text (Value v) = codes "value " ++ signed_decimal v
 reply_text RowNotFound = codes "RowNotFound"
 
--- what stands in the text of a reply from the first number on
-abbrev pub reply_numbers : Reply → List ℕ
-reply_numbers (Ticket n) = decimal n
-reply_numbers (Backoff until) = decimal until
-reply_numbers (Ready connection) = decimal connection
-reply_numbers (Closed opened) = decimal opened
-reply_numbers (Detached opened) = decimal opened
-reply_numbers (Leaked opened) = decimal opened
-reply_numbers (Reaped reaped opened) = decimal reaped ++ codes " opened " ++ decimal opened
-reply_numbers (Opened opened) = decimal opened
-reply_numbers (Closing closed) = decimal closed
-reply_numbers (Level depth text) = decimal depth ++ codes " " ++ text_of text
-reply_numbers (Written rows) = decimal rows
-reply_numbers (Value v) = signed_decimal v
-reply_numbers _ = []
-
 -- the text of the closing report, without its newline
 abbrev pub report_text : Report → List ℕ
 report_text r = codes "held " ++ decimal r.held ++ codes " idle " ++ decimal r.idle ++ codes " leaked " ++ decimal r.leaked ++ codes " waiting " ++ decimal r.waiting

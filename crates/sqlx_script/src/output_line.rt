@@ -1,5 +1,6 @@
 //! The line in which a text of the language is made, without memory of the allocator's.
 ghost use Rattle.std.specs.Prelude.{◌≡◌, ◌+◌, ◌++◌, ◌≤◌, length};
+ghost use Rattle.std.specs.Fmt.{decimal};
 ghost use Rattle.sqlx_savepoints.specs.Texts.{text_of};
 
 use arrayvec::ArrayString;
@@ -9,15 +10,30 @@ use sqlx_savepoints::LevelText;
 /// A line of a script or of its output, which lies in the value itself. Each line that is made fits into 128 bytes.
 pub type OutputLine = ArrayString<128>;
 
-/// Puts a number's digits behind what the line holds.
+// Puts the digits of a number of any kind behind what the line holds.
 #[inline]
-pub fn push_number<I: Integer>(line: &mut OutputLine, n: I)
+pub(crate) fn push_integer<I: Integer>(line: &mut OutputLine, n: I)
     requires room { length line.old.bytes + I.MAX_STR_LEN ≤ 128 }
     ensures bytes { line.new.bytes ≡ line.old.bytes ++ I.text n }
     ensures short { length line.new.bytes ≤ length line.old.bytes + I.MAX_STR_LEN }
 {
     let mut digits = Buffer::new();
     line.push_str(digits.format(n));
+}
+
+/// Puts a number's digits behind what the line holds. Most numbers of a line have one.
+#[inline]
+#[tactic(auto, using(std::proofs::lemmas::Fmt::decimal_digit))]
+pub fn push_number(line: &mut OutputLine, n: u64)
+    requires room { length line.old.bytes ≤ 108 }
+    ensures bytes { line.new.bytes ≡ line.old.bytes ++ decimal n }
+    ensures short { length line.new.bytes ≤ length line.old.bytes + 20 }
+{
+    if n < 10 {
+        line.push((b'0' + n as u8) as char);
+    } else {
+        push_integer(line, n);
+    }
 }
 
 // Puts a level's text behind what the line holds.

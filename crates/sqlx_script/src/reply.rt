@@ -1,8 +1,10 @@
 //! The replies to the events of a script.
-ghost use Rattle.std.specs.Prelude.{◌≡◌, ◌++◌, ◌≤◌, [], length};
-ghost use Rattle.sqlx_script.specs.Texts.{reply_text, reply_numbers, line_of};
+ghost use Rattle.std.specs.Prelude.{◌≡◌, ◌+◌, ◌++◌, ◌≤◌, codes, length};
+ghost use Rattle.std.specs.Fmt.{decimal};
+ghost use Rattle.sqlx_savepoints.specs.Texts.{text_of};
+ghost use Rattle.sqlx_script.specs.Texts.{reply_text, line_of};
 
-use crate::output_line::{OutputLine, push_level, push_number};
+use crate::output_line::{OutputLine, push_integer, push_level, push_number};
 use sqlx_savepoints::LevelText;
 use std::fmt;
 
@@ -69,73 +71,82 @@ pub enum Reply {
     RowNotFound,
 }
 
-impl Reply {
-    // The text, or what stands of it before the first number.
-    fn words(&self) -> &'static str
-        ensures text { reply_text self.now ≡ result.now ++ reply_numbers self.now }
-        ensures short { length result.now ≤ 25 }
-    {
-        match self {
-            Reply::Ticket(_) => "ticket ",
-            Reply::PoolClosed => "PoolClosed",
-            Reply::PoolTimedOut => "PoolTimedOut",
-            Reply::NotHeld => "NotHeld",
-            Reply::Waiting => "waiting",
-            Reply::Backoff(_) => "backoff ",
-            Reply::Ready(_) => "ready ",
-            Reply::Io => "Io",
-            Reply::DatabaseRefused => "Database refused",
-            Reply::Cancelled => "cancelled",
-            Reply::NothingToLend => "none",
-            Reply::Kept => "kept",
-            Reply::Closed(_) => "closed ",
-            Reply::Detached(_) => "detached ",
-            Reply::Leaked(_) => "leaked ",
-            Reply::Reaped { .. } => "reaped ",
-            Reply::Opened(_) => "opened ",
-            Reply::Closing(_) => "closing ",
-            Reply::StateOpen => "Open",
-            Reply::StateClosing => "Closing",
-            Reply::StateClosed => "Closed",
-            Reply::Level { .. } => "level ",
-            Reply::DatabaseDeep => "Database deep",
-            Reply::DatabaseBusy => "Database busy",
-            Reply::InvalidSavePointStatement => "InvalidSavePointStatement",
-            Reply::BeginFailed => "BeginFailed",
-            Reply::Written(_) => "ok ",
-            Reply::Value(_) => "value ",
-            Reply::RowNotFound => "RowNotFound",
-        }
-    }
+// Puts words and a number behind what the line holds.
+#[inline(always)]
+fn push_counted(line: &mut OutputLine, words: &str, n: u64)
+    requires room { length line.old.bytes + length words.now ≤ 60 }
+    ensures bytes { line.new.bytes ≡ line.old.bytes ++ words.now ++ decimal n }
+    ensures short { length line.new.bytes ≤ length line.old.bytes + length words.now + 20 }
+{
+    line.push_str(words);
+    push_number(line, n);
+}
 
-    // Puts what stands in the text from the first number on behind what the line holds.
-    fn push_numbers(&self, line: &mut OutputLine)
-        requires room { length line.old.bytes ≤ 25 }
-        ensures bytes { line.new.bytes ≡ line.old.bytes ++ reply_numbers self.now }
+// Puts how many were reaped, and how many were opened, behind what the line holds.
+fn push_reaped(line: &mut OutputLine, reaped: u64, opened: u64)
+    requires empty { length line.old.bytes ≤ 0 }
+    ensures bytes { line.new.bytes ≡ line.old.bytes ++ codes "reaped " ++ decimal reaped ++ codes " opened " ++ decimal opened }
+    ensures short { length line.new.bytes ≤ 127 }
+{
+    push_counted(line, "reaped ", reaped);
+    push_counted(line, " opened ", opened);
+}
+
+// Puts a depth, and the text that ran, behind what the line holds.
+#[inline(always)]
+fn push_depth(line: &mut OutputLine, depth: u64, text: LevelText)
+    requires empty { length line.old.bytes ≤ 0 }
+    ensures bytes { line.new.bytes ≡ line.old.bytes ++ codes "level " ++ decimal depth ++ codes " " ++ text_of text }
+    ensures short { length line.new.bytes ≤ 127 }
+{
+    push_counted(line, "level ", depth);
+    line.push_str(" ");
+    push_level(line, text);
+}
+
+impl Reply {
+    // Puts the text behind what the line holds, which is nothing.
+    fn push_text(&self, line: &mut OutputLine)
+        requires empty { length line.old.bytes ≤ 0 }
+        ensures bytes { line.new.bytes ≡ line.old.bytes ++ reply_text self.now }
         ensures short { length line.new.bytes ≤ 127 }
     {
         match *self {
-            Reply::Ticket(n)
-            | Reply::Ready(n)
-            | Reply::Closed(n)
-            | Reply::Detached(n)
-            | Reply::Leaked(n)
-            | Reply::Opened(n)
-            | Reply::Closing(n)
-            | Reply::Written(n) => push_number(line, n),
-            Reply::Backoff(until) => push_number(line, until),
-            Reply::Reaped { reaped, opened } => {
-                push_number(line, reaped);
-                line.push_str(" opened ");
-                push_number(line, opened);
+            Reply::Ticket(n) => push_counted(line, "ticket ", n),
+            Reply::PoolClosed => line.push_str("PoolClosed"),
+            Reply::PoolTimedOut => line.push_str("PoolTimedOut"),
+            Reply::NotHeld => line.push_str("NotHeld"),
+            Reply::Waiting => line.push_str("waiting"),
+            Reply::Backoff(until) => {
+                line.push_str("backoff ");
+                push_integer(line, until);
             }
-            Reply::Level { depth, text } => {
-                push_number(line, depth);
-                line.push_str(" ");
-                push_level(line, text);
+            Reply::Ready(n) => push_counted(line, "ready ", n),
+            Reply::Io => line.push_str("Io"),
+            Reply::DatabaseRefused => line.push_str("Database refused"),
+            Reply::Cancelled => line.push_str("cancelled"),
+            Reply::NothingToLend => line.push_str("none"),
+            Reply::Kept => line.push_str("kept"),
+            Reply::Closed(n) => push_counted(line, "closed ", n),
+            Reply::Detached(n) => push_counted(line, "detached ", n),
+            Reply::Leaked(n) => push_counted(line, "leaked ", n),
+            Reply::Reaped { reaped, opened } => push_reaped(line, reaped, opened),
+            Reply::Opened(n) => push_counted(line, "opened ", n),
+            Reply::Closing(n) => push_counted(line, "closing ", n),
+            Reply::StateOpen => line.push_str("Open"),
+            Reply::StateClosing => line.push_str("Closing"),
+            Reply::StateClosed => line.push_str("Closed"),
+            Reply::Level { depth, text } => push_depth(line, depth, text),
+            Reply::DatabaseDeep => line.push_str("Database deep"),
+            Reply::DatabaseBusy => line.push_str("Database busy"),
+            Reply::InvalidSavePointStatement => line.push_str("InvalidSavePointStatement"),
+            Reply::BeginFailed => line.push_str("BeginFailed"),
+            Reply::Written(n) => push_counted(line, "ok ", n),
+            Reply::Value(value) => {
+                line.push_str("value ");
+                push_integer(line, value);
             }
-            Reply::Value(value) => push_number(line, value),
-            _ => (),
+            Reply::RowNotFound => line.push_str("RowNotFound"),
         }
     }
 
@@ -145,8 +156,7 @@ impl Reply {
         ensures short { length line.new.bytes ≤ 127 }
     {
         line.clear();
-        line.push_str(self.words());
-        self.push_numbers(line);
+        self.push_text(line);
     }
 
     /// Puts the text and a newline in place of what the line holds.
