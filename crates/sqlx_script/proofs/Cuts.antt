@@ -15,7 +15,8 @@ onto_some : (b : ℕ) (parts : List (List ℕ)) → onto_first b parts ≡ [] �
 onto_some b [] h = cc
 onto_some b (part ∷ parts) h = cc
 
-split_some : (c : Bool) (b : ℕ) (parts : List (List ℕ)) → cond c ([] ∷ parts) (onto_first b parts) ≡ [] → ⊥
+-- there is a word where there is a byte
+pub split_some : (c : Bool) (b : ℕ) (parts : List (List ℕ)) → cond c ([] ∷ parts) (onto_first b parts) ≡ [] → ⊥
 split_some true b parts h = cc
 split_some false b parts h = onto_some b parts h
 
@@ -24,7 +25,7 @@ pub has_word : (text : List ℕ) → slice_split is_blank text ≡ [] → ⊥
 has_word [] h = cc
 has_word (b ∷ text) h = split_some (is_blank b) b (slice_split is_blank text) h
 
-differs : (b c : ℕ) → b ≢ c → (b == c) ≡ false
+pub differs : (b c : ℕ) → b ≢ c → (b == c) ≡ false
 differs b c h = grind (arith, nat_tests)
 
 -- a text without a blank is one word
