@@ -14,8 +14,13 @@ use std::marker::Model;
 // How many digits a number without a check of its size may have.
 const FEW: usize = 19;
 
-// Where the first word ends: at the first blank, or before the last byte, if there is one.
-fn word_end(text: &[u8]) -> Option<usize>
+// How many bytes the longest name of an event has, with the blank behind it.
+const NAME: usize = 9;
+
+// Where the first word ends, however long it is: at the first blank, or before the last byte, if there is one.
+#[cold]
+#[inline(never)]
+fn any_word_end(text: &[u8]) -> Option<usize>
     ensures none { IfNone result (length text.now ≡ 0) }
     ensures inside { IfSome result (λ at. at < length text.now) }
     ensures no_blank { IfSome result (λ at. (k : ℕ) → k < at → slice_index text.now k ≢ 32) }
@@ -27,6 +32,24 @@ fn word_end(text: &[u8]) -> Option<usize>
         }
     }
     None
+}
+
+// The same, in few steps for the name of an event.
+#[inline(always)]
+fn word_end(text: &[u8]) -> Option<usize>
+    ensures none { IfNone result (length text.now ≡ 0) }
+    ensures inside { IfSome result (λ at. at < length text.now) }
+    ensures no_blank { IfSome result (λ at. (k : ℕ) → k < at → slice_index text.now k ≢ 32) }
+    ensures end { IfSome result (λ at. slice_index text.now at ≢ 32 → at + 1 ≡ length text.now) }
+{
+    if text.len() >= NAME {
+        for at in 0..NAME {
+            if text[at] == b' ' {
+                return Some(at);
+            }
+        }
+    }
+    any_word_end(text)
 }
 
 /// The words that are left of a line.
@@ -60,6 +83,7 @@ impl<'a> Words<'a> {
     }
 
     /// The next word.
+    #[inline(always)]
     #[tactic(auto, unfolding(crate::specs::Rows::word))]
     pub fn next(&mut self) -> Option<&'a [u8]>
         ensures none { IfNone result (self.old ≡ []) }
@@ -104,6 +128,10 @@ impl<'a> Words<'a> {
             return None;
         }
         let mut n = u64::from(*first - b'0');
+        if text[1] == b' ' && low <= n && n < high {
+            self.rest = &text[2..];
+            return Some(n);
+        }
         let mut at = 1;
         while *first != b'0' && text[at].is_ascii_digit() {
             n = n.wrapping_mul(10).wrapping_add(u64::from(text[at] - b'0'));
@@ -132,6 +160,17 @@ impl<'a> Words<'a> {
         Some((n, words))
     }
 
+    // The number of the next word, by the slow way.
+    #[inline(always)]
+    fn long_number(&mut self, low: u64, high: u64) -> Option<u64>
+        ensures reads { Reads (numbers_spec.number_in low high) result self.old self.new }
+        ensures within { IfSome result (λ n. (low ≤ n) × (n < high)) }
+    {
+        let (n, words) = Words { rest: self.rest }.any_number(low, high)?;
+        *self = words;
+        Some(n)
+    }
+
     /// The number of the next word, from `low` to below `high`.
     #[inline(always)]
     pub fn number(&mut self, low: u64, high: u64) -> Option<u64>
@@ -141,9 +180,7 @@ impl<'a> Words<'a> {
         if let Some(n) = self.short_number(low, high) {
             return Some(n);
         }
-        let (n, words) = Words { rest: self.rest }.any_number(low, high)?;
-        *self = words;
-        Some(n)
+        self.long_number(low, high)
     }
 
     /// A moment or a duration, in milliseconds.

@@ -1,4 +1,4 @@
-use Rattle.std.proofs.Common.{◌≡◌, ◌≢◌, ◌<◌, ◌+◌, ◌^◌, suc, true, false, get_or, length, take, arith, add-one, sym, ap, ◌∙◌}
+use Rattle.std.proofs.Common.{◌≡◌, ◌≢◌, ◌<◌, ◌+◌, ◌^◌, suc, true, false, get_or, length, take, arith, add-one, refl, sym, ap, ◌∙◌}
 use Rattle.std.specs.Char.{is_ascii_digit}
 use Rattle.std.specs.Str.Parse.{digits_value}
 use Rattle.std.specs.Char.{digit_value}
@@ -32,7 +32,22 @@ loop-first-preserved c =
     }
 
 pub invariant_of-self : goal.invariant_of-self
-invariant_of-self c = rw take_rest (rest_ends c.self.inside.rest.now (c.loop-first.at + 1) c.self.invariant)
+invariant_of-self c = rw take_rest (rest_ends c.self.inside.rest.now 2 c.self.invariant)
+
+pub returns-then-n-high-clause-some : goal.returns-then-n-high-clause-some
+returns-then-n-high-clause-some c =
+    let text = c.self.inside.rest.now in
+    let one : is_ascii_digit (get_or text 0 0) ≡ true = sym c.if-not-is_ascii_digit.ensures.value in
+    let some : 0 < length text = omega (arith, c.in-len1-up.len_at_least) in
+    let inside : 1 < length text = more_left text 0 c.self.invariant some (λ e. let no' : true ≡ false = sym one ∙ ap is_ascii_digit e in cc) in
+    let digit : digit_value (get_or text 0 0) ≡ c.from-n.result = grind (arith, nat_tests) in
+    let more = digits_value_more 10 text 0 some in
+    let value : c.from-n.result ≡ digits_value 10 (take 1 text) = omega (arith, more, digit) in
+    rw (← c.self.view_is, take_rest)
+    (number_left text 1 c.args.low c.args.high c.from-n.result (digits_more text 0 some refl one) inside (λ no'. absurd (no' c.if-text-eq32.true)) (λ e. cc) (no_lead text 1 (λ _. refl)) value c.if-low-n.true c.if-n-high.true)
+
+pub invariant_of-self-then-text-at-eq32 : goal.invariant_of-self-then-text-at-eq32
+invariant_of-self-then-text-at-eq32 c = rw take_rest (rest_ends c.self.inside.rest.now (c.loop-first.at + 1) c.self.invariant)
 
 pub returns-then-text-at-eq32-clause-some : goal.returns-then-text-at-eq32-clause-some
 returns-then-text-at-eq32-clause-some c =
