@@ -3,7 +3,7 @@ use Rattle.std.proofs.Common.{◌≡◌, ◌≢◌, ℕ, zero, suc, ◌<◌, ◌
 use Rattle.std.specs.List.{slice_split, onto_first}
 use Rattle.std.proofs.lemmas.Bool.{eqb-true, cond-true, cond-false}
 use Rattle.std.proofs.lemmas.Bool.Decides.{nat_tests}
-use Rattle.sqlx_script.specs.Words.{is_blank, has_blank, ends_well, words_of, words_left, ends_left}
+use Rattle.sqlx_script.specs.Words.{is_blank, ends_well, words_of, words_left, ends_left}
 use Rattle.sqlx_script.proofs.Cuts.{differs, split_some}
 
 words_is : (b : ℕ) (line : List ℕ) → words_left (b ∷ line) ≡ slice_split is_blank (take (length line) (b ∷ line))

@@ -1,7 +1,5 @@
 //! Words that are numbers.
-ghost use Rattle.std.specs.Prelude.{◌≡◌, ◌<◌, ◌≤◌, ◌^◌, ◌*◌, true, IfSome, length, take};
-ghost use Rattle.std.specs.Str.{all_ascii_digits};
-ghost use Rattle.std.specs.Str.Parse.{digits_value};
+ghost use Rattle.std.specs.Prelude.{◌≡◌, ◌<◌, ◌≤◌, ◌^◌, IfSome};
 ghost use Rattle.sqlx_script.specs.Numbers.{digits_below};
 ghost use Rattle.sqlx_script.specs.Numbers as spec;
 

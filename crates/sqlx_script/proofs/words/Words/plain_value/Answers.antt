@@ -1,4 +1,4 @@
-use Rattle.std.proofs.Common.{◌≡◌, ◌∙◌, ◌-◌, Some, refl, ap, arith, ℤ, pos, neg_ℤ, to_z, of_z, w64, ◌-ℤ◌}
+use Rattle.std.proofs.Common.{◌≡◌, refl, arith, pos, to_z, w64}
 use Rattle.sqlx_script.specs.Numbers.{number_in}
 use Rattle.sqlx_script.proofs.Values.{made_some, made_none}
 use Rattle.sqlx_script.proofs.words.Words.plain_value.Goals as goal

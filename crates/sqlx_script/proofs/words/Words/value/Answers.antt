@@ -1,4 +1,4 @@
-use Rattle.std.proofs.Common.{◌≡◌, ◌<◌, length, drop, arith}
+use Rattle.std.proofs.Common.{◌<◌, length, drop, arith}
 use Rattle.std.proofs.lemmas.List.{take_rest}
 use Rattle.sqlx_script.specs.Words.{words_left}
 use Rattle.sqlx_script.specs.Rows.{Reads}
