@@ -15,7 +15,7 @@ use crate::words::Words;
 pub fn ask(mut words: Words<'_>) -> Option<Step>
     ensures { result ≡ words1 name_number Step.Ask words.entry }
 {
-    let client = words.name_number()?;
+    let client = words.last_name_number()?;
     words.finish(Step::Ask { client })
 }
 
@@ -43,7 +43,7 @@ pub fn cancel(mut words: Words<'_>) -> Option<Step>
     ensures { result ≡ words2 name_number name_number Step.Cancel words.entry }
 {
     let client = words.name_number()?;
-    let ticket = words.name_number()?;
+    let ticket = words.last_name_number()?;
     words.finish(Step::Cancel { client, ticket })
 }
 
@@ -53,7 +53,7 @@ pub fn cancel(mut words: Words<'_>) -> Option<Step>
 pub fn try_idle(mut words: Words<'_>) -> Option<Step>
     ensures { result ≡ words1 name_number Step.Try words.entry }
 {
-    let client = words.name_number()?;
+    let client = words.last_name_number()?;
     words.finish(Step::Try { client })
 }
 
@@ -281,7 +281,7 @@ pub fn give_up(mut words: Words<'_>) -> Option<Step>
     ensures { result ≡ words2 name_number name_number Step.GiveUp words.entry }
 {
     let client = words.name_number()?;
-    let connection = words.name_number()?;
+    let connection = words.last_name_number()?;
     words.finish(Step::GiveUp { client, connection })
 }
 

@@ -113,9 +113,9 @@ impl<'a> Words<'a> {
         None
     }
 
-    // The number of the next word in one pass, where it is as it should be and not too long.
+    // The number of the next word in one pass, where it is as it should be, not too long, and the last one or not.
     #[inline(always)]
-    fn short_number(&mut self, low: u64, high: u64) -> Option<u64>
+    fn short_number(&mut self, low: u64, high: u64, is_last: bool) -> Option<u64>
         ensures some { IfSome result (λ n. word (numbers_spec.number_in low high) self.old ≡ Some (n, self.new)) }
         ensures within { IfSome result (λ n. (low ≤ n) × (n < high)) }
         ensures none { IfNone result (self.new ≡ self.old) }
@@ -140,11 +140,15 @@ impl<'a> Words<'a> {
         if at > FEW || n < low || high <= n {
             return None;
         }
-        if text[at] == b' ' || at + 1 == text.len() {
-            self.rest = &text[at + 1..];
-            return Some(n);
+        if is_last {
+            if at + 1 != text.len() {
+                return None;
+            }
+        } else if text[at] != b' ' {
+            return None;
         }
-        None
+        self.rest = &text[at + 1..];
+        Some(n)
     }
 
     // The number of the next word, however long it is, and the words behind it.
@@ -171,16 +175,34 @@ impl<'a> Words<'a> {
         Some(n)
     }
 
+    // The number of the next word, from `low` to below `high`, which is likely the last word or not.
+    #[inline(always)]
+    fn likely_number(&mut self, low: u64, high: u64, is_last: bool) -> Option<u64>
+        ensures reads { Reads (numbers_spec.number_in low high) result self.old self.new }
+        ensures within { IfSome result (λ n. (low ≤ n) × (n < high)) }
+    {
+        if let Some(n) = self.short_number(low, high, is_last) {
+            return Some(n);
+        }
+        self.long_number(low, high)
+    }
+
     /// The number of the next word, from `low` to below `high`.
     #[inline(always)]
     pub fn number(&mut self, low: u64, high: u64) -> Option<u64>
         ensures reads { Reads (numbers_spec.number_in low high) result self.old self.new }
         ensures within { IfSome result (λ n. (low ≤ n) × (n < high)) }
     {
-        if let Some(n) = self.short_number(low, high) {
-            return Some(n);
-        }
-        self.long_number(low, high)
+        self.likely_number(low, high, false)
+    }
+
+    // The same, where it is likely the last word.
+    #[inline(always)]
+    fn last_number(&mut self, low: u64, high: u64) -> Option<u64>
+        ensures reads { Reads (numbers_spec.number_in low high) result self.old self.new }
+        ensures within { IfSome result (λ n. (low ≤ n) × (n < high)) }
+    {
+        self.likely_number(low, high, true)
     }
 
     /// A moment or a duration, in milliseconds.
@@ -200,6 +222,14 @@ impl<'a> Words<'a> {
         Some(self.number(0, 1 << 32)? as u32)
     }
 
+    /// The number of a client, a ticket or a connection, which is likely the last word.
+    #[inline(always)]
+    pub fn last_name_number(&mut self) -> Option<u32>
+        ensures { Reads numbers_spec.name_number result self.old self.new }
+    {
+        Some(self.last_number(0, 1 << 32)? as u32)
+    }
+
     /// A key.
     #[inline(always)]
     pub fn key(&mut self) -> Option<u32>
@@ -213,7 +243,7 @@ impl<'a> Words<'a> {
     pub fn opens(&mut self) -> Option<u32>
         ensures { Reads numbers_spec.opens result self.old self.new }
     {
-        Some(self.number(0, 65_536)? as u32)
+        Some(self.last_number(0, 65_536)? as u32)
     }
 
     /// How many idle connections a poll may test.
@@ -229,7 +259,7 @@ impl<'a> Words<'a> {
     pub fn tests(&mut self) -> Option<u32>
         ensures { Reads numbers_spec.tests result self.old self.new }
     {
-        Some(self.number(0, 65_536)? as u32)
+        Some(self.last_number(0, 65_536)? as u32)
     }
 
     // A value with no minus.

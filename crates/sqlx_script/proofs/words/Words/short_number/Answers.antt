@@ -8,7 +8,7 @@ use Rattle.std.proofs.lemmas.Bool.Decides.{nat_tests}
 use Rattle.sqlx_script.proofs.Left.{rest_ends, more_left}
 use Rattle.sqlx_script.proofs.LeadingDigits.{few_digits, digits_more, number_left, no_lead, mod_more}
 use Rattle.sqlx_script.proofs.words.Words.short_number.Goals as goal
-use Rattle.sqlx_script.proofs.words.Words.short_number.Goals.{then-text-at-eq32-via-then-text-at-eq32, then-text-at-eq32-via-else-text-at-eq32+then-at-text}
+use Rattle.sqlx_script.proofs.words.Words.short_number.Goals.{then-is_last+else-at-text, else-is_last+else-text-at-ne32}
 
 pub loop-first-preserved : goal.loop-first-preserved
 loop-first-preserved c =
@@ -46,14 +46,14 @@ returns-then-n-high-clause-some c =
     rw (← c.self.view_is, take_rest)
     (number_left text 1 c.args.low c.args.high c.from-n.result (digits_more text 0 some refl one) inside (λ no'. absurd (no' c.if-text-eq32.true)) (λ e. cc) (no_lead text 1 (λ _. refl)) value c.if-low-n.true c.if-n-high.true)
 
-pub invariant_of-self-then-text-at-eq32 : goal.invariant_of-self-then-text-at-eq32
-invariant_of-self-then-text-at-eq32 c = rw take_rest (rest_ends c.self.inside.rest.now (c.loop-first.at + 1) c.self.invariant)
+pub invariant_of-self-2 : goal.invariant_of-self-2
+invariant_of-self-2 c = rw take_rest (rest_ends c.self.inside.rest.now (c.loop-first.at + 1) c.self.invariant)
 
-pub returns-then-text-at-eq32-clause-some : goal.returns-then-text-at-eq32-clause-some
-returns-then-text-at-eq32-clause-some c =
+pub returns-clause-some : goal.returns-clause-some
+returns-clause-some c =
     let text = c.self.inside.rest.now in
     let at = c.loop-first.at in
     let is : get_or text at 0 ≢ 32 → suc at ≡ length text =
-        elim c.then-text-at-eq32.branch [ then-text-at-eq32-via-then-text-at-eq32 w ↦ λ no'. absurd (no' w.if-text-at-eq32.true) | then-text-at-eq32-via-else-text-at-eq32+then-at-text w ↦ λ no'. omega (arith, w.if-at-text.true) ] in
+        elim c.if-is_last.branch [ then-is_last+else-at-text w ↦ λ no'. omega (arith, w.if-at-text.false) | else-is_last+else-text-at-ne32 w ↦ λ no'. absurd (no' w.if-text-at-ne32.false) ] in
     rw (← c.self.view_is, take_rest, add-one)
     (number_left text at c.args.low c.args.high c.loop-first.n c.loop-first.invariant.digits c.loop-first.invariant.inside is (λ e. omega (arith, e, c.loop-first.invariant.some)) (no_lead text at c.loop-first.invariant.alone) (c.loop-first.invariant.value c.if-at-gt-FEW.false) c.if-n-low.false c.if-high-n.false)
