@@ -360,6 +360,10 @@ impl<'a> Words<'a> {
     pub fn finish<T: Drop>(&self, made: T) -> Option<T>
         ensures { result ≡ ended made self.now }
     {
-        if self.rest.is_empty() { Some(made) } else { None }
+        if self.rest.is_empty() {
+            Some(made)
+        } else {
+            None
+        }
     }
 }

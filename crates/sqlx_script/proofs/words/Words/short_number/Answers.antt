@@ -54,6 +54,6 @@ returns-clause-some c =
     let text = c.self.inside.rest.now in
     let at = c.loop-first.at in
     let is : get_or text at 0 ≢ 32 → suc at ≡ length text =
-        elim c.if-is_last.branch [ then-is_last+else-at-text w ↦ λ no'. omega (arith, w.if-at-text.false) | else-is_last+else-text-at-ne32 w ↦ λ no'. absurd (no' w.if-text-at-ne32.false) ] in
+    elim c.if-is_last.branch [ then-is_last+else-at-text w ↦ λ no'. omega (arith, w.if-at-text.false) | else-is_last+else-text-at-ne32 w ↦ λ no'. absurd (no' w.if-text-at-ne32.false) ] in
     rw (← c.self.view_is, take_rest, add-one)
     (number_left text at c.args.low c.args.high c.loop-first.n c.loop-first.invariant.digits c.loop-first.invariant.inside is (λ e. omega (arith, e, c.loop-first.invariant.some)) (no_lead text at c.loop-first.invariant.alone) (c.loop-first.invariant.value c.if-at-gt-FEW.false) c.if-n-low.false c.if-high-n.false)

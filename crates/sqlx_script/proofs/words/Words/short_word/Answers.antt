@@ -16,7 +16,7 @@ returns-then-len-text-clause-some c =
     let text = c.self.inside.rest.now in
     let len = c.args.len in
     let is : get_or text len 0 ≢ 32 → suc len ≡ length text =
-        elim c.then-len-text.branch [ then-len-text-via-then-len-text w ↦ λ _. omega (arith, w.if-len-text.true) | then-len-text-via-else-len-text+then-text-len-eq32 w ↦ λ no'. absurd (no' w.if-text-len-eq32.true) ] in
+    elim c.then-len-text.branch [ then-len-text-via-then-len-text w ↦ λ _. omega (arith, w.if-len-text.true) | then-len-text-via-else-len-text+then-text-len-eq32 w ↦ λ no'. absurd (no' w.if-text-len-eq32.true) ] in
     rw (← c.self.view_is, take_rest, add-one) (short text len (omega (arith, c.if-text-len.false)) is)
 
 pub returns-clause-none : goal.returns-clause-none
