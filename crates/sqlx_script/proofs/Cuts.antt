@@ -1,9 +1,9 @@
--- The first blank and the first newline of a text.
+-- The words and the first newline of a text.
 use Rattle.std.proofs.Common.{◌≡◌, ◌≢◌, ℕ, zero, suc, ◌<◌, ◌==◌, Bool, true, false, cond, List, [], ◌∷◌, None, length, get_or, take, drop, refl, ap, ◌∙◌, eq-eqb, arith}
-use Rattle.std.specs.List.{slice_split, onto_first}
+use Rattle.std.specs.List.{onto_first}
 use Rattle.std.proofs.lemmas.Bool.{cond-true, cond-false}
 use Rattle.std.proofs.lemmas.Bool.Decides.{nat_tests}
-use Rattle.sqlx_script.specs.Words.{is_blank, longer, lines_of}
+use Rattle.sqlx_script.specs.Words.{longer, lines_of}
 use Rattle.sqlx_script.specs.Rows.{ended}
 
 -- nothing is made where a word is left
@@ -15,31 +15,13 @@ onto_some : (b : ℕ) (parts : List (List ℕ)) → onto_first b parts ≡ [] �
 onto_some b [] h = cc
 onto_some b (part ∷ parts) h = cc
 
-split_some : (c : Bool) (b : ℕ) (parts : List (List ℕ)) → cond c ([] ∷ parts) (onto_first b parts) ≡ [] → ⊥
+-- there is a word where there is a byte
+pub split_some : (c : Bool) (b : ℕ) (parts : List (List ℕ)) → cond c ([] ∷ parts) (onto_first b parts) ≡ [] → ⊥
 split_some true b parts h = cc
 split_some false b parts h = onto_some b parts h
 
--- there is always a first word
-pub has_word : (text : List ℕ) → slice_split is_blank text ≡ [] → ⊥
-has_word [] h = cc
-has_word (b ∷ text) h = split_some (is_blank b) b (slice_split is_blank text) h
-
-differs : (b c : ℕ) → b ≢ c → (b == c) ≡ false
+pub differs : (b c : ℕ) → b ≢ c → (b == c) ≡ false
 differs b c h = grind (arith, nat_tests)
-
--- a text without a blank is one word
-pub one_word : (text : List ℕ) → ((k : ℕ) → k < length text → get_or text k 0 ≢ 32) → slice_split is_blank text ≡ text ∷ []
-one_word [] h = refl
-one_word (b ∷ text) h =
-    cond-false (is_blank b) _ _ (differs b 32 (h 0 (omega arith))) ∙ ap (onto_first b) (one_word text (λ k lt. h (suc k) (omega arith)))
-
--- the first word ends at the first blank
-pub word_at : (text : List ℕ) (at : ℕ) → ((k : ℕ) → k < at → get_or text k 0 ≢ 32) → at < length text → get_or text at 0 ≡ 32
-    → slice_split is_blank text ≡ take at text ∷ slice_split is_blank (drop (suc at) text)
-word_at [] at h inside e = absurd (omega arith)
-word_at (b ∷ text) zero h inside e = cond-true (is_blank b) _ _ (eq-eqb b 32 e)
-word_at (b ∷ text) (suc at) h inside e =
-    cond-false (is_blank b) _ _ (differs b 32 (h 0 (omega arith))) ∙ ap (onto_first b) (word_at text at (λ k lt. h (suc k) (omega arith)) (omega arith) e)
 
 -- a text without a newline is one line
 pub one_line : (text : List ℕ) → 0 < length text → ((k : ℕ) → k < length text → get_or text k 0 ≢ 10) → lines_of text ≡ text ∷ []

@@ -1,5 +1,5 @@
 -- The digits in front of a text.
-use Rattle.std.proofs.Common.{◌≡◌, ◌≢◌, ℕ, zero, suc, ◌<◌, ◌≤◌, ◌^◌, true, false, List, [], ◌∷◌, Some, length, get_or, take, drop, refl, sym, ap, ◌∙◌, arith}
+use Rattle.std.proofs.Common.{◌≡◌, ◌≢◌, ℕ, zero, suc, ◌<◌, ◌≤◌, ◌^◌, ◌+◌, ◌*◌, ◌%◌, true, false, List, [], ◌∷◌, Some, length, get_or, take, drop, refl, sym, ap, ◌∙◌, arith}
 use Rattle.std.specs.Char.{is_ascii_digit}
 use Rattle.std.specs.Str.{all_ascii_digits}
 use Rattle.std.specs.Str.Parse.{digits_value}
@@ -7,12 +7,11 @@ use Rattle.std.proofs.lemmas.Bool.{and_parts, ne_eqb}
 use Rattle.std.proofs.lemmas.Bool.Decides.{nat_tests}
 use Rattle.std.proofs.lemmas.Str.Parse.{numerals_by_value, tells_all_ascii_digits, digits_value_short}
 use Rattle.std.proofs.lemmas.List.{length-take-le}
-use Rattle.std.proofs.Math.Seq.{take-length}
-use Rattle.std.specs.List.{slice_split}
-use Rattle.sqlx_script.specs.Words.{is_blank}
+use Rattle.std.proofs.Math.Nat.{mod-eq_of_lt}
+use Rattle.sqlx_script.specs.Words.{words_left}
 use Rattle.sqlx_script.specs.Rows.{word}
 use Rattle.sqlx_script.specs.Numbers.{number_in, has_leading_zero}
-use Rattle.sqlx_script.proofs.Cuts.{one_word, word_at}
+use Rattle.sqlx_script.proofs.Left.{word_left}
 
 -- one digit more
 pub digits_more : (text : List ℕ) (at : ℕ) → at < length text → all_ascii_digits (take at text) ≡ true → is_ascii_digit (get_or text at 0) ≡ true → all_ascii_digits (take (suc at) text) ≡ true
@@ -42,20 +41,25 @@ pub is_one : (ds : List ℕ) (low high n : ℕ) → all_ascii_digits ds ≡ true
 unfolding number_in
 is_one ds low high n all some lead value from below = rw (ne_eqb (length ds) 0 some, lead, all, ← value) (grind (arith, nat_tests))
 
--- a text of digits is one word, a number
-pub whole_number : (text : List ℕ) (at low high n : ℕ) → all_ascii_digits (take at text) ≡ true → at ≡ length text → (at ≡ 0 → ⊥) → has_leading_zero (take at text) ≡ false → n ≡ digits_value 10 (take at text) → low ≤ n → n < high
-    → word (number_in low high) (slice_split is_blank text) ≡ Some (n, [])
+-- digits before a blank or the newline are a word, a number
+pub number_left : (text : List ℕ) (at low high n : ℕ) → all_ascii_digits (take at text) ≡ true → at < length text → (get_or text at 0 ≢ 32 → suc at ≡ length text)
+    → (at ≡ 0 → ⊥) → has_leading_zero (take at text) ≡ false → n ≡ digits_value 10 (take at text) → low ≤ n → n < high
+    → word (number_in low high) (words_left text) ≡ Some (n, words_left (drop (suc at) text))
 unfolding word
-whole_number text at low high n all whole some lead value from below =
-    let same : take at text ≡ text = ap (λ k. take k text) whole ∙ take-length text in
-    rw (one_word text (λ k lt. no_blank text at all (omega (arith, whole)) k (omega (arith, lt, whole))))
-    (rw (← is_one text low high n (ap all_ascii_digits (sym same) ∙ all) (λ e. some (whole ∙ e)) (ap has_leading_zero (sym same) ∙ lead) (value ∙ ap (digits_value 10) same) from below) refl)
-
--- digits before a blank are a word, a number
-pub cut_number : (text : List ℕ) (at low high n : ℕ) → all_ascii_digits (take at text) ≡ true → at < length text → get_or text at 0 ≡ 32 → (at ≡ 0 → ⊥) → has_leading_zero (take at text) ≡ false → n ≡ digits_value 10 (take at text) → low ≤ n → n < high
-    → word (number_in low high) (slice_split is_blank text) ≡ Some (n, slice_split is_blank (drop (suc at) text))
-unfolding word
-cut_number text at low high n all inside blank some lead value from below =
+number_left text at low high n all inside end' some lead value from below =
     let len = length-take-le at text (omega (arith, inside)) in
-    rw (word_at text at (no_blank text at all (omega (arith, inside))) inside blank)
+    rw (word_left text at (no_blank text at all (omega (arith, inside))) inside end')
     (rw (← is_one (take at text) low high n all (λ e. some (sym len ∙ e)) lead value from below) refl)
+
+-- one digit alone has no zero in front, and none in front of more has one
+pub no_lead : (text : List ℕ) (at : ℕ) → (get_or text 0 0 ≡ 48 → at ≡ 1) → has_leading_zero (take at text) ≡ false
+no_lead text zero alone = refl
+no_lead [] (suc at) alone = refl
+no_lead (b ∷ text) (suc zero) alone = refl
+no_lead (b ∷ []) (suc (suc at)) alone = refl
+no_lead (b ∷ c ∷ text) (suc (suc at)) alone = grind (arith, nat_tests, alone)
+
+-- a digit behind few others
+pub mod_more : (n d : ℕ) → n < 10 ^ 18 → d < 10 → ((n * 10) % 2 ^ 64 + d) % 2 ^ 64 ≡ n * 10 + d
+mod_more n d small digit =
+    rw (mod-eq_of_lt {n = n * 10} {m = 2 ^ 64} (omega (arith, small))) (mod-eq_of_lt {n = n * 10 + d} {m = 2 ^ 64} (omega (arith, small, digit)))

@@ -1,6 +1,9 @@
 pub mod Rows
 pub mod Cuts
 pub mod Digits
+pub mod Left
+pub mod ShortWords
+pub mod Values
 pub mod LeadingDigits
 mod WorkedRows
 pub mod FewOpens

@@ -1,5 +1,5 @@
 -- Words in a row, each of its kind, and no more.
-use Rattle.std.specs.Prelude.{◌≡◌, ℕ, Bool, true, false, List, [], ◌∷◌, Option, Some, None}
+use Rattle.std.specs.Prelude.{◌≡◌, ℕ, Bool, true, false, List, [], ◌∷◌, Option, Some, None, if◌then◌else◌, ◌==◌, length}
 use Rattle.sqlx_script.specs.Numbers.{◌>>=◌}
 
 -- what was made of the words, where none is left
@@ -52,3 +52,7 @@ word p (w ∷ ws) = p w >>= λ x. Some (x, ws)
 abbrev pub Reads : {A : Type 0} → (List ℕ → Option A) → Option A → List (List ℕ) → List (List ℕ) → Type 0
 Reads p (Some x) old new = word p old ≡ Some (x, new)
 Reads p None old new = word p old ≡ None
+
+-- a word of so many bytes
+abbrev pub of_length : ℕ → List ℕ → Option (List ℕ)
+of_length len w = if length w == len then Some w else None

@@ -10,18 +10,20 @@ use crate::step::Step;
 use crate::words::Words;
 
 /// The fields of `ask`.
+#[inline(always)]
 #[tactic(auto, using(crate::proofs::Rows::reads), unfolding(crate::specs::Rows::words1))]
-pub fn ask(words: &mut Words<'_>) -> Option<Step>
-    ensures { result ≡ words1 name_number Step.Ask words.old }
+pub fn ask(mut words: Words<'_>) -> Option<Step>
+    ensures { result ≡ words1 name_number Step.Ask words.entry }
 {
-    let client = words.name_number()?;
+    let client = words.last_name_number()?;
     words.finish(Step::Ask { client })
 }
 
 /// The fields of `poll`, with how many tests its letters answer where it tells that.
+#[inline(always)]
 #[tactic(auto, using(crate::proofs::Rows::reads), unfolding(crate::specs::Grammar::poll_words))]
-pub fn poll(words: &mut Words<'_>, counts_tests: bool) -> Option<Step>
-    ensures { result ≡ poll_words counts_tests words.old }
+pub fn poll(mut words: Words<'_>, counts_tests: bool) -> Option<Step>
+    ensures { result ≡ poll_words counts_tests words.entry }
 {
     let client = words.name_number()?;
     let ticket = words.name_number()?;
@@ -35,28 +37,31 @@ pub fn poll(words: &mut Words<'_>, counts_tests: bool) -> Option<Step>
 }
 
 /// The fields of `cancel`.
+#[inline(always)]
 #[tactic(auto, using(crate::proofs::Rows::reads), unfolding(crate::specs::Rows::words2))]
-pub fn cancel(words: &mut Words<'_>) -> Option<Step>
-    ensures { result ≡ words2 name_number name_number Step.Cancel words.old }
+pub fn cancel(mut words: Words<'_>) -> Option<Step>
+    ensures { result ≡ words2 name_number name_number Step.Cancel words.entry }
 {
     let client = words.name_number()?;
-    let ticket = words.name_number()?;
+    let ticket = words.last_name_number()?;
     words.finish(Step::Cancel { client, ticket })
 }
 
 /// The fields of `try`.
+#[inline(always)]
 #[tactic(auto, using(crate::proofs::Rows::reads), unfolding(crate::specs::Rows::words1))]
-pub fn try_idle(words: &mut Words<'_>) -> Option<Step>
-    ensures { result ≡ words1 name_number Step.Try words.old }
+pub fn try_idle(mut words: Words<'_>) -> Option<Step>
+    ensures { result ≡ words1 name_number Step.Try words.entry }
 {
-    let client = words.name_number()?;
+    let client = words.last_name_number()?;
     words.finish(Step::Try { client })
 }
 
 /// The fields of `give`.
+#[inline(always)]
 #[tactic(auto, using(crate::proofs::Rows::reads), unfolding(crate::specs::Rows::words4))]
-pub fn give(words: &mut Words<'_>) -> Option<Step>
-    ensures { result ≡ words4 name_number name_number give_answers opens Step.Give words.old }
+pub fn give(mut words: Words<'_>) -> Option<Step>
+    ensures { result ≡ words4 name_number name_number give_answers opens Step.Give words.entry }
 {
     let client = words.name_number()?;
     let connection = words.name_number()?;
@@ -71,9 +76,10 @@ pub fn give(words: &mut Words<'_>) -> Option<Step>
 }
 
 /// The fields of `end`.
+#[inline(always)]
 #[tactic(auto, using(crate::proofs::Rows::reads), unfolding(crate::specs::Rows::words3))]
-pub fn end(words: &mut Words<'_>) -> Option<Step>
-    ensures { result ≡ words3 name_number name_number opens Step.End words.old }
+pub fn end(mut words: Words<'_>) -> Option<Step>
+    ensures { result ≡ words3 name_number name_number opens Step.End words.entry }
 {
     let client = words.name_number()?;
     let connection = words.name_number()?;
@@ -86,9 +92,10 @@ pub fn end(words: &mut Words<'_>) -> Option<Step>
 }
 
 /// The fields of `detach`.
+#[inline(always)]
 #[tactic(auto, using(crate::proofs::Rows::reads), unfolding(crate::specs::Rows::words3))]
-pub fn detach(words: &mut Words<'_>) -> Option<Step>
-    ensures { result ≡ words3 name_number name_number opens Step.Detach words.old }
+pub fn detach(mut words: Words<'_>) -> Option<Step>
+    ensures { result ≡ words3 name_number name_number opens Step.Detach words.entry }
 {
     let client = words.name_number()?;
     let connection = words.name_number()?;
@@ -101,9 +108,10 @@ pub fn detach(words: &mut Words<'_>) -> Option<Step>
 }
 
 /// The fields of `leak`.
+#[inline(always)]
 #[tactic(auto, using(crate::proofs::Rows::reads), unfolding(crate::specs::Rows::words3))]
-pub fn leak(words: &mut Words<'_>) -> Option<Step>
-    ensures { result ≡ words3 name_number name_number opens Step.Leak words.old }
+pub fn leak(mut words: Words<'_>) -> Option<Step>
+    ensures { result ≡ words3 name_number name_number opens Step.Leak words.entry }
 {
     let client = words.name_number()?;
     let connection = words.name_number()?;
@@ -116,35 +124,39 @@ pub fn leak(words: &mut Words<'_>) -> Option<Step>
 }
 
 /// The fields of `reap`.
+#[inline(always)]
 #[tactic(auto, using(crate::proofs::Rows::reads), unfolding(crate::specs::Rows::words1))]
-pub fn reap(words: &mut Words<'_>) -> Option<Step>
-    ensures { result ≡ words1 opens Step.Reap words.old }
+pub fn reap(mut words: Words<'_>) -> Option<Step>
+    ensures { result ≡ words1 opens Step.Reap words.entry }
 {
     let opens = words.opens()?;
     words.finish(Step::Reap { opens })
 }
 
 /// The fields of `min`.
+#[inline(always)]
 #[tactic(auto, using(crate::proofs::Rows::reads), unfolding(crate::specs::Rows::words1))]
-pub fn min(words: &mut Words<'_>) -> Option<Step>
-    ensures { result ≡ words1 opens Step.Min words.old }
+pub fn min(mut words: Words<'_>) -> Option<Step>
+    ensures { result ≡ words1 opens Step.Min words.entry }
 {
     let opens = words.opens()?;
     words.finish(Step::Min { opens })
 }
 
 /// The fields of `closed`.
+#[inline(always)]
 #[tactic(auto, using(crate::proofs::Rows::reads), unfolding(crate::specs::Rows::words0))]
-pub fn close_state(words: &mut Words<'_>) -> Option<Step>
-    ensures { result ≡ words0 Step.CloseState words.old }
+pub fn close_state(words: Words<'_>) -> Option<Step>
+    ensures { result ≡ words0 Step.CloseState words.entry }
 {
     words.finish(Step::CloseState)
 }
 
 /// The fields of `begin`.
+#[inline(always)]
 #[tactic(auto, using(crate::proofs::Rows::reads), unfolding(crate::specs::Rows::words3))]
-pub fn begin(words: &mut Words<'_>) -> Option<Step>
-    ensures { result ≡ words3 name_number name_number statement Step.Begin words.old }
+pub fn begin(mut words: Words<'_>) -> Option<Step>
+    ensures { result ≡ words3 name_number name_number statement Step.Begin words.entry }
 {
     let client = words.name_number()?;
     let connection = words.name_number()?;
@@ -157,9 +169,10 @@ pub fn begin(words: &mut Words<'_>) -> Option<Step>
 }
 
 /// The fields of `custom`.
+#[inline(always)]
 #[tactic(auto, using(crate::proofs::Rows::reads), unfolding(crate::specs::Rows::words4))]
-pub fn custom(words: &mut Words<'_>) -> Option<Step>
-    ensures { result ≡ words4 name_number name_number sign statement Step.Custom words.old }
+pub fn custom(mut words: Words<'_>) -> Option<Step>
+    ensures { result ≡ words4 name_number name_number sign statement Step.Custom words.entry }
 {
     let client = words.name_number()?;
     let connection = words.name_number()?;
@@ -174,9 +187,10 @@ pub fn custom(words: &mut Words<'_>) -> Option<Step>
 }
 
 /// The fields of `put`.
+#[inline(always)]
 #[tactic(auto, using(crate::proofs::Rows::reads), unfolding(crate::specs::Rows::words5))]
-pub fn put(words: &mut Words<'_>) -> Option<Step>
-    ensures { result ≡ words5 name_number name_number key value statement Step.Put words.old }
+pub fn put(mut words: Words<'_>) -> Option<Step>
+    ensures { result ≡ words5 name_number name_number key value statement Step.Put words.entry }
 {
     let client = words.name_number()?;
     let connection = words.name_number()?;
@@ -193,9 +207,10 @@ pub fn put(words: &mut Words<'_>) -> Option<Step>
 }
 
 /// The fields of `del`.
+#[inline(always)]
 #[tactic(auto, using(crate::proofs::Rows::reads), unfolding(crate::specs::Rows::words4))]
-pub fn del(words: &mut Words<'_>) -> Option<Step>
-    ensures { result ≡ words4 name_number name_number key statement Step.Del words.old }
+pub fn del(mut words: Words<'_>) -> Option<Step>
+    ensures { result ≡ words4 name_number name_number key statement Step.Del words.entry }
 {
     let client = words.name_number()?;
     let connection = words.name_number()?;
@@ -210,9 +225,10 @@ pub fn del(words: &mut Words<'_>) -> Option<Step>
 }
 
 /// The fields of `get`.
+#[inline(always)]
 #[tactic(auto, using(crate::proofs::Rows::reads), unfolding(crate::specs::Rows::words4))]
-pub fn get(words: &mut Words<'_>) -> Option<Step>
-    ensures { result ≡ words4 name_number name_number key statement Step.Get words.old }
+pub fn get(mut words: Words<'_>) -> Option<Step>
+    ensures { result ≡ words4 name_number name_number key statement Step.Get words.entry }
 {
     let client = words.name_number()?;
     let connection = words.name_number()?;
@@ -227,9 +243,10 @@ pub fn get(words: &mut Words<'_>) -> Option<Step>
 }
 
 /// The fields of `commit`.
+#[inline(always)]
 #[tactic(auto, using(crate::proofs::Rows::reads), unfolding(crate::specs::Rows::words3))]
-pub fn commit(words: &mut Words<'_>) -> Option<Step>
-    ensures { result ≡ words3 name_number name_number statement Step.Commit words.old }
+pub fn commit(mut words: Words<'_>) -> Option<Step>
+    ensures { result ≡ words3 name_number name_number statement Step.Commit words.entry }
 {
     let client = words.name_number()?;
     let connection = words.name_number()?;
@@ -242,9 +259,10 @@ pub fn commit(words: &mut Words<'_>) -> Option<Step>
 }
 
 /// The fields of `rollback`.
+#[inline(always)]
 #[tactic(auto, using(crate::proofs::Rows::reads), unfolding(crate::specs::Rows::words3))]
-pub fn rollback(words: &mut Words<'_>) -> Option<Step>
-    ensures { result ≡ words3 name_number name_number statement Step.Rollback words.old }
+pub fn rollback(mut words: Words<'_>) -> Option<Step>
+    ensures { result ≡ words3 name_number name_number statement Step.Rollback words.entry }
 {
     let client = words.name_number()?;
     let connection = words.name_number()?;
@@ -257,19 +275,21 @@ pub fn rollback(words: &mut Words<'_>) -> Option<Step>
 }
 
 /// The fields of `giveup`.
+#[inline(always)]
 #[tactic(auto, using(crate::proofs::Rows::reads), unfolding(crate::specs::Rows::words2))]
-pub fn give_up(words: &mut Words<'_>) -> Option<Step>
-    ensures { result ≡ words2 name_number name_number Step.GiveUp words.old }
+pub fn give_up(mut words: Words<'_>) -> Option<Step>
+    ensures { result ≡ words2 name_number name_number Step.GiveUp words.entry }
 {
     let client = words.name_number()?;
-    let connection = words.name_number()?;
+    let connection = words.last_name_number()?;
     words.finish(Step::GiveUp { client, connection })
 }
 
 /// The fields of `close`.
+#[inline(always)]
 #[tactic(auto, using(crate::proofs::Rows::reads), unfolding(crate::specs::Rows::words0))]
-pub fn close(words: &mut Words<'_>) -> Option<Step>
-    ensures { result ≡ words0 Step.Close words.old }
+pub fn close(words: Words<'_>) -> Option<Step>
+    ensures { result ≡ words0 Step.Close words.entry }
 {
     words.finish(Step::Close)
 }

@@ -11,9 +11,10 @@ use crate::words::Words;
 use sqlx_text::Moment;
 
 // What follows the moment, for the name of a statement.
+#[inline(always)]
 #[tactic(auto, unfolding(crate::specs::Grammar::statement_of))]
-fn statement(name: &[u8], words: &mut Words<'_>) -> Option<Step>
-    ensures { result ≡ statement_of name.now words.old }
+fn statement(name: &[u8], words: Words<'_>) -> Option<Step>
+    ensures { result ≡ statement_of name.now words.entry }
 {
     match name {
         b"begin" => fields::begin(words),
@@ -29,9 +30,10 @@ fn statement(name: &[u8], words: &mut Words<'_>) -> Option<Step>
 }
 
 // What follows the moment.
+#[inline(always)]
 #[tactic(auto, unfolding(crate::specs::Grammar::step_of))]
-fn step(name: &[u8], words: &mut Words<'_>, counts_tests: bool) -> Option<Step>
-    ensures { result ≡ step_of counts_tests name.now words.old }
+fn step(name: &[u8], words: Words<'_>, counts_tests: bool) -> Option<Step>
+    ensures { result ≡ step_of counts_tests name.now words.entry }
 {
     match name {
         b"ask" => fields::ask(words),
@@ -59,7 +61,7 @@ pub fn read_event(line: &[u8], counts_tests: bool) -> Option<Event>
     let mut words = Words::of_line(line)?;
     let name = words.next()?;
     let now = words.millis()?;
-    let step = step(name, &mut words, counts_tests)?;
+    let step = step(name, words, counts_tests)?;
     Some(Event {
         moment: Moment(now * NANOS),
         step,

@@ -1,9 +1,7 @@
 //! Reads the words of a line, from the front.
-ghost use Rattle.std.specs.Prelude.{◌≡◌, ◌<◌, ◌≤◌, ◌^◌, [], ◌∷◌, List, ℕ, true, false, Some, None, IfSome, IfNone, MatchOption, length};
-ghost use Rattle.std.specs.List.{slice_split};
-ghost use Rattle.std.specs.Option.{option_map_or};
-ghost use Rattle.sqlx_script.specs.Words.{is_blank, ends_well, words_of};
-ghost use Rattle.sqlx_script.specs.Rows.{word, ended, Reads};
+ghost use Rattle.std.specs.Prelude.{◌≡◌, ◌≢◌, ◌+◌, ◌<◌, ◌≤◌, ◌^◌, [], ◌∷◌, List, ℕ, true, false, Some, None, IfSome, IfNone, MatchOption, length, slice_index, if◌then◌else◌};
+ghost use Rattle.sqlx_script.specs.Words.{has_blank, ends_well, words_of};
+ghost use Rattle.sqlx_script.specs.Rows.{word, of_length, ended, Reads};
 ghost use Rattle.sqlx_script.specs.Numbers as numbers_spec;
 ghost use Rattle.sqlx_script.specs.Letters as letters_spec;
 ghost use Rattle.sqlx_script.specs.Grammar.{pool_name};
@@ -13,34 +11,63 @@ use crate::letters::Switches;
 use crate::{letters, numbers};
 use std::marker::Model;
 
-// What stands before the first blank, and what stands after it if there is one.
-#[inline]
-fn cut_word(text: &[u8]) -> (&[u8], Option<&[u8]>)
-    ensures { slice_split is_blank text.now ≡ result.0.now ∷ option_map_or (λ rest. slice_split is_blank rest.now) result.1 [] }
+// How many digits a number without a check of its size may have.
+const FEW: usize = 19;
+
+// How many bytes the longest name of an event has, with the blank behind it.
+const NAME: usize = 9;
+
+// Where the first word ends, however long it is: at the first blank, or before the last byte, if there is one.
+#[cold]
+#[inline(never)]
+fn any_word_end(text: &[u8]) -> Option<usize>
+    ensures none { IfNone result (length text.now ≡ 0) }
+    ensures inside { IfSome result (λ at. at < length text.now) }
+    ensures no_blank { IfSome result (λ at. (k : ℕ) → k < at → slice_index text.now k ≢ 32) }
+    ensures end { IfSome result (λ at. slice_index text.now at ≢ 32 → at + 1 ≡ length text.now) }
 {
     for (at, b) in text.iter().enumerate() {
-        if *b == b' ' {
-            return (&text[..at], Some(&text[at + 1..]));
+        if *b == b' ' || at + 1 == text.len() {
+            return Some(at);
         }
     }
-    (text, None)
+    None
+}
+
+// The same, in few steps for the name of an event.
+#[inline(always)]
+fn word_end(text: &[u8]) -> Option<usize>
+    ensures none { IfNone result (length text.now ≡ 0) }
+    ensures inside { IfSome result (λ at. at < length text.now) }
+    ensures no_blank { IfSome result (λ at. (k : ℕ) → k < at → slice_index text.now k ≢ 32) }
+    ensures end { IfSome result (λ at. slice_index text.now at ≢ 32 → at + 1 ≡ length text.now) }
+{
+    if text.len() >= NAME {
+        for at in 0..NAME {
+            if text[at] == b' ' {
+                return Some(at);
+            }
+        }
+    }
+    any_word_end(text)
 }
 
 /// The words that are left of a line.
 #[derive(Drop)]
 pub struct Words<'a> {
+    // What is left of the line: nothing, or bytes that end with its newline.
     rest: &'a [u8],
-    ended: bool,
 }
 
 impl<'a> Model for Words<'a> {
-    ghost use Rattle.std.specs.Prelude.{List, ℕ, [], if◌then◌else◌};
-    ghost use Rattle.std.specs.List.{slice_split};
-    ghost use Rattle.sqlx_script.specs.Words.{is_blank};
+    ghost use Rattle.std.specs.Prelude.{List, ℕ, ◌≡◌, true};
+    ghost use Rattle.sqlx_script.specs.Words.{words_left, ends_left};
 
     ghost Value = { List (List ℕ) };
 
-    ghost view = { λ w. if w.ended then [] else slice_split is_blank w.rest.now };
+    ghost view = { λ w. words_left w.rest.now };
+
+    ghost invariant = { λ w. ends_left w.rest.now ≡ true };
 }
 
 impl<'a> Words<'a> {
@@ -50,63 +77,114 @@ impl<'a> Words<'a> {
         ensures some { IfSome result (λ words. (ends_well line.entry.now ≡ true) × (words ≡ words_of line.entry.now)) }
     {
         match line {
-            [rest @ .., b'\n'] => Some(Words { rest, ended: false }),
+            [.., b'\n'] => Some(Words { rest: line }),
             _ => None,
         }
     }
 
     /// The next word.
+    #[inline(always)]
     #[tactic(auto, unfolding(crate::specs::Rows::word))]
     pub fn next(&mut self) -> Option<&'a [u8]>
         ensures none { IfNone result (self.old ≡ []) }
         ensures some { IfSome result (λ w. self.old ≡ w.now ∷ self.new) }
         ensures reads { MatchOption result (word numbers_spec.any self.old ≡ None) (λ w. word numbers_spec.any self.old ≡ Some (w.now, self.new)) }
     {
-        if self.ended {
-            return None;
-        }
-        let (word, rest) = cut_word(self.rest);
-        match rest {
-            Some(rest) => self.rest = rest,
-            None => self.ended = true,
-        }
-        Some(word)
+        let text = self.rest;
+        let at = word_end(text)?;
+        self.rest = &text[at + 1..];
+        Some(&text[..at])
     }
 
-    // The number of the next word in one pass, where it is as it should be and not too long.
+    // So many bytes in front, where a blank or the newline stands behind them: the next word, if no blank is among them.
     #[inline(always)]
-    fn short_number(&mut self, low: u64, high: u64) -> Option<u64>
+    fn short_word(&mut self, len: usize) -> Option<&'a [u8]>
+        ensures none { IfNone result (word (of_length len) self.old ≡ None) }
+        ensures some { IfSome result (λ w. word (of_length len) self.old ≡ (if has_blank w.now then None else Some (w.now, self.new))) }
+    {
+        let text = self.rest;
+        if text.len() <= len {
+            return None;
+        }
+        if len + 1 == text.len() || text[len] == b' ' {
+            self.rest = &text[len + 1..];
+            return Some(&text[..len]);
+        }
+        None
+    }
+
+    // The number of the next word in one pass, where it is as it should be, not too long, and the last one or not.
+    #[inline(always)]
+    fn short_number(&mut self, low: u64, high: u64, is_last: bool) -> Option<u64>
         ensures some { IfSome result (λ n. word (numbers_spec.number_in low high) self.old ≡ Some (n, self.new)) }
         ensures within { IfSome result (λ n. (low ≤ n) × (n < high)) }
         ensures none { IfNone result (self.new ≡ self.old) }
     {
-        if self.ended {
+        let text = self.rest;
+        let [first, ..] = text else {
+            return None;
+        };
+        if !first.is_ascii_digit() {
             return None;
         }
-        let (n, at) = numbers::leading_digits(self.rest);
-        if at == 0 || numbers::has_leading_zero(&self.rest[..at]) || n < low || high <= n {
-            return None;
-        }
-        if at == self.rest.len() {
-            self.ended = true;
+        let mut n = u64::from(*first - b'0');
+        if text[1] == b' ' && low <= n && n < high {
+            self.rest = &text[2..];
             return Some(n);
         }
-        if self.rest[at] != b' ' {
+        let mut at = 1;
+        while *first != b'0' && text[at].is_ascii_digit() {
+            n = n.wrapping_mul(10).wrapping_add(u64::from(text[at] - b'0'));
+            at += 1;
+        }
+        if at > FEW || n < low || high <= n {
             return None;
         }
-        self.rest = &self.rest[at + 1..];
+        if is_last {
+            if at + 1 != text.len() {
+                return None;
+            }
+        } else if text[at] != b' ' {
+            return None;
+        }
+        self.rest = &text[at + 1..];
         Some(n)
     }
 
-    // The number of the next word, however long it is.
+    // The number of the next word, however long it is, and the words behind it.
     #[cold]
     #[inline(never)]
     #[tactic(auto, unfolding(crate::specs::Rows::word))]
-    fn any_number(&mut self, low: u64, high: u64) -> Option<u64>
+    fn any_number(self, low: u64, high: u64) -> Option<(u64, Self)>
+        ensures reads { MatchOption result (word (numbers_spec.number_in low high) self.entry ≡ None) (λ r. word (numbers_spec.number_in low high) self.entry ≡ Some r) }
+        ensures within { IfSome result (λ r. (low ≤ r.0) × (r.0 < high)) }
+    {
+        let mut words = self;
+        let n = numbers::number_in(words.next()?, low, high)?;
+        Some((n, words))
+    }
+
+    // The number of the next word, by the slow way.
+    #[inline(always)]
+    fn long_number(&mut self, low: u64, high: u64) -> Option<u64>
         ensures reads { Reads (numbers_spec.number_in low high) result self.old self.new }
         ensures within { IfSome result (λ n. (low ≤ n) × (n < high)) }
     {
-        numbers::number_in(self.next()?, low, high)
+        let (n, words) = Words { rest: self.rest }.any_number(low, high)?;
+        *self = words;
+        Some(n)
+    }
+
+    // The number of the next word, from `low` to below `high`, which is likely the last word or not.
+    #[inline(always)]
+    fn likely_number(&mut self, low: u64, high: u64, is_last: bool) -> Option<u64>
+        ensures reads { Reads (numbers_spec.number_in low high) result self.old self.new }
+        ensures within { IfSome result (λ n. (low ≤ n) × (n < high)) }
+    {
+        if let Some(n) = self.short_number(low, high, is_last) {
+            return Some(n);
+        }
+        self.long_number(low, high)
     }
 
     /// The number of the next word, from `low` to below `high`.
@@ -115,13 +193,20 @@ impl<'a> Words<'a> {
         ensures reads { Reads (numbers_spec.number_in low high) result self.old self.new }
         ensures within { IfSome result (λ n. (low ≤ n) × (n < high)) }
     {
-        if let Some(n) = self.short_number(low, high) {
-            return Some(n);
-        }
-        self.any_number(low, high)
+        self.likely_number(low, high, false)
+    }
+
+    // The same, where it is likely the last word.
+    #[inline(always)]
+    fn last_number(&mut self, low: u64, high: u64) -> Option<u64>
+        ensures reads { Reads (numbers_spec.number_in low high) result self.old self.new }
+        ensures within { IfSome result (λ n. (low ≤ n) × (n < high)) }
+    {
+        self.likely_number(low, high, true)
     }
 
     /// A moment or a duration, in milliseconds.
+    #[inline(always)]
     pub fn millis(&mut self) -> Option<u64>
         ensures reads { Reads numbers_spec.millis result self.old self.new }
         ensures below { IfSome result (λ n. n < 2 ^ 40) }
@@ -130,13 +215,23 @@ impl<'a> Words<'a> {
     }
 
     /// The number of a client, a ticket or a connection.
+    #[inline(always)]
     pub fn name_number(&mut self) -> Option<u32>
         ensures { Reads numbers_spec.name_number result self.old self.new }
     {
         Some(self.number(0, 1 << 32)? as u32)
     }
 
+    /// The number of a client, a ticket or a connection, which is likely the last word.
+    #[inline(always)]
+    pub fn last_name_number(&mut self) -> Option<u32>
+        ensures { Reads numbers_spec.name_number result self.old self.new }
+    {
+        Some(self.last_number(0, 1 << 32)? as u32)
+    }
+
     /// A key.
+    #[inline(always)]
     pub fn key(&mut self) -> Option<u32>
         ensures { Reads numbers_spec.key result self.old self.new }
     {
@@ -144,10 +239,11 @@ impl<'a> Words<'a> {
     }
 
     /// How many connects for the minimum succeed.
+    #[inline(always)]
     pub fn opens(&mut self) -> Option<u32>
         ensures { Reads numbers_spec.opens result self.old self.new }
     {
-        Some(self.number(0, 65_536)? as u32)
+        Some(self.last_number(0, 65_536)? as u32)
     }
 
     /// How many idle connections a poll may test.
@@ -159,18 +255,44 @@ impl<'a> Words<'a> {
     }
 
     /// How many tests the letters of a poll answer.
+    #[inline(always)]
     pub fn tests(&mut self) -> Option<u32>
         ensures { Reads numbers_spec.tests result self.old self.new }
     {
-        Some(self.number(0, 65_536)? as u32)
+        Some(self.last_number(0, 65_536)? as u32)
     }
 
-    /// A value.
-    #[tactic(auto, unfolding(crate::specs::Rows::word))]
+    // A value with no minus.
+    #[inline(always)]
+    fn plain_value(&mut self) -> Option<i64>
+        ensures { Reads numbers_spec.plain_value result self.old self.new }
+    {
+        let n = self.number(0, 9_223_372_036_854_775_808)?;
+        Some(n as i64)
+    }
+
+    // The value of the number that follows a minus.
+    #[inline(always)]
+    fn minus_value(&mut self) -> Option<i64>
+        ensures { Reads numbers_spec.minus_value result self.old self.new }
+    {
+        let n = self.number(1, 9_223_372_036_854_775_809)?;
+        Some(-((n - 1) as i64) - 1)
+    }
+
+    /// A value, which may have a minus.
+    #[inline(always)]
     pub fn value(&mut self) -> Option<i64>
         ensures { Reads numbers_spec.value result self.old self.new }
     {
-        numbers::value(self.next()?)
+        let [first, rest @ ..] = self.rest else {
+            return None;
+        };
+        if *first == b'-' {
+            self.rest = rest;
+            return self.minus_value();
+        }
+        self.plain_value()
     }
 
     /// A duration in nanoseconds, or none for `-`.
@@ -182,35 +304,35 @@ impl<'a> Words<'a> {
     }
 
     /// A sign.
-    #[tactic(auto, unfolding(crate::specs::Rows::word))]
+    #[inline(always)]
     pub fn sign(&mut self) -> Option<bool>
         ensures { Reads letters_spec.sign result self.old self.new }
     {
-        letters::sign(self.next()?)
+        letters::sign(self.short_word(1)?)
     }
 
     /// The answer to a statement.
-    #[tactic(auto, unfolding(crate::specs::Rows::word))]
+    #[inline(always)]
     pub fn statement(&mut self) -> Option<StatementAnswer>
         ensures { Reads letters_spec.statement result self.old self.new }
     {
-        letters::statement(self.next()?)
+        letters::statement(self.short_word(1)?)
     }
 
     /// The four letters of a `poll`.
-    #[tactic(auto, unfolding(crate::specs::Rows::word))]
+    #[inline(always)]
     pub fn poll_answers(&mut self) -> Option<PollAnswers>
         ensures { Reads letters_spec.poll_answers result self.old self.new }
     {
-        letters::poll_answers(self.next()?)
+        letters::poll_answers(self.short_word(4)?)
     }
 
     /// The two letters of a `give`.
-    #[tactic(auto, unfolding(crate::specs::Rows::word))]
+    #[inline(always)]
     pub fn give_answers(&mut self) -> Option<GiveAnswers>
         ensures { Reads letters_spec.give_answers result self.old self.new }
     {
-        letters::give_answers(self.next()?)
+        letters::give_answers(self.short_word(2)?)
     }
 
     /// The four switches of the first line.
@@ -234,11 +356,14 @@ impl<'a> Words<'a> {
     }
 
     /// What the words made, where none is left.
-    #[inline]
-    #[tactic(auto, using(crate::proofs::Cuts::has_word, crate::proofs::Cuts::not_ended))]
+    #[inline(always)]
     pub fn finish<T: Drop>(&self, made: T) -> Option<T>
         ensures { result ≡ ended made self.now }
     {
-        if self.ended { Some(made) } else { None }
+        if self.rest.is_empty() {
+            Some(made)
+        } else {
+            None
+        }
     }
 }

@@ -1,5 +1,5 @@
 use Rattle.std.proofs.Common.{◌≢◌, ℕ, ◌<◌, get_or}
-use Rattle.sqlx_script.proofs.words.cut_word.Given as goal
+use Rattle.sqlx_script.proofs.words.word_end.Given as goal
 
 -- no blank so far
 abbrev pub invariant-loop-at : goal.invariant-loop-at
