@@ -1,4 +1,6 @@
 pub mod Trees
+pub mod OnceEach
+pub mod LaidInPlace
 pub mod Undoing
 pub mod FreeActs
 mod WorkedUndo

@@ -1,5 +1,6 @@
 pub mod Statements
 pub mod UndoLog
+pub mod OwnWrites
 pub mod Undo
 pub mod SavepointStack
 pub mod Store

@@ -1,20 +1,42 @@
-use Rattle.std.proofs.Common.{to_z-of_z}
-use Rattle.mem_store.proofs.Trees.{from_entries-remove}
-use Rattle.mem_store.proofs.Undoing.{put_back-absent, put_back-present}
+use Rattle.std.proofs.Common.{refl, arith, nat_eq, to_z-of_z}
+use Rattle.std.specs.HashMap.{get}
+use Rattle.sqlx_numbered.proofs.Places.{noted-changed, noted-gap}
+use Rattle.mem_store.specs.OwnWrites.{number_of, StandsAt}
+use Rattle.mem_store.proofs.OnceEach.{back-at, gone-from, gone-once, map-unfound, within-at, written-once}
 use Rattle.mem_store.proofs.writes.Writes.put_back.Goals as goal
-
-pub returns-in-Some-get_mut : goal.returns-in-Some-get_mut
-returns-in-Some-get_mut c =
-    let there = rw (to_z-of_z c.ranges.key) at c.in-Some-get_mut.ensures.value in
-    let after = rw (to_z-of_z c.ranges.key) at (c.get_mut.follows.holds c.in-Some.value) in
-    rw (c.in-Some.is, ← c.self.view_is) (put_back-present c.self.inside.tree.entries (c.get_mut.follows.lender c.in-Some.value).entries c.args.key c.in-Some.value _ there (after.3 (search there)).0)
+use Rattle.mem_store.proofs.writes.Writes.put_back.Goals.{in-Some-before, in-None}
 
 pub returns-in_default : goal.returns-in_default
 returns-in_default c =
-    let none = rw (to_z-of_z c.ranges.key) at c.in_default.ensures.value in
-    rw (c.in-Some.is, c.get_mut.follows.holds-at-none, ← c.self.view_is) (put_back-absent c.self.inside.tree.entries c.args.key c.in-Some.value none)
+    let none = rw (to_z-of_z c.ranges.key) at (rw c.deref.ensures.value at c.in_default.ensures.none) in
+    rw (← c.self.view_is) (map-unfound _ c.args.key c.args.before none)
 
-pub returns-in-None : goal.returns-in-None
-returns-in-None c =
-    let e = rw (to_z-of_z c.ranges.key) at c.remove.ensures.updates in
-    rw (c.in-None.is, ← c.self.view_is) (from_entries-remove c.self.inside.tree.entries c.remove.new.self.entries c.args.key e.0)
+pub index_mut-requires : goal.index_mut-requires
+index_mut-requires c =
+    let there = c.in-Some.ensures.some in
+    let within = within-at c.deref.result.now c.in-Some.place _ there.stands in
+    let len = c.deref.ensures.len in
+    omega (arith, within, len)
+
+pub invariant_of-self : goal.invariant_of-self
+invariant_of-self c =
+    let there : StandsAt c.args.key c.self.inside.places.items c.in-Some.place = rw (to_z-of_z c.ranges.key, c.deref.ensures.value) at c.in-Some.ensures.some in
+    let noted = get nat_eq c.self.inside.notes.noted in
+    elim c.match-before.branch [
+      | in-Some-before w ↦ rw (rw (to_z-of_z c.ranges.key) at w.write-is) (
+        λ t. noted-changed number_of c.self.inside.places.items noted c.in-Some.place (c.args.key, there.value) (c.args.key, w.in-Some-before.value) there.stands refl (c.self.invariant.0 t),
+        written-once c.args.key c.self.inside.places.items c.in-Some.place c.self.invariant.1 there w.in-Some-before.value,
+      )
+      | in-None w ↦ rw w.write-is (
+        λ t. noted-gap number_of c.self.inside.places.items noted c.in-Some.place (c.self.invariant.0 t),
+        gone-once c.args.key c.self.inside.places.items c.in-Some.place c.self.invariant.1 there,
+      )
+    ]
+
+pub returns : goal.returns
+returns c =
+    let there : StandsAt c.args.key c.self.inside.places.items c.in-Some.place = rw (to_z-of_z c.ranges.key, c.deref.ensures.value) at c.in-Some.ensures.some in
+    elim c.match-before.branch [
+      | in-Some-before w ↦ rw (← c.self.view_is, rw (to_z-of_z c.ranges.key) at w.write-is, w.in-Some-before.is) (back-at c.args.key c.self.inside.places.items c.in-Some.place c.self.invariant.1 there w.in-Some-before.value)
+      | in-None w ↦ rw (← c.self.view_is, w.write-is, w.in-None.is) (gone-from c.args.key c.self.inside.places.items c.in-Some.place c.self.invariant.1 there)
+    ]
