@@ -1,13 +1,13 @@
 //! Plays a script.
-ghost use Rattle.std.specs.Prelude.{◌≡◌, true, ◌^◌, ◌≤◌, ℕ, List, length, IfOk, IfErr, OnOk};
+ghost use Rattle.std.specs.Prelude.{◌≡◌, true, ◌+◌, ◌^◌, ◌≤◌, ◌⊎◌, ℕ, List, [], length, Some, IfOk, IfErr, OnErr, OnOk};
 ghost use Rattle.std.specs.Io.KnownBytes.{Appends};
 ghost use Rattle.sqlx_script.specs.Texts.{line_of, report_text};
 ghost use Rattle.sqlx_script.specs.Built.{has_few_opens};
 ghost use Rattle.sqlx_script.specs.Grammar.{limit};
 ghost use Rattle.sqlx_play.specs.stage.EventFrame.{Frame};
 ghost use Rattle.sqlx_play.specs.stage.StageStands.{IsFresh, last_of, numbers_of};
-ghost use Rattle.sqlx_play.specs.Causes.{TookAll, WrotePart, TextCause, ScriptCause, PlayCause, IsComplete, shown};
-ghost use Rattle.sqlx_play.specs.Plays.{Replies, RepliesInPart, PlaysLines, LinesCause, Plays};
+ghost use Rattle.sqlx_play.specs.Causes.{TookAll, Wrote, WrotePart, TextCause, ScriptCause, PlayCause, IsComplete, shown};
+ghost use Rattle.sqlx_play.specs.Plays.{Replies, PlaysLines, LinesCause, Plays};
 
 use crate::error::PlayError;
 use crate::io::{Sink, Source};
@@ -15,8 +15,11 @@ use crate::pour::{read_all, write_all};
 use crate::stage::{Stage, answer, new_stage, report};
 use mem_acts::{ClientLink, MemStore, Route};
 use sqlx_pool_core::PoolCore;
-use sqlx_script::{Event, OutputLine, Report, cut_line, read_event, read_pool_line};
+use sqlx_script::{Event, OutputPage, Report, cut_line, read_event, read_pool_line};
 use std::alloc::Global;
+
+// The most that a reply takes, with its newline.
+const LINE: usize = 128;
 
 /// What a script left: the pool's core and the database that it was played on.
 #[derive(Drop)]
@@ -25,26 +28,63 @@ pub struct Played {
     pub store: MemStore,
 }
 
-// Plays an event and writes its reply.
-#[tactic(auto, using(crate::proofs::scripts::Parts::none_yet))]
-fn play_event<R: Route, K: Sink>(
+// Writes what the page holds, and empties it.
+fn write_page<K: Sink>(page: &mut OutputPage, sink: &mut K) -> Result<(), PlayError>
+    ensures ok { OnOk result (Appends (K.written sink.old) (K.written sink.new) page.old.bytes) }
+    ensures empty { OnOk result (page.new.bytes ≡ []) }
+    ensures rises { K.faults sink.old ≤ K.faults sink.new }
+    ensures cause { IfErr result (TextCause (λ _. ⊥) (WrotePart (K.written sink.old) (K.written sink.new) page.old.bytes) (K.faults sink.old) (K.faults sink.new)) }
+{
+    write_all(sink, page.as_str().as_bytes())?;
+    page.clear();
+    Ok(())
+}
+
+// Makes room for a line on the page: where it hasn't, what it holds is written.
+#[tactic(auto, using(crate::proofs::scripts::Parts::all_written, crate::proofs::scripts::Parts::begun))]
+fn make_room<K: Sink>(page: &mut OutputPage, sink: &mut K) -> Result<(), PlayError>
+    ensures ok { OnOk result (Wrote (K.written sink.old) (K.written sink.new) page.old.bytes page.new.bytes) }
+    ensures room { OnOk result (length page.new.bytes + 128 ≤ 4096) }
+    ensures rises { K.faults sink.old ≤ K.faults sink.new }
+    ensures cause { IfErr result (TextCause (λ _. ⊥) (WrotePart (K.written sink.old) (K.written sink.new) page.old.bytes) (K.faults sink.old) (K.faults sink.new)) }
+{
+    if page.remaining_capacity() >= LINE {
+        return Ok(());
+    }
+    write_page(page, sink)
+}
+
+// By what a play ends: this error, once what the page holds was written, or else that of the write.
+fn ended_by<K: Sink>(page: &mut OutputPage, sink: &mut K, error: PlayError) -> PlayError
+    ensures rises { K.faults sink.old ≤ K.faults sink.new }
+    ensures cause { (Appends (K.written sink.old) (K.written sink.new) page.old.bytes × (result ≡ error))
+        ⊎ TextCause (λ _. ⊥) (WrotePart (K.written sink.old) (K.written sink.new) page.old.bytes) (K.faults sink.old) (K.faults sink.new) result }
+{
+    match write_page(page, sink) {
+        Ok(()) => error,
+        Err(refused) => refused,
+    }
+}
+
+// Plays an event, and puts its reply on the page.
+fn play_event<R: Route>(
     alloc: Global,
     stage: &mut Stage,
     event: &Event,
-    line: &mut OutputLine,
-    sink: &mut K,
+    page: &mut OutputPage,
 ) -> Result<(), PlayError>
     requires few { has_few_opens event.now.step ≡ true }
     requires numbers { numbers_of stage.old ≤ 2 ^ 62 }
     requires in_order { last_of stage.old ≤ event.now.moment.0 }
-    ensures ok { OnOk result (Replies (K.written sink.old) (K.written sink.new) stage.old stage.new event.now) }
+    requires room { length page.old.bytes + 128 ≤ 4096 }
+    ensures ok { OnOk result (Replies (Some page.old.bytes) (Some page.new.bytes) stage.old stage.new event.now) }
+    ensures err { OnErr result (page.new.bytes ≡ page.old.bytes) }
     ensures frame { Frame stage.old stage.new event.now.moment.0 (2 ^ 20) }
-    ensures rises { K.faults sink.old ≤ K.faults sink.new }
-    ensures cause { IfErr result (TextCause (λ _. ⊥) (RepliesInPart (K.written sink.old) (K.written sink.new) stage.old event.now) (K.faults sink.old) (K.faults sink.new)) }
+    ensures memory { IfErr result (λ e. e ≡ PlayError.OutOfMemory) }
 {
     let reply = answer::<R>(stage, alloc, event)?;
-    reply.set_line(line);
-    write_all(sink, line.as_str().as_bytes())
+    reply.push_line(page);
+    Ok(())
 }
 
 // Plays the lines after the first.
@@ -52,12 +92,14 @@ fn play_lines<R: Route, K: Sink>(
     alloc: Global,
     stage: &mut Stage,
     text: &[u8],
-    reply: &mut OutputLine,
+    page: &mut OutputPage,
     sink: &mut K,
 ) -> Result<(), PlayError>
     requires fresh { IsFresh stage.old }
     requires short { length text.now ≤ limit }
+    requires empty { page.old.bytes ≡ [] }
     ensures ok { OnOk result (PlaysLines text.now stage.old.pool (K.written sink.old) (K.written sink.new) stage.new) }
+    ensures empty { OnOk result (page.new.bytes ≡ []) }
     ensures pool { stage.new.pool ≡ stage.old.pool }
     ensures rises { K.faults sink.old ≤ K.faults sink.new }
     ensures cause { IfErr result (LinesCause text.now stage.old.pool (K.written sink.old) (K.written sink.new) (K.faults sink.old) (K.faults sink.new)) }
@@ -67,17 +109,23 @@ fn play_lines<R: Route, K: Sink>(
     let mut last: u64 = 0;
     let mut number: u64 = 2;
     while !rest.is_empty() {
+        if let Err(error) = make_room(page, sink) {
+            return Err(error);
+        }
         let (line, after) = cut_line(rest);
         let event = match read_event(line, counts_tests) {
             Some(event) if event.moment.0 >= last => event,
-            _ => return Err(PlayError::ScriptLine(number)),
+            _ => return Err(ended_by(page, sink, PlayError::ScriptLine(number))),
         };
-        if let Err(error) = play_event::<R, K>(alloc, stage, &event, reply, sink) {
-            return Err(error);
+        if let Err(error) = play_event::<R>(alloc, stage, &event, page) {
+            return Err(ended_by(page, sink, error));
         }
         rest = after;
         last = event.moment.0;
         number += 1;
+    }
+    if let Err(error) = write_page(page, sink) {
+        return Err(error);
     }
     Ok(())
 }
@@ -94,19 +142,20 @@ fn played_on(stage: Stage) -> Played
     }
 }
 
-// Writes the closing report, by one call if the sink takes it whole.
+// Writes the closing report.
 fn write_report<K: Sink>(
-    line: &mut OutputLine,
+    page: &mut OutputPage,
     sink: &mut K,
     report: &Report,
 ) -> Result<(), PlayError>
+    requires empty { page.old.bytes ≡ [] }
     ensures ok { OnOk result (Appends (K.written sink.old) (K.written sink.new) (line_of (report_text report.now))) }
     ensures rises { K.faults sink.old ≤ K.faults sink.new }
     ensures cause { IfErr result (TextCause (λ _. ⊥) (WrotePart (K.written sink.old) (K.written sink.new) (line_of (report_text report.now)))
         (K.faults sink.old) (K.faults sink.new)) }
 {
-    report.set_line(line);
-    write_all(sink, line.as_str().as_bytes())
+    report.push_line(page);
+    write_page(page, sink)
 }
 
 // Plays a script that was read whole.
@@ -128,12 +177,12 @@ fn play_text<R: Route, K: Sink>(
         return Err(PlayError::ScriptLine(1));
     };
     let mut stage = new_stage(alloc, pool)?;
-    let mut line = OutputLine::new();
-    if let Err(error) = play_lines::<R, K>(alloc, &mut stage, rest, &mut line, sink) {
+    let mut page = OutputPage::new();
+    if let Err(error) = play_lines::<R, K>(alloc, &mut stage, rest, &mut page, sink) {
         drop(stage);
         return Err(error);
     }
-    if let Err(error) = write_report(&mut line, sink, &report(&stage)) {
+    if let Err(error) = write_report(&mut page, sink, &report(&stage)) {
         drop(stage);
         return Err(error);
     }

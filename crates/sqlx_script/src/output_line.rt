@@ -1,4 +1,4 @@
-//! The line in which a text of the language is made, without memory of the allocator's.
+//! The value in which texts of the language are made, without memory of the allocator's.
 ghost use Rattle.std.specs.Prelude.{◌≡◌, ◌+◌, ◌++◌, ◌≤◌, length};
 ghost use Rattle.std.specs.Fmt.{decimal};
 ghost use Rattle.sqlx_savepoints.specs.Texts.{text_of};
@@ -10,42 +10,45 @@ use sqlx_savepoints::LevelText;
 /// A line of a script or of its output, which lies in the value itself. Each line that is made fits into 128 bytes.
 pub type OutputLine = ArrayString<128>;
 
-// Puts the digits of a number of any kind behind what the line holds.
+/// Lines of output, which lie in the value itself and are written together.
+pub type OutputPage = ArrayString<4096>;
+
+// Puts the digits of a number of any kind behind what the page holds.
 #[inline]
-pub(crate) fn push_integer<I: Integer>(line: &mut OutputLine, n: I)
-    requires room { length line.old.bytes + I.MAX_STR_LEN ≤ 128 }
-    ensures bytes { line.new.bytes ≡ line.old.bytes ++ I.text n }
-    ensures short { length line.new.bytes ≤ length line.old.bytes + I.MAX_STR_LEN }
+pub(crate) fn push_integer<I: Integer, const CAP: usize>(page: &mut ArrayString<CAP>, n: I)
+    requires room { length page.old.bytes + I.MAX_STR_LEN ≤ CAP }
+    ensures bytes { page.new.bytes ≡ page.old.bytes ++ I.text n }
+    ensures short { length page.new.bytes ≤ length page.old.bytes + I.MAX_STR_LEN }
 {
     let mut digits = Buffer::new();
-    line.push_str(digits.format(n));
+    page.push_str(digits.format(n));
 }
 
-/// Puts a number's digits behind what the line holds. Most numbers of a line have one.
+/// Puts a number's digits behind what the page holds. Most numbers of a line have one.
 #[inline]
 #[tactic(auto, using(std::proofs::lemmas::Fmt::decimal_digit))]
-pub fn push_number(line: &mut OutputLine, n: u64)
-    requires room { length line.old.bytes ≤ 108 }
-    ensures bytes { line.new.bytes ≡ line.old.bytes ++ decimal n }
-    ensures short { length line.new.bytes ≤ length line.old.bytes + 20 }
+pub fn push_number<const CAP: usize>(page: &mut ArrayString<CAP>, n: u64)
+    requires room { length page.old.bytes + 20 ≤ CAP }
+    ensures bytes { page.new.bytes ≡ page.old.bytes ++ decimal n }
+    ensures short { length page.new.bytes ≤ length page.old.bytes + 20 }
 {
     if n < 10 {
-        line.push((b'0' + n as u8) as char);
+        page.push((b'0' + n as u8) as char);
     } else {
-        push_integer(line, n);
+        push_integer::<u64, CAP>(page, n);
     }
 }
 
-// Puts a level's text behind what the line holds.
+// Puts a level's text behind what the page holds.
 #[inline]
-pub(crate) fn push_level(line: &mut OutputLine, level: LevelText)
-    requires room { length line.old.bytes ≤ 69 }
-    ensures bytes { line.new.bytes ≡ line.old.bytes ++ text_of level }
-    ensures short { length line.new.bytes ≤ length line.old.bytes + 59 }
+pub(crate) fn push_level<const CAP: usize>(page: &mut ArrayString<CAP>, level: LevelText)
+    requires room { length page.old.bytes + 59 ≤ CAP }
+    ensures bytes { page.new.bytes ≡ page.old.bytes ++ text_of level }
+    ensures short { length page.new.bytes ≤ length page.old.bytes + 59 }
 {
     let (words, number) = level.parts();
-    line.push_str(words);
+    page.push_str(words);
     if let Some(n) = number {
-        push_number(line, n);
+        push_number::<CAP>(page, n);
     }
 }
