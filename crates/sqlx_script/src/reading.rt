@@ -1,54 +1,44 @@
 //! What a line of a script says.
 ghost use Rattle.std.specs.Prelude.{◌≡◌, ◌≤◌, IfSome, true};
 ghost use Rattle.sqlx_script.specs.Built.{has_few_opens};
-ghost use Rattle.sqlx_script.specs.Grammar.{statement_of, step_of, event_of, limits_after, pool_of};
+ghost use Rattle.sqlx_script.specs.Grammar.{step_of, event_of, limits_after, pool_of};
+ghost use Rattle.sqlx_script.specs.Names.{text_of};
 
 use crate::fields;
+use crate::names::Name;
 use crate::numbers::NANOS;
 use crate::pool_line::PoolLine;
 use crate::step::{Event, Step};
 use crate::words::Words;
 use sqlx_text::Moment;
 
-// What follows the moment, for the name of a statement.
-#[inline(always)]
-#[tactic(auto, unfolding(crate::specs::Grammar::statement_of))]
-fn statement(name: &[u8], words: Words<'_>) -> Option<Step>
-    ensures { result ≡ statement_of name.now words.entry }
-{
-    match name {
-        b"begin" => fields::begin(words),
-        b"custom" => fields::custom(words),
-        b"put" => fields::put(words),
-        b"del" => fields::del(words),
-        b"get" => fields::get(words),
-        b"commit" => fields::commit(words),
-        b"rollback" => fields::rollback(words),
-        b"giveup" => fields::give_up(words),
-        _ => None,
-    }
-}
-
 // What follows the moment.
 #[inline(always)]
-#[tactic(auto, unfolding(crate::specs::Grammar::step_of))]
-fn step(name: &[u8], words: Words<'_>, counts_tests: bool) -> Option<Step>
-    ensures { result ≡ step_of counts_tests name.now words.entry }
+#[tactic(auto, unfolding(crate::specs::Grammar::step_of, crate::specs::Grammar::statement_of))]
+fn step(name: Name, words: Words<'_>, counts_tests: bool) -> Option<Step>
+    ensures { result ≡ step_of counts_tests (text_of name) words.entry }
 {
     match name {
-        b"ask" => fields::ask(words),
-        b"poll" => fields::poll(words, counts_tests),
-        b"cancel" => fields::cancel(words),
-        b"try" => fields::try_idle(words),
-        b"give" => fields::give(words),
-        b"end" => fields::end(words),
-        b"detach" => fields::detach(words),
-        b"leak" => fields::leak(words),
-        b"reap" => fields::reap(words),
-        b"min" => fields::min(words),
-        b"closed" => fields::close_state(words),
-        b"close" => fields::close(words),
-        _ => statement(name, words),
+        Name::Ask => fields::ask(words),
+        Name::Poll => fields::poll(words, counts_tests),
+        Name::Cancel => fields::cancel(words),
+        Name::Try => fields::try_idle(words),
+        Name::Give => fields::give(words),
+        Name::End => fields::end(words),
+        Name::Detach => fields::detach(words),
+        Name::Leak => fields::leak(words),
+        Name::Reap => fields::reap(words),
+        Name::Min => fields::min(words),
+        Name::Closed => fields::close_state(words),
+        Name::Close => fields::close(words),
+        Name::Begin => fields::begin(words),
+        Name::Custom => fields::custom(words),
+        Name::Put => fields::put(words),
+        Name::Del => fields::del(words),
+        Name::Get => fields::get(words),
+        Name::Commit => fields::commit(words),
+        Name::Rollback => fields::rollback(words),
+        Name::GiveUp => fields::give_up(words),
     }
 }
 
@@ -59,7 +49,7 @@ pub fn read_event(line: &[u8], counts_tests: bool) -> Option<Event>
     ensures few { IfSome result (λ event. has_few_opens event.step ≡ true) }
 {
     let mut words = Words::of_line(line)?;
-    let name = words.next()?;
+    let name = words.name()?;
     let now = words.millis()?;
     let step = step(name, words, counts_tests)?;
     Some(Event {

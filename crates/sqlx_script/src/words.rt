@@ -5,9 +5,11 @@ ghost use Rattle.sqlx_script.specs.Rows.{word, of_length, ended, Reads};
 ghost use Rattle.sqlx_script.specs.Numbers as numbers_spec;
 ghost use Rattle.sqlx_script.specs.Letters as letters_spec;
 ghost use Rattle.sqlx_script.specs.Grammar.{pool_name};
+ghost use Rattle.sqlx_script.specs.Names.{text_of};
 
 use crate::answers::{GiveAnswers, PollAnswers, StatementAnswer};
 use crate::letters::Switches;
+use crate::names::{Name, name_in_front};
 use crate::{letters, numbers};
 use std::marker::Model;
 
@@ -94,6 +96,17 @@ impl<'a> Words<'a> {
         let at = word_end(text)?;
         self.rest = &text[at + 1..];
         Some(&text[..at])
+    }
+
+    /// The name of an event, where it is one and another word follows it.
+    #[inline(always)]
+    pub fn name(&mut self) -> Option<Name>
+        ensures some { IfSome result (λ name. self.old ≡ text_of name ∷ self.new) }
+        ensures none { IfNone result ((name : Name) → (w : List ℕ) → (ws : List (List ℕ)) → self.old ≢ text_of name ∷ w ∷ ws) }
+    {
+        let (name, rest) = name_in_front(self.rest)?;
+        self.rest = rest;
+        Some(name)
     }
 
     // So many bytes in front, where a blank or the newline stands behind them: the next word, if no blank is among them.
