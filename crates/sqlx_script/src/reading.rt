@@ -1,44 +1,44 @@
 //! What a line of a script says.
-ghost use Rattle.std.specs.Prelude.{◌≡◌, ◌≤◌, IfSome, true};
+ghost use Rattle.std.specs.Prelude.{◌≡◌, ◌<◌, ◌≤◌, ◌^◌, IfSome, true};
 ghost use Rattle.sqlx_script.specs.Built.{has_few_opens};
-ghost use Rattle.sqlx_script.specs.Grammar.{step_of, event_of, limits_after, pool_of};
+ghost use Rattle.sqlx_script.specs.Grammar.{at_moment, step_of, event_of, limits_after, pool_of};
 ghost use Rattle.sqlx_script.specs.Names.{text_of};
 
 use crate::fields;
 use crate::names::Name;
 use crate::numbers::NANOS;
 use crate::pool_line::PoolLine;
-use crate::step::{Event, Step};
+use crate::step::Event;
 use crate::words::Words;
-use sqlx_text::Moment;
 
-// What follows the moment.
+// What follows the moment, which is so many milliseconds.
 #[inline(always)]
 #[tactic(auto, unfolding(crate::specs::Grammar::step_of, crate::specs::Grammar::statement_of))]
-fn step(name: Name, words: Words<'_>, counts_tests: bool) -> Option<Step>
-    ensures { result ≡ step_of counts_tests (text_of name) words.entry }
+fn event(name: Name, words: Words<'_>, ms: u64, counts_tests: bool) -> Option<Event>
+    requires { ms < 2 ^ 40 }
+    ensures { result ≡ at_moment ms (step_of counts_tests (text_of name) words.entry) }
 {
     match name {
-        Name::Ask => fields::ask(words),
-        Name::Poll => fields::poll(words, counts_tests),
-        Name::Cancel => fields::cancel(words),
-        Name::Try => fields::try_idle(words),
-        Name::Give => fields::give(words),
-        Name::End => fields::end(words),
-        Name::Detach => fields::detach(words),
-        Name::Leak => fields::leak(words),
-        Name::Reap => fields::reap(words),
-        Name::Min => fields::min(words),
-        Name::Closed => fields::close_state(words),
-        Name::Close => fields::close(words),
-        Name::Begin => fields::begin(words),
-        Name::Custom => fields::custom(words),
-        Name::Put => fields::put(words),
-        Name::Del => fields::del(words),
-        Name::Get => fields::get(words),
-        Name::Commit => fields::commit(words),
-        Name::Rollback => fields::rollback(words),
-        Name::GiveUp => fields::give_up(words),
+        Name::Ask => fields::ask(words, ms),
+        Name::Poll => fields::poll(words, ms, counts_tests),
+        Name::Cancel => fields::cancel(words, ms),
+        Name::Try => fields::try_idle(words, ms),
+        Name::Give => fields::give(words, ms),
+        Name::End => fields::end(words, ms),
+        Name::Detach => fields::detach(words, ms),
+        Name::Leak => fields::leak(words, ms),
+        Name::Reap => fields::reap(words, ms),
+        Name::Min => fields::min(words, ms),
+        Name::Closed => fields::close_state(words, ms),
+        Name::Close => fields::close(words, ms),
+        Name::Begin => fields::begin(words, ms),
+        Name::Custom => fields::custom(words, ms),
+        Name::Put => fields::put(words, ms),
+        Name::Del => fields::del(words, ms),
+        Name::Get => fields::get(words, ms),
+        Name::Commit => fields::commit(words, ms),
+        Name::Rollback => fields::rollback(words, ms),
+        Name::GiveUp => fields::give_up(words, ms),
     }
 }
 
@@ -50,12 +50,8 @@ pub fn read_event(line: &[u8], counts_tests: bool) -> Option<Event>
 {
     let mut words = Words::of_line(line)?;
     let name = words.name()?;
-    let now = words.millis()?;
-    let step = step(name, words, counts_tests)?;
-    Some(Event {
-        moment: Moment(now * NANOS),
-        step,
-    })
+    let ms = words.millis()?;
+    event(name, words, ms, counts_tests)
 }
 
 // How old connections may grow, what is asked of them and how many are tested, and these maximum, minimum and nanoseconds to wait.

@@ -4,13 +4,16 @@ ghost use Rattle.sqlx_script.specs.Words.{has_blank, ends_well, words_of};
 ghost use Rattle.sqlx_script.specs.Rows.{word, of_length, ended, Reads};
 ghost use Rattle.sqlx_script.specs.Numbers as numbers_spec;
 ghost use Rattle.sqlx_script.specs.Letters as letters_spec;
-ghost use Rattle.sqlx_script.specs.Grammar.{pool_name};
+ghost use Rattle.sqlx_script.specs.Grammar.{pool_name, at_moment};
 ghost use Rattle.sqlx_script.specs.Names.{text_of};
 
 use crate::answers::{GiveAnswers, PollAnswers, StatementAnswer};
 use crate::letters::Switches;
 use crate::names::{Name, name_in_front};
+use crate::numbers::NANOS;
+use crate::step::{Event, Step};
 use crate::{letters, numbers};
+use sqlx_text::Moment;
 use std::marker::Model;
 
 // How many digits a number without a check of its size may have.
@@ -375,6 +378,22 @@ impl<'a> Words<'a> {
     {
         if self.rest.is_empty() {
             Some(made)
+        } else {
+            None
+        }
+    }
+
+    /// The event of this step, so many milliseconds from the start, where no word is left.
+    #[inline(always)]
+    pub fn finish_event(&self, ms: u64, step: Step) -> Option<Event>
+        requires { ms < 2 ^ 40 }
+        ensures { result ≡ at_moment ms (ended step self.now) }
+    {
+        if self.rest.is_empty() {
+            Some(Event {
+                moment: Moment(ms * NANOS),
+                step,
+            })
         } else {
             None
         }
