@@ -30,13 +30,25 @@ pub fn poll(mut words: Words<'_>, ms: u64, counts_tests: bool) -> Option<Event>
     let client = words.name_number()?;
     let ticket = words.name_number()?;
     let letters = words.poll_answers()?;
-    let tests = if counts_tests { words.tests()? } else { 1 };
+    if counts_tests {
+        let tests = words.tests()?;
+        let answers = PollAnswers { tests, ..letters };
+        return words.finish_event(
+            ms,
+            Step::Poll {
+                client,
+                ticket,
+                answers,
+            },
+        );
+    }
+    let answers = letters;
     words.finish_event(
         ms,
         Step::Poll {
             client,
             ticket,
-            answers: PollAnswers { tests, ..letters },
+            answers,
         },
     )
 }

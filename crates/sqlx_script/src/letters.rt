@@ -1,5 +1,5 @@
 //! Words whose letters say what the outside answers.
-ghost use Rattle.std.specs.Prelude.{◌≡◌};
+ghost use Rattle.std.specs.Prelude.{◌≡◌, IfSome};
 ghost use Rattle.sqlx_script.specs.Letters as spec;
 
 use crate::answers::{
@@ -105,7 +105,8 @@ const FOUR_PLUS: u32 = 0x2b2b_2b2b;
 #[inline(always)]
 #[tactic(auto, unfolding(crate::specs::Letters::poll_answers))]
 pub fn poll_answers(word: &[u8]) -> Option<PollAnswers>
-    ensures { result ≡ spec.poll_answers word.now }
+    ensures is { result ≡ spec.poll_answers word.now }
+    ensures one { IfSome result (λ answers. spec.answering answers 1 ≡ answers) }
 {
     let [ping, before, connects, after] = word else {
         return None;

@@ -338,7 +338,8 @@ impl<'a> Words<'a> {
     /// The four letters of a `poll`.
     #[inline(always)]
     pub fn poll_answers(&mut self) -> Option<PollAnswers>
-        ensures { Reads letters_spec.poll_answers result self.old self.new }
+        ensures reads { Reads letters_spec.poll_answers result self.old self.new }
+        ensures one { IfSome result (λ answers. letters_spec.answering answers 1 ≡ answers) }
     {
         letters::poll_answers(self.short_word(4)?)
     }
