@@ -19,13 +19,8 @@ use std::marker::Model;
 // How many digits a number without a check of its size may have.
 const FEW: usize = 19;
 
-// How many bytes the longest name of an event has, with the blank behind it.
-const NAME: usize = 9;
-
-// Where the first word ends, however long it is: at the first blank, or before the last byte, if there is one.
-#[cold]
-#[inline(never)]
-fn any_word_end(text: &[u8]) -> Option<usize>
+// Where the first word ends: at the first blank, or before the last byte, if there is one.
+fn word_end(text: &[u8]) -> Option<usize>
     ensures none { IfNone result (length text.now ≡ 0) }
     ensures inside { IfSome result (λ at. at < length text.now) }
     ensures no_blank { IfSome result (λ at. (k : ℕ) → k < at → slice_index text.now k ≢ 32) }
@@ -37,24 +32,6 @@ fn any_word_end(text: &[u8]) -> Option<usize>
         }
     }
     None
-}
-
-// The same, in few steps for the name of an event.
-#[inline(always)]
-fn word_end(text: &[u8]) -> Option<usize>
-    ensures none { IfNone result (length text.now ≡ 0) }
-    ensures inside { IfSome result (λ at. at < length text.now) }
-    ensures no_blank { IfSome result (λ at. (k : ℕ) → k < at → slice_index text.now k ≢ 32) }
-    ensures end { IfSome result (λ at. slice_index text.now at ≢ 32 → at + 1 ≡ length text.now) }
-{
-    if text.len() >= NAME {
-        for at in 0..NAME {
-            if text[at] == b' ' {
-                return Some(at);
-            }
-        }
-    }
-    any_word_end(text)
 }
 
 /// The words that are left of a line.
