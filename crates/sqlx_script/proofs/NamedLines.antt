@@ -10,7 +10,7 @@ use Rattle.sqlx_script.specs.Numbers.{◌>>=◌, millis}
 use Rattle.sqlx_script.specs.Names.{text_of}
 use Rattle.sqlx_script.specs.Grammar.{statement_of, step_of, event_words}
 use Rattle.sqlx_script.specs.declared.names.Name.{Name}
-use Rattle.sqlx_script.specs.declared.names.Name.TheVariants.{Ask, Poll, Cancel, Try, Give, End, Detach, Leak, Reap, Min, Closed, Close, Begin, Custom, Put, Del, Get, Commit, Rollback, GiveUp}
+use Rattle.sqlx_script.specs.declared.names.Name.TheVariants.{Ask, Poll, Cancel, Try, Give, End, Detach, Leak, Reap, Min, CloseState, Close, Begin, Custom, Put, Del, Get, Commit, Rollback, GiveUp}
 use Rattle.sqlx_script.specs.declared.step.Event.{Event}
 use Rattle.sqlx_script.specs.declared.step.Step.{Step}
 
@@ -52,7 +52,7 @@ no_step counts_tests w fields h =
       other w (codes "leak") (h Leak),
       other w (codes "reap") (h Reap),
       other w (codes "min") (h Min),
-      other w (codes "closed") (h Closed),
+      other w (codes "closed") (h CloseState),
       other w (codes "close") (h Close),
       other w (codes "begin") (h Begin),
       other w (codes "custom") (h Custom),

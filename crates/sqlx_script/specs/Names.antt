@@ -1,7 +1,7 @@
 -- The names of the events, as they are written.
 use Rattle.std.specs.Prelude.{ℕ, List, codes}
 use Rattle.sqlx_script.specs.declared.names.Name.{Name}
-use Rattle.sqlx_script.specs.declared.names.Name.TheVariants.{Ask, Poll, Cancel, Try, Give, End, Detach, Leak, Reap, Min, Closed, Close, Begin, Custom, Put, Del, Get, Commit, Rollback, GiveUp}
+use Rattle.sqlx_script.specs.declared.names.Name.TheVariants.{Ask, Poll, Cancel, Try, Give, End, Detach, Leak, Reap, Min, CloseState, Close, Begin, Custom, Put, Del, Get, Commit, Rollback, GiveUp}
 
 -- how a name is written
 abbrev pub text_of : Name → List ℕ
@@ -15,7 +15,7 @@ text_of Detach = codes "detach"
 text_of Leak = codes "leak"
 text_of Reap = codes "reap"
 text_of Min = codes "min"
-text_of Closed = codes "closed"
+text_of CloseState = codes "closed"
 text_of Close = codes "close"
 text_of Begin = codes "begin"
 text_of Custom = codes "custom"

@@ -15,7 +15,7 @@ pub enum Name {
     Leak,
     Reap,
     Min,
-    Closed,
+    CloseState,
     Close,
     Begin,
     Custom,
@@ -106,7 +106,7 @@ pub fn name_in_front(text: &[u8]) -> Option<(Name, &[u8])>
         MIN => Some((Name::Min, rest)),
         CLOS => match behind(Name::Close, b"e ", rest) {
             Some(found) => Some(found),
-            None => behind(Name::Closed, b"ed ", rest),
+            None => behind(Name::CloseState, b"ed ", rest),
         },
         BEGI => behind(Name::Begin, b"n ", rest),
         CUST => behind(Name::Custom, b"om ", rest),

@@ -29,7 +29,7 @@ fn event(name: Name, words: Words<'_>, ms: u64, counts_tests: bool) -> Option<Ev
         Name::Leak => fields::leak(words, ms),
         Name::Reap => fields::reap(words, ms),
         Name::Min => fields::min(words, ms),
-        Name::Closed => fields::close_state(words, ms),
+        Name::CloseState => fields::close_state(words, ms),
         Name::Close => fields::close(words, ms),
         Name::Begin => fields::begin(words, ms),
         Name::Custom => fields::custom(words, ms),
