@@ -2,6 +2,7 @@ pub mod Rows
 pub mod Cuts
 pub mod Digits
 pub mod Left
+pub mod NamedLines
 pub mod ShortWords
 pub mod Values
 pub mod LeadingDigits

@@ -51,10 +51,13 @@ step_of counts_tests name fields =
     if bytes_eq name (codes "close") then words0 Close fields else
     statement_of name fields
 
+-- the event of a step, if there is one, so many milliseconds from the start
+abbrev pub at_moment : ℕ → Option Step → Option Event
+at_moment ms step = step >>= λ step. Some (record { moment = record { 0 = nanos ms }; step = step })
+
 -- a line after the first: a name, a moment, and the fields of the name
 unfoldable pub event_words : Bool → List (List ℕ) → Option Event
-event_words counts_tests =
-    row any (λ name. row millis (λ ms fields. step_of counts_tests name fields >>= λ step. Some (record { moment = record { 0 = nanos ms }; step = step })))
+event_words counts_tests = row any (λ name. row millis (λ ms fields. at_moment ms (step_of counts_tests name fields)))
 
 -- whether the polls of a script tell a number of tests, by the first word of its first line: those of `pool2` do
 unfoldable pub pool_name : List ℕ → Option Bool

@@ -1,4 +1,5 @@
 pub mod Words
+pub mod Names
 pub mod Numbers
 pub mod Letters
 pub mod Rows

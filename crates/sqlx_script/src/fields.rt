@@ -1,295 +1,363 @@
-//! The fields of each event, after its name and its moment.
-ghost use Rattle.std.specs.Prelude.{◌≡◌};
+//! The fields of each event, after its name and its moment, which is so many milliseconds.
+ghost use Rattle.std.specs.Prelude.{◌≡◌, ◌<◌, ◌^◌};
 ghost use Rattle.sqlx_script.specs.Rows.{words0, words1, words2, words3, words4, words5};
-ghost use Rattle.sqlx_script.specs.Grammar.{poll_words};
+ghost use Rattle.sqlx_script.specs.Grammar.{at_moment, poll_words};
 ghost use Rattle.sqlx_script.specs.Numbers.{name_number, opens, key, value};
 ghost use Rattle.sqlx_script.specs.Letters.{sign, statement, give_answers};
 
 use crate::answers::PollAnswers;
-use crate::step::Step;
+use crate::step::{Event, Step};
 use crate::words::Words;
 
 /// The fields of `ask`.
 #[inline(always)]
 #[tactic(auto, using(crate::proofs::Rows::reads), unfolding(crate::specs::Rows::words1))]
-pub fn ask(mut words: Words<'_>) -> Option<Step>
-    ensures { result ≡ words1 name_number Step.Ask words.entry }
+pub fn ask(mut words: Words<'_>, ms: u64) -> Option<Event>
+    requires { ms < 2 ^ 40 }
+    ensures { result ≡ at_moment ms (words1 name_number Step.Ask words.entry) }
 {
     let client = words.last_name_number()?;
-    words.finish(Step::Ask { client })
+    words.finish_event(ms, Step::Ask { client })
 }
 
 /// The fields of `poll`, with how many tests its letters answer where it tells that.
 #[inline(always)]
 #[tactic(auto, using(crate::proofs::Rows::reads), unfolding(crate::specs::Grammar::poll_words))]
-pub fn poll(mut words: Words<'_>, counts_tests: bool) -> Option<Step>
-    ensures { result ≡ poll_words counts_tests words.entry }
+pub fn poll(mut words: Words<'_>, ms: u64, counts_tests: bool) -> Option<Event>
+    requires { ms < 2 ^ 40 }
+    ensures { result ≡ at_moment ms (poll_words counts_tests words.entry) }
 {
     let client = words.name_number()?;
     let ticket = words.name_number()?;
     let letters = words.poll_answers()?;
-    let tests = if counts_tests { words.tests()? } else { 1 };
-    words.finish(Step::Poll {
-        client,
-        ticket,
-        answers: PollAnswers { tests, ..letters },
-    })
+    if counts_tests {
+        let tests = words.tests()?;
+        let answers = PollAnswers { tests, ..letters };
+        return words.finish_event(
+            ms,
+            Step::Poll {
+                client,
+                ticket,
+                answers,
+            },
+        );
+    }
+    let answers = letters;
+    words.finish_event(
+        ms,
+        Step::Poll {
+            client,
+            ticket,
+            answers,
+        },
+    )
 }
 
 /// The fields of `cancel`.
 #[inline(always)]
 #[tactic(auto, using(crate::proofs::Rows::reads), unfolding(crate::specs::Rows::words2))]
-pub fn cancel(mut words: Words<'_>) -> Option<Step>
-    ensures { result ≡ words2 name_number name_number Step.Cancel words.entry }
+pub fn cancel(mut words: Words<'_>, ms: u64) -> Option<Event>
+    requires { ms < 2 ^ 40 }
+    ensures { result ≡ at_moment ms (words2 name_number name_number Step.Cancel words.entry) }
 {
     let client = words.name_number()?;
     let ticket = words.last_name_number()?;
-    words.finish(Step::Cancel { client, ticket })
+    words.finish_event(ms, Step::Cancel { client, ticket })
 }
 
 /// The fields of `try`.
 #[inline(always)]
 #[tactic(auto, using(crate::proofs::Rows::reads), unfolding(crate::specs::Rows::words1))]
-pub fn try_idle(mut words: Words<'_>) -> Option<Step>
-    ensures { result ≡ words1 name_number Step.Try words.entry }
+pub fn try_idle(mut words: Words<'_>, ms: u64) -> Option<Event>
+    requires { ms < 2 ^ 40 }
+    ensures { result ≡ at_moment ms (words1 name_number Step.Try words.entry) }
 {
     let client = words.last_name_number()?;
-    words.finish(Step::Try { client })
+    words.finish_event(ms, Step::Try { client })
 }
 
 /// The fields of `give`.
 #[inline(always)]
 #[tactic(auto, using(crate::proofs::Rows::reads), unfolding(crate::specs::Rows::words4))]
-pub fn give(mut words: Words<'_>) -> Option<Step>
-    ensures { result ≡ words4 name_number name_number give_answers opens Step.Give words.entry }
+pub fn give(mut words: Words<'_>, ms: u64) -> Option<Event>
+    requires { ms < 2 ^ 40 }
+    ensures { result ≡ at_moment ms (words4 name_number name_number give_answers opens Step.Give words.entry) }
 {
     let client = words.name_number()?;
     let connection = words.name_number()?;
     let answers = words.give_answers()?;
     let opens = words.opens()?;
-    words.finish(Step::Give {
-        client,
-        connection,
-        answers,
-        opens,
-    })
+    words.finish_event(
+        ms,
+        Step::Give {
+            client,
+            connection,
+            answers,
+            opens,
+        },
+    )
 }
 
 /// The fields of `end`.
 #[inline(always)]
 #[tactic(auto, using(crate::proofs::Rows::reads), unfolding(crate::specs::Rows::words3))]
-pub fn end(mut words: Words<'_>) -> Option<Step>
-    ensures { result ≡ words3 name_number name_number opens Step.End words.entry }
+pub fn end(mut words: Words<'_>, ms: u64) -> Option<Event>
+    requires { ms < 2 ^ 40 }
+    ensures { result ≡ at_moment ms (words3 name_number name_number opens Step.End words.entry) }
 {
     let client = words.name_number()?;
     let connection = words.name_number()?;
     let opens = words.opens()?;
-    words.finish(Step::End {
-        client,
-        connection,
-        opens,
-    })
+    words.finish_event(
+        ms,
+        Step::End {
+            client,
+            connection,
+            opens,
+        },
+    )
 }
 
 /// The fields of `detach`.
 #[inline(always)]
 #[tactic(auto, using(crate::proofs::Rows::reads), unfolding(crate::specs::Rows::words3))]
-pub fn detach(mut words: Words<'_>) -> Option<Step>
-    ensures { result ≡ words3 name_number name_number opens Step.Detach words.entry }
+pub fn detach(mut words: Words<'_>, ms: u64) -> Option<Event>
+    requires { ms < 2 ^ 40 }
+    ensures { result ≡ at_moment ms (words3 name_number name_number opens Step.Detach words.entry) }
 {
     let client = words.name_number()?;
     let connection = words.name_number()?;
     let opens = words.opens()?;
-    words.finish(Step::Detach {
-        client,
-        connection,
-        opens,
-    })
+    words.finish_event(
+        ms,
+        Step::Detach {
+            client,
+            connection,
+            opens,
+        },
+    )
 }
 
 /// The fields of `leak`.
 #[inline(always)]
 #[tactic(auto, using(crate::proofs::Rows::reads), unfolding(crate::specs::Rows::words3))]
-pub fn leak(mut words: Words<'_>) -> Option<Step>
-    ensures { result ≡ words3 name_number name_number opens Step.Leak words.entry }
+pub fn leak(mut words: Words<'_>, ms: u64) -> Option<Event>
+    requires { ms < 2 ^ 40 }
+    ensures { result ≡ at_moment ms (words3 name_number name_number opens Step.Leak words.entry) }
 {
     let client = words.name_number()?;
     let connection = words.name_number()?;
     let opens = words.opens()?;
-    words.finish(Step::Leak {
-        client,
-        connection,
-        opens,
-    })
+    words.finish_event(
+        ms,
+        Step::Leak {
+            client,
+            connection,
+            opens,
+        },
+    )
 }
 
 /// The fields of `reap`.
 #[inline(always)]
 #[tactic(auto, using(crate::proofs::Rows::reads), unfolding(crate::specs::Rows::words1))]
-pub fn reap(mut words: Words<'_>) -> Option<Step>
-    ensures { result ≡ words1 opens Step.Reap words.entry }
+pub fn reap(mut words: Words<'_>, ms: u64) -> Option<Event>
+    requires { ms < 2 ^ 40 }
+    ensures { result ≡ at_moment ms (words1 opens Step.Reap words.entry) }
 {
     let opens = words.opens()?;
-    words.finish(Step::Reap { opens })
+    words.finish_event(ms, Step::Reap { opens })
 }
 
 /// The fields of `min`.
 #[inline(always)]
 #[tactic(auto, using(crate::proofs::Rows::reads), unfolding(crate::specs::Rows::words1))]
-pub fn min(mut words: Words<'_>) -> Option<Step>
-    ensures { result ≡ words1 opens Step.Min words.entry }
+pub fn min(mut words: Words<'_>, ms: u64) -> Option<Event>
+    requires { ms < 2 ^ 40 }
+    ensures { result ≡ at_moment ms (words1 opens Step.Min words.entry) }
 {
     let opens = words.opens()?;
-    words.finish(Step::Min { opens })
+    words.finish_event(ms, Step::Min { opens })
 }
 
 /// The fields of `closed`.
 #[inline(always)]
 #[tactic(auto, using(crate::proofs::Rows::reads), unfolding(crate::specs::Rows::words0))]
-pub fn close_state(words: Words<'_>) -> Option<Step>
-    ensures { result ≡ words0 Step.CloseState words.entry }
+pub fn close_state(words: Words<'_>, ms: u64) -> Option<Event>
+    requires { ms < 2 ^ 40 }
+    ensures { result ≡ at_moment ms (words0 Step.CloseState words.entry) }
 {
-    words.finish(Step::CloseState)
+    words.finish_event(ms, Step::CloseState)
 }
 
 /// The fields of `begin`.
 #[inline(always)]
 #[tactic(auto, using(crate::proofs::Rows::reads), unfolding(crate::specs::Rows::words3))]
-pub fn begin(mut words: Words<'_>) -> Option<Step>
-    ensures { result ≡ words3 name_number name_number statement Step.Begin words.entry }
+pub fn begin(mut words: Words<'_>, ms: u64) -> Option<Event>
+    requires { ms < 2 ^ 40 }
+    ensures { result ≡ at_moment ms (words3 name_number name_number statement Step.Begin words.entry) }
 {
     let client = words.name_number()?;
     let connection = words.name_number()?;
     let answer = words.statement()?;
-    words.finish(Step::Begin {
-        client,
-        connection,
-        answer,
-    })
+    words.finish_event(
+        ms,
+        Step::Begin {
+            client,
+            connection,
+            answer,
+        },
+    )
 }
 
 /// The fields of `custom`.
 #[inline(always)]
 #[tactic(auto, using(crate::proofs::Rows::reads), unfolding(crate::specs::Rows::words4))]
-pub fn custom(mut words: Words<'_>) -> Option<Step>
-    ensures { result ≡ words4 name_number name_number sign statement Step.Custom words.entry }
+pub fn custom(mut words: Words<'_>, ms: u64) -> Option<Event>
+    requires { ms < 2 ^ 40 }
+    ensures { result ≡ at_moment ms (words4 name_number name_number sign statement Step.Custom words.entry) }
 {
     let client = words.name_number()?;
     let connection = words.name_number()?;
     let begins = words.sign()?;
     let answer = words.statement()?;
-    words.finish(Step::Custom {
-        client,
-        connection,
-        begins,
-        answer,
-    })
+    words.finish_event(
+        ms,
+        Step::Custom {
+            client,
+            connection,
+            begins,
+            answer,
+        },
+    )
 }
 
 /// The fields of `put`.
 #[inline(always)]
 #[tactic(auto, using(crate::proofs::Rows::reads), unfolding(crate::specs::Rows::words5))]
-pub fn put(mut words: Words<'_>) -> Option<Step>
-    ensures { result ≡ words5 name_number name_number key value statement Step.Put words.entry }
+pub fn put(mut words: Words<'_>, ms: u64) -> Option<Event>
+    requires { ms < 2 ^ 40 }
+    ensures { result ≡ at_moment ms (words5 name_number name_number key value statement Step.Put words.entry) }
 {
     let client = words.name_number()?;
     let connection = words.name_number()?;
     let key = words.key()?;
     let value = words.value()?;
     let answer = words.statement()?;
-    words.finish(Step::Put {
-        client,
-        connection,
-        key,
-        value,
-        answer,
-    })
+    words.finish_event(
+        ms,
+        Step::Put {
+            client,
+            connection,
+            key,
+            value,
+            answer,
+        },
+    )
 }
 
 /// The fields of `del`.
 #[inline(always)]
 #[tactic(auto, using(crate::proofs::Rows::reads), unfolding(crate::specs::Rows::words4))]
-pub fn del(mut words: Words<'_>) -> Option<Step>
-    ensures { result ≡ words4 name_number name_number key statement Step.Del words.entry }
+pub fn del(mut words: Words<'_>, ms: u64) -> Option<Event>
+    requires { ms < 2 ^ 40 }
+    ensures { result ≡ at_moment ms (words4 name_number name_number key statement Step.Del words.entry) }
 {
     let client = words.name_number()?;
     let connection = words.name_number()?;
     let key = words.key()?;
     let answer = words.statement()?;
-    words.finish(Step::Del {
-        client,
-        connection,
-        key,
-        answer,
-    })
+    words.finish_event(
+        ms,
+        Step::Del {
+            client,
+            connection,
+            key,
+            answer,
+        },
+    )
 }
 
 /// The fields of `get`.
 #[inline(always)]
 #[tactic(auto, using(crate::proofs::Rows::reads), unfolding(crate::specs::Rows::words4))]
-pub fn get(mut words: Words<'_>) -> Option<Step>
-    ensures { result ≡ words4 name_number name_number key statement Step.Get words.entry }
+pub fn get(mut words: Words<'_>, ms: u64) -> Option<Event>
+    requires { ms < 2 ^ 40 }
+    ensures { result ≡ at_moment ms (words4 name_number name_number key statement Step.Get words.entry) }
 {
     let client = words.name_number()?;
     let connection = words.name_number()?;
     let key = words.key()?;
     let answer = words.statement()?;
-    words.finish(Step::Get {
-        client,
-        connection,
-        key,
-        answer,
-    })
+    words.finish_event(
+        ms,
+        Step::Get {
+            client,
+            connection,
+            key,
+            answer,
+        },
+    )
 }
 
 /// The fields of `commit`.
 #[inline(always)]
 #[tactic(auto, using(crate::proofs::Rows::reads), unfolding(crate::specs::Rows::words3))]
-pub fn commit(mut words: Words<'_>) -> Option<Step>
-    ensures { result ≡ words3 name_number name_number statement Step.Commit words.entry }
+pub fn commit(mut words: Words<'_>, ms: u64) -> Option<Event>
+    requires { ms < 2 ^ 40 }
+    ensures { result ≡ at_moment ms (words3 name_number name_number statement Step.Commit words.entry) }
 {
     let client = words.name_number()?;
     let connection = words.name_number()?;
     let answer = words.statement()?;
-    words.finish(Step::Commit {
-        client,
-        connection,
-        answer,
-    })
+    words.finish_event(
+        ms,
+        Step::Commit {
+            client,
+            connection,
+            answer,
+        },
+    )
 }
 
 /// The fields of `rollback`.
 #[inline(always)]
 #[tactic(auto, using(crate::proofs::Rows::reads), unfolding(crate::specs::Rows::words3))]
-pub fn rollback(mut words: Words<'_>) -> Option<Step>
-    ensures { result ≡ words3 name_number name_number statement Step.Rollback words.entry }
+pub fn rollback(mut words: Words<'_>, ms: u64) -> Option<Event>
+    requires { ms < 2 ^ 40 }
+    ensures { result ≡ at_moment ms (words3 name_number name_number statement Step.Rollback words.entry) }
 {
     let client = words.name_number()?;
     let connection = words.name_number()?;
     let answer = words.statement()?;
-    words.finish(Step::Rollback {
-        client,
-        connection,
-        answer,
-    })
+    words.finish_event(
+        ms,
+        Step::Rollback {
+            client,
+            connection,
+            answer,
+        },
+    )
 }
 
 /// The fields of `giveup`.
 #[inline(always)]
 #[tactic(auto, using(crate::proofs::Rows::reads), unfolding(crate::specs::Rows::words2))]
-pub fn give_up(mut words: Words<'_>) -> Option<Step>
-    ensures { result ≡ words2 name_number name_number Step.GiveUp words.entry }
+pub fn give_up(mut words: Words<'_>, ms: u64) -> Option<Event>
+    requires { ms < 2 ^ 40 }
+    ensures { result ≡ at_moment ms (words2 name_number name_number Step.GiveUp words.entry) }
 {
     let client = words.name_number()?;
     let connection = words.last_name_number()?;
-    words.finish(Step::GiveUp { client, connection })
+    words.finish_event(ms, Step::GiveUp { client, connection })
 }
 
 /// The fields of `close`.
 #[inline(always)]
 #[tactic(auto, using(crate::proofs::Rows::reads), unfolding(crate::specs::Rows::words0))]
-pub fn close(words: Words<'_>) -> Option<Step>
-    ensures { result ≡ words0 Step.Close words.entry }
+pub fn close(words: Words<'_>, ms: u64) -> Option<Event>
+    requires { ms < 2 ^ 40 }
+    ensures { result ≡ at_moment ms (words0 Step.Close words.entry) }
 {
-    words.finish(Step::Close)
+    words.finish_event(ms, Step::Close)
 }

@@ -1,5 +1,5 @@
 //! Words whose letters say what the outside answers.
-ghost use Rattle.std.specs.Prelude.{◌≡◌};
+ghost use Rattle.std.specs.Prelude.{◌≡◌, IfSome};
 ghost use Rattle.sqlx_script.specs.Letters as spec;
 
 use crate::answers::{
@@ -98,14 +98,28 @@ pub fn statement(word: &[u8]) -> Option<StatementAnswer>
     }
 }
 
+// Four times `+` as one number.
+const FOUR_PLUS: u32 = 0x2b2b_2b2b;
+
 /// The four letters of a `poll`, which answer one test.
+#[inline(always)]
 #[tactic(auto, unfolding(crate::specs::Letters::poll_answers))]
 pub fn poll_answers(word: &[u8]) -> Option<PollAnswers>
-    ensures { result ≡ spec.poll_answers word.now }
+    ensures is { result ≡ spec.poll_answers word.now }
+    ensures one { IfSome result (λ answers. spec.answering answers 1 ≡ answers) }
 {
     let [ping, before, connects, after] = word else {
         return None;
     };
+    if u32::from_le_bytes([*ping, *before, *connects, *after]) == FOUR_PLUS {
+        return Some(PollAnswers {
+            ping: true,
+            before_acquire: HookAnswer::Accepts,
+            connect: ConnectAnswer::Connected,
+            after_connect: AfterConnectAnswer::SetUp,
+            tests: 1,
+        });
+    }
     Some(PollAnswers {
         ping: plus_or_minus(*ping)?,
         before_acquire: hook(*before)?,
@@ -116,6 +130,7 @@ pub fn poll_answers(word: &[u8]) -> Option<PollAnswers>
 }
 
 /// The two letters of a `give`.
+#[inline(always)]
 #[tactic(auto, unfolding(crate::specs::Letters::give_answers))]
 pub fn give_answers(word: &[u8]) -> Option<GiveAnswers>
     ensures { result ≡ spec.give_answers word.now }

@@ -7,6 +7,7 @@ mod fields;
 pub mod laws;
 mod letters;
 mod lines;
+mod names;
 mod numbers;
 mod output_line;
 mod pool_line;

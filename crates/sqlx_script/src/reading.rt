@@ -1,54 +1,44 @@
 //! What a line of a script says.
-ghost use Rattle.std.specs.Prelude.{◌≡◌, ◌≤◌, IfSome, true};
+ghost use Rattle.std.specs.Prelude.{◌≡◌, ◌<◌, ◌≤◌, ◌^◌, IfSome, true};
 ghost use Rattle.sqlx_script.specs.Built.{has_few_opens};
-ghost use Rattle.sqlx_script.specs.Grammar.{statement_of, step_of, event_of, limits_after, pool_of};
+ghost use Rattle.sqlx_script.specs.Grammar.{at_moment, step_of, event_of, limits_after, pool_of};
+ghost use Rattle.sqlx_script.specs.Names.{text_of};
 
 use crate::fields;
+use crate::names::Name;
 use crate::numbers::NANOS;
 use crate::pool_line::PoolLine;
-use crate::step::{Event, Step};
+use crate::step::Event;
 use crate::words::Words;
-use sqlx_text::Moment;
 
-// What follows the moment, for the name of a statement.
+// What follows the moment, which is so many milliseconds.
 #[inline(always)]
-#[tactic(auto, unfolding(crate::specs::Grammar::statement_of))]
-fn statement(name: &[u8], words: Words<'_>) -> Option<Step>
-    ensures { result ≡ statement_of name.now words.entry }
+#[tactic(auto, unfolding(crate::specs::Grammar::step_of, crate::specs::Grammar::statement_of))]
+fn event(name: Name, words: Words<'_>, ms: u64, counts_tests: bool) -> Option<Event>
+    requires { ms < 2 ^ 40 }
+    ensures { result ≡ at_moment ms (step_of counts_tests (text_of name) words.entry) }
 {
     match name {
-        b"begin" => fields::begin(words),
-        b"custom" => fields::custom(words),
-        b"put" => fields::put(words),
-        b"del" => fields::del(words),
-        b"get" => fields::get(words),
-        b"commit" => fields::commit(words),
-        b"rollback" => fields::rollback(words),
-        b"giveup" => fields::give_up(words),
-        _ => None,
-    }
-}
-
-// What follows the moment.
-#[inline(always)]
-#[tactic(auto, unfolding(crate::specs::Grammar::step_of))]
-fn step(name: &[u8], words: Words<'_>, counts_tests: bool) -> Option<Step>
-    ensures { result ≡ step_of counts_tests name.now words.entry }
-{
-    match name {
-        b"ask" => fields::ask(words),
-        b"poll" => fields::poll(words, counts_tests),
-        b"cancel" => fields::cancel(words),
-        b"try" => fields::try_idle(words),
-        b"give" => fields::give(words),
-        b"end" => fields::end(words),
-        b"detach" => fields::detach(words),
-        b"leak" => fields::leak(words),
-        b"reap" => fields::reap(words),
-        b"min" => fields::min(words),
-        b"closed" => fields::close_state(words),
-        b"close" => fields::close(words),
-        _ => statement(name, words),
+        Name::Ask => fields::ask(words, ms),
+        Name::Poll => fields::poll(words, ms, counts_tests),
+        Name::Cancel => fields::cancel(words, ms),
+        Name::Try => fields::try_idle(words, ms),
+        Name::Give => fields::give(words, ms),
+        Name::End => fields::end(words, ms),
+        Name::Detach => fields::detach(words, ms),
+        Name::Leak => fields::leak(words, ms),
+        Name::Reap => fields::reap(words, ms),
+        Name::Min => fields::min(words, ms),
+        Name::CloseState => fields::close_state(words, ms),
+        Name::Close => fields::close(words, ms),
+        Name::Begin => fields::begin(words, ms),
+        Name::Custom => fields::custom(words, ms),
+        Name::Put => fields::put(words, ms),
+        Name::Del => fields::del(words, ms),
+        Name::Get => fields::get(words, ms),
+        Name::Commit => fields::commit(words, ms),
+        Name::Rollback => fields::rollback(words, ms),
+        Name::GiveUp => fields::give_up(words, ms),
     }
 }
 
@@ -59,13 +49,9 @@ pub fn read_event(line: &[u8], counts_tests: bool) -> Option<Event>
     ensures few { IfSome result (λ event. has_few_opens event.step ≡ true) }
 {
     let mut words = Words::of_line(line)?;
-    let name = words.next()?;
-    let now = words.millis()?;
-    let step = step(name, words, counts_tests)?;
-    Some(Event {
-        moment: Moment(now * NANOS),
-        step,
-    })
+    let name = words.name()?;
+    let ms = words.millis()?;
+    event(name, words, ms, counts_tests)
 }
 
 // How old connections may grow, what is asked of them and how many are tested, and these maximum, minimum and nanoseconds to wait.

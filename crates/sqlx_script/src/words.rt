@@ -4,23 +4,23 @@ ghost use Rattle.sqlx_script.specs.Words.{has_blank, ends_well, words_of};
 ghost use Rattle.sqlx_script.specs.Rows.{word, of_length, ended, Reads};
 ghost use Rattle.sqlx_script.specs.Numbers as numbers_spec;
 ghost use Rattle.sqlx_script.specs.Letters as letters_spec;
-ghost use Rattle.sqlx_script.specs.Grammar.{pool_name};
+ghost use Rattle.sqlx_script.specs.Grammar.{pool_name, at_moment};
+ghost use Rattle.sqlx_script.specs.Names.{text_of};
 
 use crate::answers::{GiveAnswers, PollAnswers, StatementAnswer};
 use crate::letters::Switches;
+use crate::names::{Name, name_in_front};
+use crate::numbers::NANOS;
+use crate::step::{Event, Step};
 use crate::{letters, numbers};
+use sqlx_text::Moment;
 use std::marker::Model;
 
 // How many digits a number without a check of its size may have.
 const FEW: usize = 19;
 
-// How many bytes the longest name of an event has, with the blank behind it.
-const NAME: usize = 9;
-
-// Where the first word ends, however long it is: at the first blank, or before the last byte, if there is one.
-#[cold]
-#[inline(never)]
-fn any_word_end(text: &[u8]) -> Option<usize>
+// Where the first word ends: at the first blank, or before the last byte, if there is one.
+fn word_end(text: &[u8]) -> Option<usize>
     ensures none { IfNone result (length text.now ≡ 0) }
     ensures inside { IfSome result (λ at. at < length text.now) }
     ensures no_blank { IfSome result (λ at. (k : ℕ) → k < at → slice_index text.now k ≢ 32) }
@@ -32,24 +32,6 @@ fn any_word_end(text: &[u8]) -> Option<usize>
         }
     }
     None
-}
-
-// The same, in few steps for the name of an event.
-#[inline(always)]
-fn word_end(text: &[u8]) -> Option<usize>
-    ensures none { IfNone result (length text.now ≡ 0) }
-    ensures inside { IfSome result (λ at. at < length text.now) }
-    ensures no_blank { IfSome result (λ at. (k : ℕ) → k < at → slice_index text.now k ≢ 32) }
-    ensures end { IfSome result (λ at. slice_index text.now at ≢ 32 → at + 1 ≡ length text.now) }
-{
-    if text.len() >= NAME {
-        for at in 0..NAME {
-            if text[at] == b' ' {
-                return Some(at);
-            }
-        }
-    }
-    any_word_end(text)
 }
 
 /// The words that are left of a line.
@@ -94,6 +76,17 @@ impl<'a> Words<'a> {
         let at = word_end(text)?;
         self.rest = &text[at + 1..];
         Some(&text[..at])
+    }
+
+    /// The name of an event, where it is one and another word follows it.
+    #[inline(always)]
+    pub fn name(&mut self) -> Option<Name>
+        ensures some { IfSome result (λ name. self.old ≡ text_of name ∷ self.new) }
+        ensures none { IfNone result ((name : Name) → (w : List ℕ) → (ws : List (List ℕ)) → self.old ≢ text_of name ∷ w ∷ ws) }
+    {
+        let (name, rest) = name_in_front(self.rest)?;
+        self.rest = rest;
+        Some(name)
     }
 
     // So many bytes in front, where a blank or the newline stands behind them: the next word, if no blank is among them.
@@ -322,7 +315,8 @@ impl<'a> Words<'a> {
     /// The four letters of a `poll`.
     #[inline(always)]
     pub fn poll_answers(&mut self) -> Option<PollAnswers>
-        ensures { Reads letters_spec.poll_answers result self.old self.new }
+        ensures reads { Reads letters_spec.poll_answers result self.old self.new }
+        ensures one { IfSome result (λ answers. letters_spec.answering answers 1 ≡ answers) }
     {
         letters::poll_answers(self.short_word(4)?)
     }
@@ -362,6 +356,22 @@ impl<'a> Words<'a> {
     {
         if self.rest.is_empty() {
             Some(made)
+        } else {
+            None
+        }
+    }
+
+    /// The event of this step, so many milliseconds from the start, where no word is left.
+    #[inline(always)]
+    pub fn finish_event(&self, ms: u64, step: Step) -> Option<Event>
+        requires { ms < 2 ^ 40 }
+        ensures { result ≡ at_moment ms (ended step self.now) }
+    {
+        if self.rest.is_empty() {
+            Some(Event {
+                moment: Moment(ms * NANOS),
+                step,
+            })
         } else {
             None
         }
