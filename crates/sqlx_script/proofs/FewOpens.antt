@@ -99,7 +99,7 @@ unfolding statement_of
 statement_few name fields step h =
     choose (bytes_eq name (codes "begin")) _ _ step h (none3 _ _ _ Begin (λ _ _ _. refl) fields step) (λ h1.
     choose (bytes_eq name (codes "custom")) _ _ step h1 (none4 _ _ _ _ Custom (λ _ _ _ _. refl) fields step) (λ h2.
-    choose (bytes_eq name (codes "put")) _ _ step h2 (none5 _ _ _ _ _ Put (λ _ _ _ _ _. refl) fields step) (λ h3.
+    choose (bytes_eq name (codes "put")) _ _ step h2 (none5 _ _ _ _ _ (λ client connection key value answer. Put client connection key answer value) (λ _ _ _ _ _. refl) fields step) (λ h3.
     choose (bytes_eq name (codes "del")) _ _ step h3 (none4 _ _ _ _ Del (λ _ _ _ _. refl) fields step) (λ h4.
     choose (bytes_eq name (codes "get")) _ _ step h4 (none4 _ _ _ _ Get (λ _ _ _ _. refl) fields step) (λ h5.
     choose (bytes_eq name (codes "commit")) _ _ step h5 (none3 _ _ _ Commit (λ _ _ _. refl) fields step) (λ h6.

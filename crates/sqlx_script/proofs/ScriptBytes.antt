@@ -268,7 +268,7 @@ unfolding statement_of
 statement_step_plain name fields step h =
     pick name (codes "begin") fields _ _ step h refl (tame3 name_plain name_plain statement_plain Begin) (λ h1.
     pick name (codes "custom") fields _ _ step h1 refl (tame4 name_plain name_plain sign_plain statement_plain Custom) (λ h2.
-    pick name (codes "put") fields _ _ step h2 refl (tame5 name_plain name_plain key_plain value_plain statement_plain Put) (λ h3.
+    pick name (codes "put") fields _ _ step h2 refl (tame5 name_plain name_plain key_plain value_plain statement_plain (λ client connection key value answer. Put client connection key answer value)) (λ h3.
     pick name (codes "del") fields _ _ step h3 refl (tame4 name_plain name_plain key_plain statement_plain Del) (λ h4.
     pick name (codes "get") fields _ _ step h4 refl (tame4 name_plain name_plain key_plain statement_plain Get) (λ h5.
     pick name (codes "commit") fields _ _ step h5 refl (tame3 name_plain name_plain statement_plain Commit) (λ h6.

@@ -50,7 +50,7 @@ unknown_name : event_of false (line_of (codes "asks 5 7")) ≡ None
 unfolding event_of event_words step_of statement_of number_in
 unknown_name = refl
 
-put : whole (event_words false) (line_of (codes "put 5 7 1 999 -9223372036854775808 +")) ≡ Some (record { moment = record { 0 = 5000000 }; step = Put 7 1 999 (negsuc 9223372036854775807) Runs })
+put : whole (event_words false) (line_of (codes "put 5 7 1 999 -9223372036854775808 +")) ≡ Some (record { moment = record { 0 = 5000000 }; step = Put 7 1 999 Runs (negsuc 9223372036854775807) })
 unfolding event_words step_of statement_of words5 number_in value statement statement_letter
 put = refl
 

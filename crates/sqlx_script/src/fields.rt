@@ -237,7 +237,7 @@ pub fn custom(mut words: Words<'_>, ms: u64) -> Option<Event>
 #[tactic(auto, using(crate::proofs::Rows::reads), unfolding(crate::specs::Rows::words5))]
 pub fn put(mut words: Words<'_>, ms: u64) -> Option<Event>
     requires { ms < 2 ^ 40 }
-    ensures { result ≡ at_moment ms (words5 name_number name_number key value statement Step.Put words.entry) }
+    ensures { result ≡ at_moment ms (words5 name_number name_number key value statement (λ client connection key value answer. Step.Put client connection key answer value) words.entry) }
 {
     let client = words.name_number()?;
     let connection = words.name_number()?;

@@ -85,8 +85,8 @@ pub enum Step {
         client: u32,
         connection: u32,
         key: u32,
-        value: i64,
         answer: StatementAnswer,
+        value: i64,
     },
     /// `del`: the value under a key is removed.
     Del {
