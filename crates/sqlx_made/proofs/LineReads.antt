@@ -52,6 +52,6 @@ module _ (now client : List ℕ) (i k : ℕ) (reads_now : millis now ≡ Some i)
       get_reads = rw reads_now (rw reads_client (rw reads_connection (rw reads_key refl)))
 
       pub put_reads : (drawn : List ℕ) (v : ℤ) → value drawn ≡ Some v
-          → event_words false (codes "put" ∷ now ∷ client ∷ connection ∷ word ∷ drawn ∷ codes "+" ∷ []) ≡ Some (at i (Put k c n v Runs))
+          → event_words false (codes "put" ∷ now ∷ client ∷ connection ∷ word ∷ drawn ∷ codes "+" ∷ []) ≡ Some (at i (Put k c n Runs v))
       unfolding event_words step_of statement_of words5 statement statement_letter
       put_reads drawn v reads_value = rw reads_now (rw reads_client (rw reads_connection (rw reads_key (rw reads_value refl))))

@@ -4,92 +4,111 @@ ghost use Rattle.std.specs.Fmt.{decimal};
 ghost use Rattle.sqlx_made.specs.Made.{line_in};
 
 use crate::block::Block;
-use sqlx_script::{OutputLine, push_number};
+use sqlx_script::{OutputPage, push_number};
 use std::alloc::AllocError;
 
-// Puts a blank and a number behind what the line holds.
+// The most that a line takes, with its newline.
+const LINE: usize = 128;
+
+// Puts a blank and a number behind what the page holds.
 #[inline]
-fn push_word(line: &mut OutputLine, n: u32)
-    requires room { length line.old.bytes ≤ 107 }
-    ensures bytes { line.new.bytes ≡ line.old.bytes ++ 32 ∷ decimal n }
-    ensures short { length line.new.bytes ≤ length line.old.bytes + 21 }
+fn push_word(page: &mut OutputPage, n: u32)
+    requires room { length page.old.bytes + 21 ≤ 4096 }
+    ensures bytes { page.new.bytes ≡ page.old.bytes ++ 32 ∷ decimal n }
+    ensures short { length page.new.bytes ≤ length page.old.bytes + 21 }
 {
-    line.push_str(" ");
-    push_number(line, u64::from(n));
+    page.push_str(" ");
+    push_number(page, u64::from(n));
 }
 
 // The front of each line: its first word, its number and its client.
-fn set_front(line: &mut OutputLine, word: &str, number: u32, client: u32)
+#[inline]
+fn push_front(page: &mut OutputPage, word: &str, number: u32, client: u32)
     requires short { length word.now ≤ 8 }
-    ensures bytes { line.new.bytes ≡ word.now ++ 32 ∷ decimal number ++ 32 ∷ decimal client }
-    ensures short { length line.new.bytes ≤ 50 }
+    requires room { length page.old.bytes + 50 ≤ 4096 }
+    ensures bytes { page.new.bytes ≡ page.old.bytes ++ word.now ++ 32 ∷ decimal number ++ 32 ∷ decimal client }
+    ensures short { length page.new.bytes ≤ length page.old.bytes + 50 }
 {
-    line.clear();
-    line.push_str(word);
-    push_word(line, number);
-    push_word(line, client);
+    page.push_str(word);
+    push_word(page, number);
+    push_word(page, client);
 }
 
-// The line at this place of a block.
-fn set_line(line: &mut OutputLine, number: u32, block: Block, place: u32)
-    requires { place < 7 }
-    ensures { line.new.bytes ≡ line_in number block place }
+// Puts the line at this place of a block behind what the page holds.
+fn push_words(page: &mut OutputPage, number: u32, block: Block, place: u32)
+    requires place { place < 7 }
+    requires room { length page.old.bytes + 128 ≤ 4096 }
+    ensures { page.new.bytes ≡ page.old.bytes ++ line_in number block place }
 {
     let client = block.client();
     match place {
         0 => {
-            set_front(line, "ask", number, client);
-            line.push_str("\n");
+            push_front(page, "ask", number, client);
+            page.push_str("\n");
         }
         1 => {
-            set_front(line, "poll", number, client);
-            push_word(line, block.ticket);
-            line.push_str(" ++++\n");
+            push_front(page, "poll", number, client);
+            push_word(page, block.ticket);
+            page.push_str(" ++++\n");
         }
         2 => {
-            set_front(line, "begin", number, client);
-            push_word(line, block.connection);
-            line.push_str(" +\n");
+            push_front(page, "begin", number, client);
+            push_word(page, block.connection);
+            page.push_str(" +\n");
         }
         3 => {
-            set_front(line, "put", number, client);
-            push_word(line, block.connection);
-            push_word(line, block.key());
-            push_word(line, block.drawn);
-            line.push_str(" +\n");
+            push_front(page, "put", number, client);
+            push_word(page, block.connection);
+            push_word(page, block.key());
+            push_word(page, block.drawn);
+            page.push_str(" +\n");
         }
         4 => {
-            set_front(line, block.end_word(), number, client);
-            push_word(line, block.connection);
-            line.push_str(" +\n");
+            push_front(page, block.end_word(), number, client);
+            push_word(page, block.connection);
+            page.push_str(" +\n");
         }
         5 => {
-            set_front(line, "get", number, client);
-            push_word(line, block.connection);
-            push_word(line, block.key());
-            line.push_str(" +\n");
+            push_front(page, "get", number, client);
+            push_word(page, block.connection);
+            push_word(page, block.key());
+            page.push_str(" +\n");
         }
         _ => {
-            set_front(line, "give", number, client);
-            push_word(line, block.connection);
-            line.push_str(" ");
-            line.push_str(block.give_word());
-            line.push_str(" 0\n");
+            push_front(page, "give", number, client);
+            push_word(page, block.connection);
+            page.push_str(" ");
+            page.push_str(block.give_word());
+            page.push_str(" 0\n");
         }
     }
 }
 
-/// Writes the line at this place of a block behind a text, the place being from 0 to 6 and `number` the line's number.
+// Makes room for a line on the page: where it hasn't, what it holds goes behind the text.
+fn make_room(text: &mut String, page: &mut OutputPage) -> Result<(), AllocError>
+    ensures text { OnOk result (string_bytes text.new ++ page.new.bytes ≡ string_bytes text.old ++ page.old.bytes) }
+    ensures room { OnOk result (length page.new.bytes + 128 ≤ 4096) }
+{
+    if page.remaining_capacity() >= LINE {
+        return Ok(());
+    }
+    text.push_str(page.as_str())?;
+    page.clear();
+    Ok(())
+}
+
+/// Puts the line at this place of a block behind a text and a page of it, the place being from 0 to 6 and `number` the line's number.
 pub fn push_line(
     text: &mut String,
-    line: &mut OutputLine,
+    page: &mut OutputPage,
     number: u32,
     block: Block,
     place: u32,
 ) -> Result<(), AllocError>
     requires { place < 7 }
-    ensures { OnOk result (string_bytes text.new ≡ string_bytes text.old ++ line_in number block place) }
+    ensures { OnOk result (string_bytes text.new ++ page.new.bytes ≡ (string_bytes text.old ++ page.old.bytes) ++ line_in number block place) }
 {
-    set_line(line, number, block, place);
-    text.push_str(line.as_str())
+    make_room(text, page)?;
+    push_words(page, number, block, place);
+    Ok(())
 }

@@ -4,7 +4,7 @@ ghost use Rattle.sqlx_made.specs.Made.{made_text};
 
 use crate::block::Block;
 use crate::lines::push_line;
-use sqlx_script::OutputLine;
+use sqlx_script::OutputPage;
 use std::alloc::{AllocError, Global};
 
 /// The script of so many lines, its first line among them, for this seed.
@@ -14,14 +14,15 @@ pub fn made_script(alloc: Global, lines: u32, seed: u32) -> Result<String, Alloc
     ensures { IfOk result (λ text. string_bytes text ≡ made_text lines seed) }
 {
     let mut text = String::from_str(alloc, "pool 1 0 1000 - - +---\n")?;
-    let mut made = OutputLine::new();
+    let mut page = OutputPage::new();
     let mut block = Block::first(seed);
     for line in 2..lines + 1 {
         let place = (line - 2) % 7;
-        push_line(&mut text, &mut made, line, block, place)?;
+        push_line(&mut text, &mut page, line, block, place)?;
         if place == 6 {
             block = block.next();
         }
     }
+    text.push_str(page.as_str())?;
     Ok(text)
 }

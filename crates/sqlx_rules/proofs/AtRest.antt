@@ -288,7 +288,7 @@ module _ (pool : PoolLine) (many : 1 ≤ pool.tries) (pairs : Pairs) (marks : Li
   rests-made step.Close = rests-new _ (fair-made pool many pairs marks past m f step.Close) (new-shut (is_open marks) (idle_of marks))
   rests-made (step.Begin k c a) = rests-statement (record { client = k; conn = c; act = begin c; met = met_of a }) refl
   rests-made (step.Custom k c begins a) = rests-statement (record { client = k; conn = c; act = custom c begins; met = met_of a }) refl
-  rests-made (step.Put k c key value a) = rests-statement (record { client = k; conn = c; act = put c (pos key) value; met = met_of a }) refl
+  rests-made (step.Put k c key a value) = rests-statement (record { client = k; conn = c; act = put c (pos key) value; met = met_of a }) refl
   rests-made (step.Del k c key a) = rests-statement (record { client = k; conn = c; act = del c (pos key); met = met_of a }) refl
   rests-made (step.Get k c key a) = rests-statement (record { client = k; conn = c; act = get c (pos key); met = met_of a }) refl
   rests-made (step.Commit k c a) = rests-statement (record { client = k; conn = c; act = commit c; met = met_of a }) refl

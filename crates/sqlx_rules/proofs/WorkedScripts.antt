@@ -156,12 +156,12 @@ nested_events =
     (at 0 (step.Ask 1)) ∷
     (at 0 (step.Poll 1 1 good)) ∷
     (at 0 (step.Begin 1 1 met.Runs)) ∷
-    (at 0 (step.Put 1 1 1 (pos 1) met.Runs)) ∷
+    (at 0 (step.Put 1 1 1 met.Runs (pos 1))) ∷
     (at 0 (step.Begin 1 1 met.Runs)) ∷
-    (at 0 (step.Put 1 1 1 (pos 2) met.Runs)) ∷
+    (at 0 (step.Put 1 1 1 met.Runs (pos 2))) ∷
     (at 0 (step.Rollback 1 1 met.Runs)) ∷
     (at 0 (step.Begin 1 1 met.Runs)) ∷
-    (at 0 (step.Put 1 1 2 (pos 3) met.Runs)) ∷
+    (at 0 (step.Put 1 1 2 met.Runs (pos 3))) ∷
     (at 0 (step.Commit 1 1 met.Runs)) ∷
     (at 0 (step.Commit 1 1 met.Runs)) ∷
     (at 0 (step.Get 1 1 1 met.Runs)) ∷
@@ -181,10 +181,10 @@ busy_events =
     (at 0 (step.Poll 1 1 good)) ∷
     (at 0 (step.Ask 2)) ∷
     (at 0 (step.Poll 2 2 good)) ∷
-    (at 0 (step.Put 2 2 1 (pos 5) met.Runs)) ∷
+    (at 0 (step.Put 2 2 1 met.Runs (pos 5))) ∷
     (at 0 (step.Begin 1 1 met.Runs)) ∷
-    (at 0 (step.Put 1 1 1 (pos 7) met.Runs)) ∷
-    (at 0 (step.Put 2 2 1 (pos 8) met.Runs)) ∷
+    (at 0 (step.Put 1 1 1 met.Runs (pos 7))) ∷
+    (at 0 (step.Put 2 2 1 met.Runs (pos 8))) ∷
     (at 0 (step.Get 2 2 1 met.Runs)) ∷
     (at 0 (step.Get 1 1 1 met.Runs)) ∷
     (at 0 (step.Rollback 1 1 met.Runs)) ∷
@@ -205,7 +205,7 @@ left_open_events =
     (at 0 (step.Ask 1)) ∷
     (at 0 (step.Poll 1 1 good)) ∷
     (at 0 (step.Begin 1 1 met.Runs)) ∷
-    (at 0 (step.Put 1 1 4 (pos 9) met.Runs)) ∷
+    (at 0 (step.Put 1 1 4 met.Runs (pos 9))) ∷
     (at 0 (step.Give 1 1 returns_well 0)) ∷
     (at 0 (step.Ask 2)) ∷
     (at 0 (step.Poll 2 2 good)) ∷
@@ -225,7 +225,7 @@ refused_commit_events =
     (at 0 (step.Poll 1 1 good)) ∷
     (at 0 (step.Begin 1 1 met.Runs)) ∷
     (at 0 (step.Custom 1 1 true met.Runs)) ∷
-    (at 0 (step.Put 1 1 4 (pos 9) met.Runs)) ∷
+    (at 0 (step.Put 1 1 4 met.Runs (pos 9))) ∷
     (at 0 (step.Commit 1 1 met.StatementIo)) ∷
     (at 0 (step.Get 1 1 4 met.Runs)) ∷
     (at 0 (step.Custom 1 1 false met.Runs)) ∷

@@ -40,7 +40,7 @@ met_of StatementRefused = refusing
 abbrev pub statement_of : Step → Option Statement
 statement_of (Begin k c a) = Some (record { client = k; conn = c; act = begin c; met = met_of a })
 statement_of (Custom k c begins a) = Some (record { client = k; conn = c; act = custom c begins; met = met_of a })
-statement_of (Put k c key value a) = Some (record { client = k; conn = c; act = put c (pos key) value; met = met_of a })
+statement_of (Put k c key a value) = Some (record { client = k; conn = c; act = put c (pos key) value; met = met_of a })
 statement_of (Del k c key a) = Some (record { client = k; conn = c; act = del c (pos key); met = met_of a })
 statement_of (Get k c key a) = Some (record { client = k; conn = c; act = get c (pos key); met = met_of a })
 statement_of (Commit k c a) = Some (record { client = k; conn = c; act = commit c; met = met_of a })

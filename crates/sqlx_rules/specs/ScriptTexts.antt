@@ -47,7 +47,7 @@ ends_level other r = false
 
 -- a put or a del that was done
 abbrev pub writes_row : Step → Reply → Bool
-writes_row (Put client c key value answer) r = is_written r
+writes_row (Put client c key answer value) r = is_written r
 writes_row (Del client c key answer) r = is_written r
 writes_row other r = false
 

@@ -63,9 +63,9 @@ custom-met k c true x session None = refl
 custom-met k c false x session None = refl
 custom-met k c begins x session (Some reason) = by_refusal (λ r. session.store.runs ≡ runs_after (step.Custom k c begins x) r session.store.runs) refl refl refl refl reason
 
-put-met : (k c key : ℕ) (value : ℤ) (x : StatementAnswer) (session : Session) (r : Option Refusal) → CountedMet (step.Put k c key value x) (act.Put (pos key) value) session r
+put-met : (k c key : ℕ) (value : ℤ) (x : StatementAnswer) (session : Session) (r : Option Refusal) → CountedMet (step.Put k c key x value) (act.Put (pos key) value) session r
 put-met k c key value x session None = refl
-put-met k c key value x session (Some reason) = by_refusal (λ r. session.store.runs ≡ runs_after (step.Put k c key value x) r session.store.runs) refl refl refl refl reason
+put-met k c key value x session (Some reason) = by_refusal (λ r. session.store.runs ≡ runs_after (step.Put k c key x value) r session.store.runs) refl refl refl refl reason
 
 del-met : (k c key : ℕ) (x : StatementAnswer) (session : Session) (r : Option Refusal) → CountedMet (step.Del k c key x) (act.Delete (pos key)) session r
 del-met k c key x session None = refl
@@ -104,9 +104,9 @@ step-counted (step.Custom k c begins x) a session e =
     subst (λ (a : Act). Counted (step.Custom k c begins x) a session) same
     (outside_only (step.Custom k c begins x) session (left_met (act.Custom begins) session met) reply.InvalidSavePointStatement (reply_met (act.Custom begins) session met) (session.link.depth == 0) refl
     (custom-met k c begins x session met))
-step-counted (step.Put k c key value x) a session e =
+step-counted (step.Put k c key x value) a session e =
     let same : act.Put (pos key) value ≡ a = cc in
-    subst (λ (a : Act). Counted (step.Put k c key value x) a session) same (put-met k c key value x session (met_by (act.Put (pos key) value) session))
+    subst (λ (a : Act). Counted (step.Put k c key x value) a session) same (put-met k c key value x session (met_by (act.Put (pos key) value) session))
 step-counted (step.Del k c key x) a session e =
     let same : act.Delete (pos key) ≡ a = cc in
     subst (λ (a : Act). Counted (step.Del k c key x) a session) same (del-met k c key x session (met_by (act.Delete (pos key)) session))
@@ -133,7 +133,7 @@ step-counted other a session e = absurd cc
 not_held-counts : (s : Step) (runs : Counts) → runs ≡ runs_after s reply.NotHeld runs
 not_held-counts (step.Begin k c x) runs = refl
 not_held-counts (step.Custom k c begins x) runs = refl
-not_held-counts (step.Put k c key value x) runs = refl
+not_held-counts (step.Put k c key x value) runs = refl
 not_held-counts (step.Del k c key x) runs = refl
 not_held-counts (step.Get k c key x) runs = refl
 not_held-counts (step.Commit k c x) runs = refl

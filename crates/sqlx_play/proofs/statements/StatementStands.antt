@@ -54,7 +54,7 @@ use Rattle.sqlx_rules.specs.Pairs.{Pairs}
 made_none : (pool : PoolLine) (marks : List Mark) (m : ℕ) (s : Step) (r : Reply) (x : levels.Statement) → statement_of s ≡ Some x → made pool marks m s r ≡ []
 made_none pool marks m (step.Begin k c a) r x e = refl
 made_none pool marks m (step.Custom k c begins a) r x e = refl
-made_none pool marks m (step.Put k c key value a) r x e = refl
+made_none pool marks m (step.Put k c key a value) r x e = refl
 made_none pool marks m (step.Del k c key a) r x e = refl
 made_none pool marks m (step.Get k c key a) r x e = refl
 made_none pool marks m (step.Commit k c a) r x e = refl
@@ -65,7 +65,7 @@ made_none pool marks m other r x e = absurd (cc)
 tried_none : (t : ℕ) (tries : Option Tries) (m : ℕ) (s : Step) (r : Reply) (x : levels.Statement) → statement_of s ≡ Some x → tried t tries m s r ≡ tries
 tried_none t tries m (step.Begin k c a) r x e = refl
 tried_none t tries m (step.Custom k c begins a) r x e = refl
-tried_none t tries m (step.Put k c key value a) r x e = refl
+tried_none t tries m (step.Put k c key a value) r x e = refl
 tried_none t tries m (step.Del k c key a) r x e = refl
 tried_none t tries m (step.Get k c key a) r x e = refl
 tried_none t tries m (step.Commit k c a) r x e = refl

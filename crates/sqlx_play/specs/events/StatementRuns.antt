@@ -51,7 +51,7 @@ said s = record { client = s.client; conn = s.connection; act = act_on s.connect
 abbrev pub acts : Step → Bool
 acts (Begin client connection answer) = true
 acts (Custom client connection begins answer) = true
-acts (Put client connection key value answer) = true
+acts (Put client connection key answer value) = true
 acts (Del client connection key answer) = true
 acts (Get client connection key answer) = true
 acts (Commit client connection answer) = true
@@ -63,7 +63,7 @@ acts other = false
 abbrev pub done_by : Step → Option Act
 done_by (Begin client connection answer) = Some act.Begin
 done_by (Custom client connection begins answer) = Some (act.Custom begins)
-done_by (Put client connection key value answer) = Some (act.Put (pos key) value)
+done_by (Put client connection key answer value) = Some (act.Put (pos key) value)
 done_by (Del client connection key answer) = Some (act.Delete (pos key))
 done_by (Get client connection key answer) = Some (act.Get (pos key))
 done_by (Commit client connection answer) = Some act.Commit

@@ -6,6 +6,6 @@ use Rattle.sqlx_made.proofs.script.made_script.Given as goal
 -- the lines so far were written, and the next is of this block
 abbrev pub invariant-loop-line : goal.invariant-loop-line
 invariant-loop-line l = record {
-  text : string_bytes l.text ++ lines_from l.seed l.line (l.lines + 1 - l.line) ≡ made_text l.lines l.seed;
+  text : (string_bytes l.text ++ l.page.bytes) ++ lines_from l.seed l.line (l.lines + 1 - l.line) ≡ made_text l.lines l.seed;
   block : l.block ≡ block_at l.seed ((l.line - 2) / 7);
 }
