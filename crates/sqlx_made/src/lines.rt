@@ -84,6 +84,16 @@ fn push_words(page: &mut OutputPage, number: u32, block: Block, place: u32)
     }
 }
 
+/// Puts what the page holds behind the text, and empties it.
+pub fn push_page(text: &mut String, page: &mut OutputPage) -> Result<(), AllocError>
+    ensures text { OnOk result (string_bytes text.new ≡ string_bytes text.old ++ page.old.bytes) }
+    ensures empty { OnOk result (page.new.bytes ≡ []) }
+{
+    text.push_str(page.as_str())?;
+    page.clear();
+    Ok(())
+}
+
 // Makes room for a line on the page: where it hasn't, what it holds goes behind the text.
 fn make_room(text: &mut String, page: &mut OutputPage) -> Result<(), AllocError>
     ensures text { OnOk result (string_bytes text.new ++ page.new.bytes ≡ string_bytes text.old ++ page.old.bytes) }
@@ -92,9 +102,7 @@ fn make_room(text: &mut String, page: &mut OutputPage) -> Result<(), AllocError>
     if page.remaining_capacity() >= LINE {
         return Ok(());
     }
-    text.push_str(page.as_str())?;
-    page.clear();
-    Ok(())
+    push_page(text, page)
 }
 
 /// Puts the line at this place of a block behind a text and a page of it, the place being from 0 to 6 and `number` the line's number.

@@ -3,7 +3,7 @@ ghost use Rattle.std.specs.Prelude.{◌≡◌, ◌<◌, ◌≤◌, ◌^◌, IfOk
 ghost use Rattle.sqlx_made.specs.Made.{made_text};
 
 use crate::block::Block;
-use crate::lines::push_line;
+use crate::lines::{push_line, push_page};
 use sqlx_script::OutputPage;
 use std::alloc::{AllocError, Global};
 
@@ -23,6 +23,6 @@ pub fn made_script(alloc: Global, lines: u32, seed: u32) -> Result<String, Alloc
             block = block.next();
         }
     }
-    text.push_str(page.as_str())?;
+    push_page(&mut text, &mut page)?;
     Ok(text)
 }

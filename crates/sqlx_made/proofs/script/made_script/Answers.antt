@@ -1,4 +1,4 @@
-use Rattle.std.proofs.Common.{◌+◌, ◌-◌, ◌/◌, ◌++◌, ap, refl, ◌∙◌, arith}
+use Rattle.std.proofs.Common.{append-nil, string_bytes, ◌+◌, ◌-◌, ◌/◌, ◌++◌, ap, refl, ◌∙◌, arith}
 use Rattle.sqlx_made.specs.Blocks.{block_at}
 use Rattle.sqlx_made.specs.Made.{lines_from, first_line}
 use Rattle.sqlx_made.proofs.ScriptLemmas.{text_more, text_all, block_stays, block_more, small_block}
@@ -8,7 +8,10 @@ use Rattle.sqlx_made.proofs.script.made_script.Goals.{then-place-eq6, else-place
 pub loop-line-init : goal.loop-line-init
 unfolding block_at
 loop-line-init c = record {
-  text = ap (λ t. t ++ lines_from c.args.seed 2 (c.args.lines + 1 - 2)) c.in_ok-text.ensures.ok ∙ ap (λ k. first_line ++ lines_from c.args.seed 2 k) (omega arith);
+  text =
+      ap (λ bs. (string_bytes c.in_ok-text.text ++ bs) ++ lines_from c.args.seed 2 (c.args.lines + 1 - 2)) c.new-page.ensures
+      ∙ ap (λ t. t ++ lines_from c.args.seed 2 (c.args.lines + 1 - 2)) (append-nil (string_bytes c.in_ok-text.text) ∙ c.in_ok-text.ensures.ok)
+      ∙ ap (λ k. first_line ++ lines_from c.args.seed 2 k) (omega arith);
   block = c.first-block.ensures;
 }
 
@@ -32,4 +35,4 @@ loop-line-preserved c = record {
 }
 
 pub returns : goal.returns
-returns c = text_all c.args.seed c.loop-line.line c.args.lines _ _ (omega (arith, c.loop-line-test.false)) c.loop-line.invariant.text
+returns c = c.in_ok-push_page.ensures.text ∙ text_all c.args.seed c.loop-line.line c.args.lines _ _ (omega (arith, c.loop-line-test.false)) c.loop-line.invariant.text

@@ -36,8 +36,8 @@ pub returns-in_default-read_event-clause-cause : goal.returns-in_default-read_ev
 returns-in_default-read_event-clause-cause g c =
     ends_page _ _ _ _ _ _ _ _ _ _ _ _ _ _ _ _ (room_made _ _ _ _ _ _ _ _ _ _ _ c.loop-rest.invariant.played c.in_default.ensures.ok) c.ended_by.ensures.cause
     (λ played. elim c.in_default-read_event.branch [
-      in_default-read_event-via-in-Some+else-event-last w ↦ stops_early _ _ _ c.cut_line.result.1.now _ _ _ _ _ _ w.in-Some.event played c.cut_line.ensures.line (sym c.read_event.ensures.says ∙ w.in-Some.is) w.if-event-last.false
-    | in_default-read_event-via-in_default-read_event w ↦ stops_at_none _ _ _ c.cut_line.result.1.now _ _ _ _ _ _ played c.cut_line.ensures.line (sym c.read_event.ensures.says ∙ w.in_default-read_event.is)
+      | in_default-read_event-via-in-Some+else-event-last w ↦ stops_early _ _ _ c.cut_line.result.1.now _ _ _ _ _ _ w.in-Some.event played c.cut_line.ensures.line (sym c.read_event.ensures.says ∙ w.in-Some.is) w.if-event-last.false
+      | in_default-read_event-via-in_default-read_event w ↦ stops_at_none _ _ _ c.cut_line.result.1.now _ _ _ _ _ _ played c.cut_line.ensures.line (sym c.read_event.ensures.says ∙ w.in_default-read_event.is)
     ]) (omega (arith, c.loop-rest.invariant.rises, c.make_room.ensures.rises))
 
 pub returns-in-Err-play_event-clause-cause : goal.returns-in-Err-play_event-clause-cause
