@@ -67,6 +67,7 @@ fn ended_by<K: Sink>(page: &mut OutputPage, sink: &mut K, error: PlayError) -> P
 }
 
 // Plays an event, and puts its reply on the page.
+#[inline(always)]
 fn play_event<R: Route>(
     alloc: Global,
     stage: &mut Stage,
