@@ -12,13 +12,16 @@ use std::alloc::Global;
 // How many bytes a script may have.
 const LIMIT: usize = 1_048_576;
 
+// For how many bytes there is room at first.
+const FIRST: usize = 262_144;
+
 /// All that the source has, if it isn't more than a script may have.
 pub fn read_all<S: Source>(alloc: Global, source: &mut S) -> Result<Vec<u8>, PlayError>
     ensures ok { IfOk result (λ text. TookAll (S.left source.old) (S.left source.new) text.items × (vec_len text ≤ limit)) }
     ensures rises { S.faults source.old ≤ S.faults source.new }
     ensures cause { IfErr result (ReadCause (S.left source.old) (S.left source.new) (S.faults source.old) (S.faults source.new)) }
 {
-    let mut text = Vec::new(alloc);
+    let mut text = Vec::with_capacity(alloc, FIRST)?;
     let mut buf = [0u8; 4096];
     while text.len() <= LIMIT {
         let n = match source.read(&mut buf) {
