@@ -35,12 +35,6 @@ pub record WrotePart (before now : Option (List ℕ)) (text : List ℕ) : Type 0
   pub parts : front ++ rest ≡ text
   pub written : Appends before now front
 
--- What stands before the rest of a text was written.
-pub record Wrote (before now : Option (List ℕ)) (text rest : List ℕ) : Type 0 where
-  pub done : List ℕ
-  pub parts : done ++ rest ≡ text
-  pub written : Appends before now done
-
 -- Why a text was not played to its end: at line n (Stops n), or with a part of it written (Part).
 abbrev pub TextCause : (ℕ → Type 0) → Type 0 → ℕ → ℕ → PlayError → Type 0
 TextCause Stops Part faults_before faults_now Usage = ⊥

@@ -32,6 +32,10 @@ Replies before now old new event = (pairs : Pairs) → StageStands old pairs
     × StageStands new (pairs ++ (event, answer old.pool pairs event) ∷ [])
     × (new.out.store.runs ≡ runs_after event.step (answer old.pool pairs event) old.out.store.runs)
 
+-- A front of the reply was written.
+abbrev pub RepliesInPart : Option (List ℕ) → Option (List ℕ) → Stage → Event → Type 0
+RepliesInPart before now old event = (pairs : Pairs) → StageStands old pairs → WrotePart before now (line_of (reply_text (answer old.pool pairs event)))
+
 -- ---- playing the lines after the first
 
 -- what lines after the first say, of the script of a pool

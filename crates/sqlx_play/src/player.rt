@@ -1,13 +1,13 @@
 //! Plays a script.
-ghost use Rattle.std.specs.Prelude.{◌≡◌, true, ◌+◌, ◌^◌, ◌≤◌, ◌⊎◌, ℕ, List, [], length, Some, IfOk, IfErr, OnErr, OnOk};
+ghost use Rattle.std.specs.Prelude.{◌≡◌, true, ◌^◌, ◌≤◌, ℕ, List, length, IfOk, IfErr, OnOk};
 ghost use Rattle.std.specs.Io.KnownBytes.{Appends};
-ghost use Rattle.sqlx_script.specs.Texts.{line_of, report_text};
+ghost use Rattle.sqlx_script.specs.Texts.{line_of, reply_text, report_text};
 ghost use Rattle.sqlx_script.specs.Built.{has_few_opens};
 ghost use Rattle.sqlx_script.specs.Grammar.{limit};
 ghost use Rattle.sqlx_play.specs.stage.EventFrame.{Frame};
 ghost use Rattle.sqlx_play.specs.stage.StageStands.{IsFresh, last_of, numbers_of};
-ghost use Rattle.sqlx_play.specs.Causes.{TookAll, Wrote, WrotePart, TextCause, ScriptCause, PlayCause, IsComplete, shown};
-ghost use Rattle.sqlx_play.specs.Plays.{Replies, PlaysLines, LinesCause, Plays};
+ghost use Rattle.sqlx_play.specs.Causes.{TookAll, WrotePart, TextCause, ScriptCause, PlayCause, IsComplete, shown};
+ghost use Rattle.sqlx_play.specs.Plays.{Replies, RepliesInPart, PlaysLines, LinesCause, Plays};
 
 use crate::error::PlayError;
 use crate::io::{Sink, Source};
@@ -15,11 +15,8 @@ use crate::pour::{read_all, write_all};
 use crate::stage::{Stage, answer, new_stage, report};
 use mem_acts::{ClientLink, MemStore, Route};
 use sqlx_pool_core::PoolCore;
-use sqlx_script::{Event, OutputPage, Report, cut_line, read_event, read_pool_line};
+use sqlx_script::{Event, OutputPage, Reply, Report, cut_line, read_event, read_pool_line};
 use std::alloc::Global;
-
-// The most that a reply takes, with its newline.
-const LINE: usize = 128;
 
 /// What a script left: the pool's core and the database that it was played on.
 #[derive(Drop)]
@@ -28,64 +25,44 @@ pub struct Played {
     pub store: MemStore,
 }
 
-// Writes what the page holds, and empties it.
-fn write_page<K: Sink>(page: &mut OutputPage, sink: &mut K) -> Result<(), PlayError>
-    ensures ok { OnOk result (Appends (K.written sink.old) (K.written sink.new) page.old.bytes) }
-    ensures empty { OnOk result (page.new.bytes ≡ []) }
-    ensures rises { K.faults sink.old ≤ K.faults sink.new }
-    ensures cause { IfErr result (TextCause (λ _. ⊥) (WrotePart (K.written sink.old) (K.written sink.new) page.old.bytes) (K.faults sink.old) (K.faults sink.new)) }
-{
-    write_all(sink, page.as_str().as_bytes())?;
-    page.clear();
-    Ok(())
-}
-
-// Makes room for a line on the page: where it hasn't, what it holds is written.
-#[tactic(auto, using(crate::proofs::scripts::Parts::all_written, crate::proofs::scripts::Parts::begun))]
-fn make_room<K: Sink>(page: &mut OutputPage, sink: &mut K) -> Result<(), PlayError>
-    ensures ok { OnOk result (Wrote (K.written sink.old) (K.written sink.new) page.old.bytes page.new.bytes) }
-    ensures room { OnOk result (length page.new.bytes + 128 ≤ 4096) }
-    ensures rises { K.faults sink.old ≤ K.faults sink.new }
-    ensures cause { IfErr result (TextCause (λ _. ⊥) (WrotePart (K.written sink.old) (K.written sink.new) page.old.bytes) (K.faults sink.old) (K.faults sink.new)) }
-{
-    if page.remaining_capacity() >= LINE {
-        return Ok(());
-    }
-    write_page(page, sink)
-}
-
-// By what a play ends: this error, once what the page holds was written, or else that of the write.
-fn ended_by<K: Sink>(page: &mut OutputPage, sink: &mut K, error: PlayError) -> PlayError
-    ensures rises { K.faults sink.old ≤ K.faults sink.new }
-    ensures cause { (Appends (K.written sink.old) (K.written sink.new) page.old.bytes × (result ≡ error))
-        ⊎ TextCause (λ _. ⊥) (WrotePart (K.written sink.old) (K.written sink.new) page.old.bytes) (K.faults sink.old) (K.faults sink.new) result }
-{
-    match write_page(page, sink) {
-        Ok(()) => error,
-        Err(refused) => refused,
-    }
-}
-
-// Plays an event, and puts its reply on the page.
+// Puts a reply's line in place of what the page holds.
 #[inline(always)]
-fn play_event<R: Route>(
+fn set_reply(page: &mut OutputPage, reply: &Reply)
+    ensures { page.new.bytes ≡ line_of (reply_text reply.now) }
+{
+    page.clear();
+    reply.push_line(page);
+}
+
+// Puts the closing report's line in place of what the page holds.
+fn set_report(page: &mut OutputPage, report: &Report)
+    ensures { page.new.bytes ≡ line_of (report_text report.now) }
+{
+    page.clear();
+    report.push_line(page);
+}
+
+// Plays an event and writes its reply.
+#[tactic(auto, using(crate::proofs::scripts::Parts::none_yet))]
+#[inline(always)]
+fn play_event<R: Route, K: Sink>(
     alloc: Global,
     stage: &mut Stage,
     event: &Event,
-    page: &mut OutputPage,
+    line: &mut OutputPage,
+    sink: &mut K,
 ) -> Result<(), PlayError>
     requires few { has_few_opens event.now.step ≡ true }
     requires numbers { numbers_of stage.old ≤ 2 ^ 62 }
     requires in_order { last_of stage.old ≤ event.now.moment.0 }
-    requires room { length page.old.bytes + 128 ≤ 4096 }
-    ensures ok { OnOk result (Replies (Some page.old.bytes) (Some page.new.bytes) stage.old stage.new event.now) }
-    ensures err { OnErr result (page.new.bytes ≡ page.old.bytes) }
+    ensures ok { OnOk result (Replies (K.written sink.old) (K.written sink.new) stage.old stage.new event.now) }
     ensures frame { Frame stage.old stage.new event.now.moment.0 (2 ^ 20) }
-    ensures memory { IfErr result (λ e. e ≡ PlayError.OutOfMemory) }
+    ensures rises { K.faults sink.old ≤ K.faults sink.new }
+    ensures cause { IfErr result (TextCause (λ _. ⊥) (RepliesInPart (K.written sink.old) (K.written sink.new) stage.old event.now) (K.faults sink.old) (K.faults sink.new)) }
 {
     let reply = answer::<R>(stage, alloc, event)?;
-    reply.push_line(page);
-    Ok(())
+    set_reply(line, &reply);
+    write_all(sink, line.as_str().as_bytes())
 }
 
 // Plays the lines after the first.
@@ -93,14 +70,12 @@ fn play_lines<R: Route, K: Sink>(
     alloc: Global,
     stage: &mut Stage,
     text: &[u8],
-    page: &mut OutputPage,
+    reply: &mut OutputPage,
     sink: &mut K,
 ) -> Result<(), PlayError>
     requires fresh { IsFresh stage.old }
     requires short { length text.now ≤ limit }
-    requires empty { page.old.bytes ≡ [] }
     ensures ok { OnOk result (PlaysLines text.now stage.old.pool (K.written sink.old) (K.written sink.new) stage.new) }
-    ensures empty { OnOk result (page.new.bytes ≡ []) }
     ensures pool { stage.new.pool ≡ stage.old.pool }
     ensures rises { K.faults sink.old ≤ K.faults sink.new }
     ensures cause { IfErr result (LinesCause text.now stage.old.pool (K.written sink.old) (K.written sink.new) (K.faults sink.old) (K.faults sink.new)) }
@@ -110,23 +85,17 @@ fn play_lines<R: Route, K: Sink>(
     let mut last: u64 = 0;
     let mut number: u64 = 2;
     while !rest.is_empty() {
-        if let Err(error) = make_room(page, sink) {
-            return Err(error);
-        }
         let (line, after) = cut_line(rest);
         let event = match read_event(line, counts_tests) {
             Some(event) if event.moment.0 >= last => event,
-            _ => return Err(ended_by(page, sink, PlayError::ScriptLine(number))),
+            _ => return Err(PlayError::ScriptLine(number)),
         };
-        if let Err(error) = play_event::<R>(alloc, stage, &event, page) {
-            return Err(ended_by(page, sink, error));
+        if let Err(error) = play_event::<R, K>(alloc, stage, &event, reply, sink) {
+            return Err(error);
         }
         rest = after;
         last = event.moment.0;
         number += 1;
-    }
-    if let Err(error) = write_page(page, sink) {
-        return Err(error);
     }
     Ok(())
 }
@@ -143,20 +112,19 @@ fn played_on(stage: Stage) -> Played
     }
 }
 
-// Writes the closing report.
+// Writes the closing report, by one call if the sink takes it whole.
 fn write_report<K: Sink>(
-    page: &mut OutputPage,
+    line: &mut OutputPage,
     sink: &mut K,
     report: &Report,
 ) -> Result<(), PlayError>
-    requires empty { page.old.bytes ≡ [] }
     ensures ok { OnOk result (Appends (K.written sink.old) (K.written sink.new) (line_of (report_text report.now))) }
     ensures rises { K.faults sink.old ≤ K.faults sink.new }
     ensures cause { IfErr result (TextCause (λ _. ⊥) (WrotePart (K.written sink.old) (K.written sink.new) (line_of (report_text report.now)))
         (K.faults sink.old) (K.faults sink.new)) }
 {
-    report.push_line(page);
-    write_page(page, sink)
+    set_report(line, report);
+    write_all(sink, line.as_str().as_bytes())
 }
 
 // Plays a script that was read whole.
@@ -178,12 +146,12 @@ fn play_text<R: Route, K: Sink>(
         return Err(PlayError::ScriptLine(1));
     };
     let mut stage = new_stage(alloc, pool)?;
-    let mut page = OutputPage::new();
-    if let Err(error) = play_lines::<R, K>(alloc, &mut stage, rest, &mut page, sink) {
+    let mut line = OutputPage::new();
+    if let Err(error) = play_lines::<R, K>(alloc, &mut stage, rest, &mut line, sink) {
         drop(stage);
         return Err(error);
     }
-    if let Err(error) = write_report(&mut page, sink, &report(&stage)) {
+    if let Err(error) = write_report(&mut line, sink, &report(&stage)) {
         drop(stage);
         return Err(error);
     }

@@ -3,7 +3,7 @@
 
 use sqlx_program::{PlayError, StdSink, StdSource, run, status};
 use std::alloc::Global;
-use std::io::{Input, Print};
+use std::io::{BufWriter, Input, Print};
 use std::process::ExitCode;
 use std::sync::Wait;
 use std::thread::Threads;
@@ -31,15 +31,22 @@ fn words(rt: &HostRuntime) -> Result<Vec<String>, PlayError> {
     Ok(words)
 }
 
-// Runs over the standard input and output.
+// Runs over the standard input and output. What the buffer holds back at the end is written then; a refusal of that is a write fault too.
 fn run_on<R: Input + Print + Wait + Threads + Copy + Drop + Send + Sync + 'static>(
     rt: &R,
     alloc: Global,
     words: &[String],
 ) -> Result<(), PlayError> {
+    let Ok(buffer) = BufWriter::new(alloc, io::writer(rt)) else {
+        return Err(PlayError::OutOfMemory);
+    };
     let mut source = StdSource::new(rt.reader());
-    let mut sink = StdSink::new(io::writer(rt));
-    run(rt, alloc, words, &mut source, &mut sink)
+    let mut sink = StdSink::new(buffer);
+    let answer = run(rt, alloc, words, &mut source, &mut sink);
+    match sink.flush() {
+        Ok(()) => answer,
+        Err(_) => Err(PlayError::WriteFault),
+    }
 }
 
 fn main(rt: HostRuntime) -> ExitCode {

@@ -1,5 +1,5 @@
 -- How far the lines after the first were played.
-use Rattle.std.proofs.Common.{◌≡◌, ℕ, ◌+◌, ◌^◌, ◌<◌, ◌≤◌, true, Bool, List, [], ◌∷◌, ◌++◌, Option, Some, None, refl, sym, ap, subst, ◌∙◌, ◌⊎◌, inl, inr, append_assoc, append-nil, nat_lt, length, length-append, ◌==◌, eqb-true, arith}
+use Rattle.std.proofs.Common.{◌≡◌, ℕ, ◌+◌, ◌^◌, ◌<◌, ◌≤◌, true, Bool, List, [], ◌∷◌, ◌++◌, Option, Some, None, refl, sym, ap, subst, ◌∙◌, append_assoc, append-nil, nat_lt, length, length-append, ◌==◌, eqb-true, arith}
 use Rattle.std.specs.Io.KnownBytes.{Appends}
 use Rattle.std.proofs.KnownBytes.{Appends-nil, Appends-trans}
 use Rattle.std.proofs.lemmas.Bool.{lt-ltb, le-ltb, cond-true, cond-false}
@@ -13,10 +13,7 @@ use Rattle.sqlx_play.specs.declared.stage.Stage.{Stage}
 use Rattle.sqlx_rules.specs.Answer.{answer}
 use Rattle.sqlx_play.specs.stage.StageStands.{StageStands, IsFresh}
 use Rattle.sqlx_rules.specs.Output.{pairs_after, reply_line, replies_text}
-use Rattle.sqlx_play.specs.declared.error.PlayError.{PlayError}
-use Rattle.sqlx_play.specs.Causes.{Wrote, WrotePart, TextCause}
-use Rattle.sqlx_play.proofs.scripts.Causes.{cause_of}
-use Rattle.sqlx_play.proofs.scripts.Parts.{all_written, further, part_of}
+use Rattle.sqlx_play.specs.Causes.{WrotePart}
 use Rattle.sqlx_play.specs.Plays.{Replies, reading_of, PlaysLines, StopsAt, lines_text}
 use Rattle.sqlx_play.specs.ScriptRuns.{runs_of, runs_after}
 use Rattle.sqlx_play.proofs.scripts.RunsAdded.{runs_of-push}
@@ -110,92 +107,44 @@ more text rest line rest' number last pool before now now' stage stage' e w line
           ∙ sym (ap runs_of pushed ∙ runs_of-push pairs (e, answer pool pairs e) (omega (arith, w.counted, few)));
     }
 
--- the replies so far are a front of the text of the lines
-front_text : (text rest : List ℕ) (number last : ℕ) (pool : PoolLine) (before now : Option (List ℕ)) (stage : Stage) (w : PlayedSoFar text rest number last pool before now stage)
-    → (tail : List ℕ) × (replies_text (pairs_after pool [] w.done) ++ tail ≡ lines_text pool text)
-front_text text rest number last pool before now stage w =
-    let later = (reading_from pool.counts_tests number last (lines_of rest)).events in
-    let pairs = pairs_after pool [] w.done in
-    let front = pairs_after-front pool pairs later in
-    let all : pairs_after pool [] (reading_of pool text).events ≡ pairs ++ front.0 =
-    ap (λ (r : Reading). pairs_after pool [] r.events) w.reads ∙ pairs_after-append pool [] w.done later ∙ front.1 in
-    (replies_text front.0, sym (ap replies_text all ∙ replies_text-append pairs front.0))
-
--- a part of the text of the lines was written
-pub part_so_far : (text rest : List ℕ) (number last : ℕ) (pool : PoolLine) (before now : Option (List ℕ)) (stage : Stage) → PlayedSoFar text rest number last pool before now stage
-    → WrotePart before now (lines_text pool text)
-part_so_far text rest number last pool before now stage w =
-    let front = front_text text rest number last pool before now stage w in
-    record { front = replies_text (pairs_after pool [] w.done); rest = front.0; parts = front.1; written = w.written }
-
--- ---- replies on a page
-
--- The lines before the rest were played: of their replies a front was written, and the page holds the others.
-pub record PlayedOnPage (text rest : List ℕ) (number last : ℕ) (pool : PoolLine) (before now : Option (List ℕ)) (page : List ℕ) (stage : Stage) : Type 0 where
-  pub replies : List ℕ
-  pub wrote : Wrote before now replies page
-  pub played : PlayedSoFar text rest number last pool (Some []) (Some replies) stage
-
--- nothing was played yet, and the page is empty
-pub begun_page : (text : List ℕ) (pool : PoolLine) (now : Option (List ℕ)) (page : List ℕ) (stage : Stage) → IsFresh stage → page ≡ [] → PlayedOnPage text text 2 0 pool now now page stage
-begun_page text pool now page stage fresh e = record { replies = []; wrote = all_written now now [] page (Appends-nil now) e; played = begun text pool (Some []) stage fresh }
-
--- a front of the page was written
-pub room_made : (text rest : List ℕ) (number last : ℕ) (pool : PoolLine) (before now now' : Option (List ℕ)) (page page' : List ℕ) (stage : Stage)
-    → PlayedOnPage text rest number last pool before now page stage → Wrote now now' page page' → PlayedOnPage text rest number last pool before now' page' stage
-room_made text rest number last pool before now now' page page' stage w v = record { replies = w.replies; wrote = further before now now' w.replies page page' w.wrote v; played = w.played }
-
--- the next event was played, and its reply is on the page
-pub more_on_page : (text rest line rest' : List ℕ) (number last : ℕ) (pool : PoolLine) (before now : Option (List ℕ)) (page page' : List ℕ) (stage stage' : Stage) (e : Event)
-    → PlayedOnPage text rest number last pool before now page stage
+-- the text of the lines, where the next line is an event
+text_parts : (text rest line rest' : List ℕ) (number last : ℕ) (pool : PoolLine) (before now : Option (List ℕ)) (stage : Stage) (e : Event) (w : PlayedSoFar text rest number last pool before now stage)
     → lines_of rest ≡ line ∷ lines_of rest' → event_of pool.counts_tests line ≡ Some e → last ≤ e.moment.0
-    → stage.pool ≡ pool → stage'.pool ≡ stage.pool
-    → Replies (Some page) (Some page') stage stage' e
-    → number < 2 ^ 64
-    → PlayedOnPage text rest' (number + 1) e.moment.0 pool before now page' stage'
-more_on_page text rest line rest' number last pool before now page page' stage stage' e w lines is late same stays plays few =
-    let done = w.wrote.done in
+    → (tail : List ℕ) × ((replies_text (pairs_after pool [] w.done) ++ line_of (reply_text (answer pool (pairs_after pool [] w.done) e))) ++ tail ≡ lines_text pool text)
+unfolding reply_line
+text_parts text rest line rest' number last pool before now stage e w lines is late =
+    let pairs = pairs_after pool [] w.done in
+    let later = (reading_from pool.counts_tests (number + 1) e.moment.0 (lines_of rest')).events in
+    let reads : reading_of pool text ≡ record { events = w.done ++ e ∷ later; bad = (reading_from pool.counts_tests (number + 1) e.moment.0 (lines_of rest')).bad } =
+    read_to text rest number last pool before now stage w _ (ap (reading_from pool.counts_tests number last) lines ∙ event_next pool.counts_tests number last line (lines_of rest') e is late) in
+    let pair : Event × Reply = (e, answer pool pairs e) in
+    let events : (reading_of pool text).events ≡ (w.done ++ e ∷ []) ++ later = ap (λ (r : Reading). r.events) reads ∙ sym (append_assoc w.done (e ∷ []) later) in
+    let front = pairs_after-front pool (pairs ++ pair ∷ []) later in
+    let all : pairs_after pool [] (reading_of pool text).events ≡ (pairs ++ pair ∷ []) ++ front.0 =
+    ap (pairs_after pool []) events ∙ pairs_after-append pool [] (w.done ++ e ∷ []) later ∙ ap (λ ps. pairs_after pool ps later) (pairs_after-push pool [] w.done e) ∙ front.1 in (
+      replies_text front.0,
+      sym (ap replies_text all ∙ replies_text-append (pairs ++ pair ∷ []) front.0 ∙ ap (λ xs. xs ++ replies_text front.0) (replies_text-push pairs pair)),
+    )
+
+-- the next event's reply was written in part
+pub stopped : (text rest line rest' : List ℕ) (number last : ℕ) (pool : PoolLine) (before now now' : Option (List ℕ)) (stage : Stage) (e : Event)
+    → PlayedSoFar text rest number last pool before now stage
+    → lines_of rest ≡ line ∷ lines_of rest' → event_of pool.counts_tests line ≡ Some e → last ≤ e.moment.0
+    → stage.pool ≡ pool
+    → ((pairs : Pairs) → StageStands stage pairs → WrotePart now now' (line_of (reply_text (answer stage.pool pairs e))))
+    → WrotePart before now' (lines_text pool text)
+stopped text rest line rest' number last pool before now now' stage e w lines is late same writes =
+    let pairs = pairs_after pool [] w.done in
+    let part = subst (λ p. WrotePart now now' (line_of (reply_text (answer p pairs e)))) same (writes pairs w.stands) in
+    let parts = text_parts text rest line rest' number last pool before now stage e w lines is late in
+    let done = replies_text (pairs_after pool [] w.done) in
+    let joined : (done ++ part.front) ++ (part.rest ++ parts.0) ≡ (done ++ (part.front ++ part.rest)) ++ parts.0 = simp append_assoc in
     record {
-      replies = done ++ page';
-      wrote = record { done = done; parts = refl; written = w.wrote.written };
-      played =
-          more text rest line rest' number last pool (Some []) (Some w.replies) (Some (done ++ page')) stage stage' e w.played lines is late same stays (λ pairs stands.
-          let p = plays pairs stands in
-          (ap (λ xs. done ++ xs) p.0 ∙ sym (append_assoc done page _) ∙ ap (λ xs. xs ++ line_of (reply_text (answer stage.pool pairs e))) w.wrote.parts, p.1, p.2)) few;
+      front = done ++ part.front;
+      rest = part.rest ++ parts.0;
+      parts = joined ∙ ap (λ xs. (done ++ xs) ++ parts.0) part.parts ∙ parts.1;
+      written = Appends-trans before now now' done part.front w.written part.written;
     }
-
--- what the page held was written
-pub page_written : (text rest : List ℕ) (number last : ℕ) (pool : PoolLine) (before now now' : Option (List ℕ)) (page : List ℕ) (stage : Stage)
-    → PlayedOnPage text rest number last pool before now page stage → Appends now now' page → PlayedSoFar text rest number last pool before now' stage
-page_written text rest number last pool before now now' page stage w a = record {
-  done = w.played.done;
-  reads = w.played.reads;
-  written = subst (Appends before now') (w.wrote.parts ∙ w.played.written) (Appends-trans before now now' w.wrote.done page w.wrote.written a);
-  stands = w.played.stands;
-  counted = w.played.counted;
-  runs = w.played.runs;
-}
-
--- the page was written in part
-pub page_in_part : (text rest : List ℕ) (number last : ℕ) (pool : PoolLine) (before now now' : Option (List ℕ)) (page : List ℕ) (stage : Stage)
-    → PlayedOnPage text rest number last pool before now page stage → WrotePart now now' page → WrotePart before now' (lines_text pool text)
-page_in_part text rest number last pool before now now' page stage w p =
-    let front = front_text text rest number last pool (Some []) (Some w.replies) stage w.played in
-    part_of before now now' w.replies page front.0 (lines_text pool text) w.wrote (ap (λ xs. xs ++ front.0) w.played.written ∙ front.1) p
-
--- the play ends by an error, or by that of the page's write
-pub ends_page : (Stops : ℕ → Type 0) (text rest : List ℕ) (number last : ℕ) (pool : PoolLine) (before now now' : Option (List ℕ)) (page : List ℕ) (stage : Stage) (faults0 faults faults' : ℕ) (error told : PlayError)
-    → PlayedOnPage text rest number last pool before now page stage
-    → (Appends now now' page × (told ≡ error)) ⊎ TextCause (λ _. ⊥) (WrotePart now now' page) faults faults' told
-    → (PlayedSoFar text rest number last pool before now' stage → TextCause Stops (WrotePart before now' (lines_text pool text)) faults0 faults' error)
-    → faults0 ≤ faults
-    → TextCause Stops (WrotePart before now' (lines_text pool text)) faults0 faults' told
-ends_page Stops text rest number last pool before now now' page stage faults0 faults faults' error told w (inl wrote) causes since =
-    subst (λ e. TextCause Stops (WrotePart before now' (lines_text pool text)) faults0 faults' e) (sym wrote.1) (causes (page_written text rest number last pool before now now' page stage w wrote.0))
-ends_page Stops text rest number last pool before now now' page stage faults0 faults faults' error told w (inr cause) causes since =
-    cause_of _ _ _ _ _ _ _ told (λ n stops. absurd stops) (page_in_part text rest number last pool before now now' page stage w) since cause
-
--- ---- where the reading ends
 
 -- what the lines come to where the next one ends the reading
 ended_text : (text rest : List ℕ) (number last : ℕ) (pool : PoolLine) (before now : Option (List ℕ)) (stage : Stage) (w : PlayedSoFar text rest number last pool before now stage) (bad : Option ℕ)

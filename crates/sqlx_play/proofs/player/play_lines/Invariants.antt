@@ -1,13 +1,13 @@
 use Rattle.std.proofs.Common.{◌≡◌, ◌+◌, ◌*◌, ◌≤◌, length}
 use Rattle.sqlx_script.specs.Grammar.{limit}
 use Rattle.sqlx_play.specs.stage.StageStands.{last_of, numbers_of}
-use Rattle.sqlx_play.proofs.scripts.Lines.{PlayedOnPage}
+use Rattle.sqlx_play.proofs.scripts.Lines.{PlayedSoFar}
 use Rattle.sqlx_play.proofs.player.play_lines.Given as goal
 
 -- the lines before the rest were played
 abbrev pub invariant-loop-rest : goal.invariant-loop-rest
 invariant-loop-rest g l = record {
-  played : PlayedOnPage l.text l.rest l.number l.last l.initial.stage.pool (g.K.Sink.written l.initial.sink) (g.K.Sink.written l.sink) l.page.bytes l.stage;
+  played : PlayedSoFar l.text l.rest l.number l.last l.initial.stage.pool (g.K.Sink.written l.initial.sink) (g.K.Sink.written l.sink) l.stage;
   pool : l.stage.pool ≡ l.initial.stage.pool;
   in_order : last_of l.stage ≤ l.last;
   numbers : numbers_of l.stage + 1048576 * length l.rest ≤ 2 + 1048576 * limit;

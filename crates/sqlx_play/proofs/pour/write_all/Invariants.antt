@@ -1,5 +1,5 @@
 use Rattle.std.proofs.Common.{◌≤◌, length}
-use Rattle.sqlx_play.specs.Causes.{Wrote}
+use Rattle.sqlx_play.proofs.scripts.Parts.{Wrote}
 use Rattle.sqlx_play.proofs.pour.write_all.Given as goal
 
 -- what stands before the rest was written
