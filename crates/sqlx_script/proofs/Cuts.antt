@@ -11,15 +11,6 @@ pub not_ended : {R : Type 0} (made : R) (ws : List (List ℕ)) → (ws ≡ [] �
 not_ended made [] h = absurd (h refl)
 not_ended made (w ∷ ws) h = refl
 
-onto_some : (b : ℕ) (parts : List (List ℕ)) → onto_first b parts ≡ [] → ⊥
-onto_some b [] h = cc
-onto_some b (part ∷ parts) h = cc
-
--- there is a word where there is a byte
-pub split_some : (c : Bool) (b : ℕ) (parts : List (List ℕ)) → cond c ([] ∷ parts) (onto_first b parts) ≡ [] → ⊥
-split_some true b parts h = cc
-split_some false b parts h = onto_some b parts h
-
 pub differs : (b c : ℕ) → b ≢ c → (b == c) ≡ false
 differs b c h = grind (arith, nat_tests)
 

@@ -1,11 +1,13 @@
 -- The lines that begin with no name.
-use Rattle.std.proofs.Common.{◌≡◌, ◌≢◌, ◌++◌, ℕ, Bool, true, false, cond, List, [], ◌∷◌, Option, Some, None, codes, refl, ap}
+use Rattle.std.proofs.Common.{◌≡◌, ◌≢◌, ◌++◌, ◌==◌, ◌||◌, ℕ, Bool, true, false, cond, List, [], ◌∷◌, Option, Some, None, codes, drop, get_or, refl, sym, ap, ◌∙◌}
 use Rattle.std.specs.Str.{bytes_eq}
 use Rattle.std.specs.List.{onto_first}
 use Rattle.std.proofs.lemmas.Bool.{eqb-true}
 use Rattle.std.proofs.Common.{rules}
 use Rattle.std.proofs.lemmas.Slice.Eq.{bytes_eq-Decides}
-use Rattle.sqlx_script.specs.Words.{is_blank, words_left}
+use Rattle.sqlx_script.specs.Words.{is_blank, ends_word, has_end, has_newline, words_in_front, words_behind}
+use Rattle.sqlx_script.proofs.Fronts as fronts
+use Rattle.sqlx_script.proofs.Fronts.{split}
 use Rattle.sqlx_script.specs.Numbers.{◌>>=◌, millis}
 use Rattle.sqlx_script.specs.Names.{text_of}
 use Rattle.sqlx_script.specs.Grammar.{statement_of, step_of, event_words}
@@ -16,22 +18,52 @@ use Rattle.sqlx_script.specs.declared.step.Step.{Step}
 
 -- ---- a blank stands behind a word that is not the last
 
+same_words : (v w : List ℕ) (vs ws : List (List ℕ)) → v ∷ vs ≡ w ∷ ws → (v ≡ w) × (vs ≡ ws)
+same_words v w vs ws h = (ap (λ x. get_or x 0 []) h, ap (drop 1) h)
+
 abbrev Follows : List ℕ → List ℕ → Type 0
 Follows text w = (rest : List ℕ) × (text ≡ w ++ 32 ∷ rest)
 
-front_at : (is : Bool) (b : ℕ) (text : List ℕ) (parts : List (List ℕ)) (w v : List ℕ) (ws : List (List ℕ)) → is_blank b ≡ is
-    → cond is ([] ∷ parts) (onto_first b parts) ≡ w ∷ v ∷ ws → ((w' : List ℕ) → parts ≡ w' ∷ v ∷ ws → Follows text w') → Follows (b ∷ text) w
-front_at true b text parts [] v ws is h more = (text, rw (eqb-true b 32 is) refl)
-front_at true b text parts (a ∷ w) v ws is h more = cc
-front_at false b text [] w v ws is h more = cc
-front_at false b text (p ∷ parts) [] v ws is h more = cc
-front_at false b text (p ∷ parts) (a ∷ w) v ws is h more = let behind = more w cc in (behind.0, let e = behind.1 in cc)
+follows : (w rest v : List ℕ) (ws : List (List ℕ)) → ends_word (get_or rest 0 0) ≡ true → words_behind rest ≡ v ∷ ws → Follows (w ++ rest) w
+follows w [] v ws end' h = cc
+follows w (b ∷ rest) v ws end' h = blank (is_blank b) (b == 10) refl end' h
+  where
+    blank : (c d : Bool) → is_blank b ≡ c → (c || d) ≡ true → cond d [] (words_in_front rest) ≡ v ∷ ws → Follows (w ++ b ∷ rest) w
+    blank true d is end' h = (rest, rw (eqb-true b 32 is) refl)
+    blank false true is end' h = cc
+    blank false false is end' h = cc
 
 -- the first of two words and more, with the blank behind it, is in front
-pub front : (text w v : List ℕ) (ws : List (List ℕ)) → words_left text ≡ w ∷ v ∷ ws → Follows text w
-front [] w v ws h = cc
-front (b ∷ []) w v ws h = cc
-front (b ∷ c ∷ text) w v ws h = front_at (is_blank b) b (c ∷ text) (words_left (c ∷ text)) w v ws refl h (λ w' h'. front (c ∷ text) w' v ws h')
+pub front : (text w v : List ℕ) (ws : List (List ℕ)) → has_newline text ≡ true → words_in_front text ≡ w ∷ v ∷ ws → Follows text w
+front text w v ws some h =
+    let first = split text some in
+    let words = (fronts.front text first.w first.rest some first.is first.inside first.end').words in
+    let both = same_words first.w w (words_behind first.rest) (v ∷ ws) (sym words ∙ h) in
+    rw (first.is, both.0) (follows w first.rest v ws first.end' both.1)
+
+-- ---- names have no end of a word
+
+pub no_end : (name : Name) → has_end (text_of name) ≡ false
+no_end Ask = refl
+no_end Poll = refl
+no_end Cancel = refl
+no_end Try = refl
+no_end Give = refl
+no_end End = refl
+no_end Detach = refl
+no_end Leak = refl
+no_end Reap = refl
+no_end Min = refl
+no_end CloseState = refl
+no_end Close = refl
+no_end Begin = refl
+no_end Custom = refl
+no_end Put = refl
+no_end Del = refl
+no_end Get = refl
+no_end Commit = refl
+no_end Rollback = refl
+no_end GiveUp = refl
 
 -- ---- no event goes by another name
 

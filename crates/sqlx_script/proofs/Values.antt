@@ -1,10 +1,10 @@
--- Values in front of what is left of a line.
-use Rattle.std.proofs.Common.{◌≡◌, ◌≢◌, ℕ, Bool, true, false, cond, List, [], ◌∷◌, Option, Some, None, ◌<◌, length, get_or, drop, refl, sym, ap, subst, ◌∙◌, arith}
+-- Values in front of a text.
+use Rattle.std.proofs.Common.{◌≡◌, ◌≢◌, ◌==◌, ℕ, Bool, true, false, cond, List, [], ◌∷◌, Option, Some, None, IfSome, IfNone, get_or, drop, refl, sym, ap, subst, ◌∙◌, arith}
 use Rattle.std.specs.List.{onto_first}
 use Rattle.std.proofs.lemmas.Bool.{ne_eqb}
-use Rattle.sqlx_script.specs.Words.{is_blank, words_left, ends_left}
+use Rattle.sqlx_script.specs.Words.{is_blank, has_newline, behind_line, words_in_front}
 use Rattle.sqlx_script.specs.Numbers.{◌>>=◌, number_in, value, plain_value, minus_value}
-use Rattle.sqlx_script.specs.Rows.{word, Reads}
+use Rattle.sqlx_script.specs.Rows.{word}
 
 abbrev made_in : {A B : Type 0} → (A → B) → Option (A × List (List ℕ)) → Option (B × List (List ℕ))
 made_in f (Some r) = Some (f r.0, r.1)
@@ -37,34 +37,29 @@ minus_word [] = refl
 minus_word (w ∷ ws) = refl
 
 -- a value behind a minus
-minus_left : (rest : List ℕ) → ends_left (45 ∷ rest) ≡ true → word value (words_left (45 ∷ rest)) ≡ word minus_value (words_left rest)
-minus_left [] ends = cc
-minus_left (c ∷ rest) ends = minus_word (words_left (c ∷ rest))
+pub minus_left : (text : List ℕ) → get_or text 0 0 ≡ 45 → has_newline text ≡ true
+    → (word value (words_in_front text) ≡ word minus_value (words_in_front (drop 1 text))) × (behind_line (drop 1 text) ≡ behind_line text) × (has_newline (drop 1 text) ≡ true)
+minus_left [] e some = cc
+minus_left (b ∷ text) e some = rw e (minus_word (words_in_front text), refl, rw e at some)
 
-plain_word : (c : Bool) (b : ℕ) (ws : List (List ℕ)) → b ≢ 45 → word value (cond c ([] ∷ ws) (onto_first b ws)) ≡ word plain_value (cond c ([] ∷ ws) (onto_first b ws))
+plain_word : (c d : Bool) (b : ℕ) (ws : List (List ℕ)) → b ≢ 45
+    → word value (cond c ([] ∷ []) (cond d ([] ∷ ws) (onto_first b ws))) ≡ word plain_value (cond c ([] ∷ []) (cond d ([] ∷ ws) (onto_first b ws)))
 unfolding word value
-plain_word true b ws no' = refl
-plain_word false b [] no' = rw (ne_eqb b 45 no') refl
-plain_word false b (w ∷ ws) no' = rw (ne_eqb b 45 no') refl
+plain_word true d b ws no' = refl
+plain_word false true b ws no' = refl
+plain_word false false b [] no' = rw (ne_eqb b 45 no') refl
+plain_word false false b (w ∷ ws) no' = rw (ne_eqb b 45 no') refl
 
 -- a value with no minus
-pub plain_left : (text : List ℕ) → get_or text 0 0 ≢ 45 → word value (words_left text) ≡ word plain_value (words_left text)
+pub plain_left : (text : List ℕ) → get_or text 0 0 ≢ 45 → word value (words_in_front text) ≡ word plain_value (words_in_front text)
 unfolding word value
 plain_left [] no' = refl
-plain_left (b ∷ []) no' = refl
-plain_left (b ∷ c ∷ rest) no' = plain_word (is_blank b) b (words_left (c ∷ rest)) no'
+plain_left (b ∷ text) no' = plain_word (b == 10) (is_blank b) b (words_in_front text) no'
 
-pub same_reads : {A : Type 0} (p q : List ℕ → Option A) (o : Option A) (old mid new : List (List ℕ)) → word p old ≡ word q mid → Reads q o mid new → Reads p o old new
-same_reads p q (Some x) old mid new e h = e ∙ h
-same_reads p q None old mid new e h = e ∙ h
+pub some_as : {A : Type 0} (P Q : A → Type 0) (o : Option A) → ((r : A) → P r → Q r) → IfSome o P → IfSome o Q
+some_as P Q (Some r) f h = f r h
+some_as P Q None f h = h
 
--- a value behind a minus, or none where nothing is left
-pub minus_front : (text : List ℕ) → get_or text 0 0 ≡ 45 → ends_left text ≡ true → word value (words_left text) ≡ word minus_value (words_left (drop 1 text))
-minus_front [] e ends = cc
-minus_front (b ∷ rest) e ends =
-    subst (λ x. word value (words_left (x ∷ rest)) ≡ word minus_value (words_left rest)) (sym e) (minus_left rest (subst (λ x. ends_left (x ∷ rest) ≡ true) e ends))
-
-pub no_value : (text : List ℕ) → length text < 1 → word value (words_left text) ≡ None
-unfolding word
-no_value [] none = refl
-no_value (b ∷ rest) none = absurd (omega (arith, none))
+pub none_as : {A : Type 0} {P Q : Type 0} (o : Option A) → (P → Q) → IfNone o P → IfNone o Q
+none_as (Some r) f h = h
+none_as None f h = f h

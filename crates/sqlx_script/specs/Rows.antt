@@ -1,5 +1,6 @@
 -- Words in a row, each of its kind, and no more.
 use Rattle.std.specs.Prelude.{◌≡◌, ℕ, Bool, true, false, List, [], ◌∷◌, Option, Some, None, if◌then◌else◌, ◌==◌, length}
+use Rattle.sqlx_script.specs.Words.{Left, words_in_front, words_behind, behind_line, is_behind_word}
 use Rattle.sqlx_script.specs.Numbers.{◌>>=◌}
 
 -- what was made of the words, where none is left
@@ -49,10 +50,15 @@ word p [] = None
 word p (w ∷ ws) = p w >>= λ x. Some (x, ws)
 
 -- what a call that reads a word of this kind gives and leaves
-abbrev pub Reads : {A : Type 0} → (List ℕ → Option A) → Option A → List (List ℕ) → List (List ℕ) → Type 0
-Reads p (Some x) old new = word p old ≡ Some (x, new)
-Reads p None old new = word p old ≡ None
+abbrev pub Reads : {A : Type 0} → (List ℕ → Option A) → Option A → Left → Left → Type 0
+Reads p (Some x) old new = (word p old.words ≡ Some (x, new.words)) × (new.behind ≡ old.behind)
+Reads p None old new = word p old.words ≡ None
 
--- a word of so many bytes
-abbrev pub of_length : ℕ → List ℕ → Option (List ℕ)
-of_length len w = if length w == len then Some w else None
+-- what a call that reads a word of this kind from the front of a text gives, and the text that stands behind it
+abbrev pub Takes : {A : Type 0} → (List ℕ → Option A) → List ℕ → A → List ℕ → Type 0
+Takes p text x rest = (word p (words_in_front text) ≡ Some (x, words_behind rest)) × (behind_line rest ≡ behind_line text) × (is_behind_word rest ≡ true)
+
+-- what was made of the words of a line, and the text behind it
+abbrev pub with_behind : {R : Type 0} → List ℕ → Option R → Option (R × List ℕ)
+with_behind behind (Some made) = Some (made, behind)
+with_behind behind None = None

@@ -1,31 +1,33 @@
 //! The fields of each event, after its name and its moment, which is so many milliseconds.
 ghost use Rattle.std.specs.Prelude.{◌≡◌, ◌<◌, ◌^◌};
-ghost use Rattle.sqlx_script.specs.Rows.{words0, words1, words2, words3, words4, words5};
+ghost use Rattle.sqlx_script.specs.Rows.{words0, words1, words2, words3, words4, words5, with_behind};
+ghost use Rattle.sqlx_script.specs.FirstLine.{told};
 ghost use Rattle.sqlx_script.specs.Grammar.{at_moment, poll_words};
 ghost use Rattle.sqlx_script.specs.Numbers.{name_number, opens, key, value};
 ghost use Rattle.sqlx_script.specs.Letters.{sign, statement, give_answers};
 
 use crate::answers::PollAnswers;
+use crate::first_line::FirstLine;
 use crate::step::{Event, Step};
 use crate::words::Words;
 
 /// The fields of `ask`.
 #[inline(always)]
 #[tactic(auto, using(crate::proofs::Rows::reads), unfolding(crate::specs::Rows::words1))]
-pub fn ask(mut words: Words<'_>, ms: u64) -> Option<Event>
+pub fn ask(mut words: Words<'_>, ms: u64) -> Option<FirstLine<'_, Event>>
     requires { ms < 2 ^ 40 }
-    ensures { result ≡ at_moment ms (words1 name_number Step.Ask words.entry) }
+    ensures { told result ≡ with_behind words.entry.behind (at_moment ms (words1 name_number Step.Ask words.entry.words)) }
 {
-    let client = words.last_name_number()?;
+    let client = words.name_number()?;
     words.finish_event(ms, Step::Ask { client })
 }
 
 /// The fields of `poll`, with how many tests its letters answer where it tells that.
 #[inline(always)]
 #[tactic(auto, using(crate::proofs::Rows::reads), unfolding(crate::specs::Grammar::poll_words))]
-pub fn poll(mut words: Words<'_>, ms: u64, counts_tests: bool) -> Option<Event>
+pub fn poll(mut words: Words<'_>, ms: u64, counts_tests: bool) -> Option<FirstLine<'_, Event>>
     requires { ms < 2 ^ 40 }
-    ensures { result ≡ at_moment ms (poll_words counts_tests words.entry) }
+    ensures { told result ≡ with_behind words.entry.behind (at_moment ms (poll_words counts_tests words.entry.words)) }
 {
     let client = words.name_number()?;
     let ticket = words.name_number()?;
@@ -56,32 +58,32 @@ pub fn poll(mut words: Words<'_>, ms: u64, counts_tests: bool) -> Option<Event>
 /// The fields of `cancel`.
 #[inline(always)]
 #[tactic(auto, using(crate::proofs::Rows::reads), unfolding(crate::specs::Rows::words2))]
-pub fn cancel(mut words: Words<'_>, ms: u64) -> Option<Event>
+pub fn cancel(mut words: Words<'_>, ms: u64) -> Option<FirstLine<'_, Event>>
     requires { ms < 2 ^ 40 }
-    ensures { result ≡ at_moment ms (words2 name_number name_number Step.Cancel words.entry) }
+    ensures { told result ≡ with_behind words.entry.behind (at_moment ms (words2 name_number name_number Step.Cancel words.entry.words)) }
 {
     let client = words.name_number()?;
-    let ticket = words.last_name_number()?;
+    let ticket = words.name_number()?;
     words.finish_event(ms, Step::Cancel { client, ticket })
 }
 
 /// The fields of `try`.
 #[inline(always)]
 #[tactic(auto, using(crate::proofs::Rows::reads), unfolding(crate::specs::Rows::words1))]
-pub fn try_idle(mut words: Words<'_>, ms: u64) -> Option<Event>
+pub fn try_idle(mut words: Words<'_>, ms: u64) -> Option<FirstLine<'_, Event>>
     requires { ms < 2 ^ 40 }
-    ensures { result ≡ at_moment ms (words1 name_number Step.Try words.entry) }
+    ensures { told result ≡ with_behind words.entry.behind (at_moment ms (words1 name_number Step.Try words.entry.words)) }
 {
-    let client = words.last_name_number()?;
+    let client = words.name_number()?;
     words.finish_event(ms, Step::Try { client })
 }
 
 /// The fields of `give`.
 #[inline(always)]
 #[tactic(auto, using(crate::proofs::Rows::reads), unfolding(crate::specs::Rows::words4))]
-pub fn give(mut words: Words<'_>, ms: u64) -> Option<Event>
+pub fn give(mut words: Words<'_>, ms: u64) -> Option<FirstLine<'_, Event>>
     requires { ms < 2 ^ 40 }
-    ensures { result ≡ at_moment ms (words4 name_number name_number give_answers opens Step.Give words.entry) }
+    ensures { told result ≡ with_behind words.entry.behind (at_moment ms (words4 name_number name_number give_answers opens Step.Give words.entry.words)) }
 {
     let client = words.name_number()?;
     let connection = words.name_number()?;
@@ -101,9 +103,9 @@ pub fn give(mut words: Words<'_>, ms: u64) -> Option<Event>
 /// The fields of `end`.
 #[inline(always)]
 #[tactic(auto, using(crate::proofs::Rows::reads), unfolding(crate::specs::Rows::words3))]
-pub fn end(mut words: Words<'_>, ms: u64) -> Option<Event>
+pub fn end(mut words: Words<'_>, ms: u64) -> Option<FirstLine<'_, Event>>
     requires { ms < 2 ^ 40 }
-    ensures { result ≡ at_moment ms (words3 name_number name_number opens Step.End words.entry) }
+    ensures { told result ≡ with_behind words.entry.behind (at_moment ms (words3 name_number name_number opens Step.End words.entry.words)) }
 {
     let client = words.name_number()?;
     let connection = words.name_number()?;
@@ -121,9 +123,9 @@ pub fn end(mut words: Words<'_>, ms: u64) -> Option<Event>
 /// The fields of `detach`.
 #[inline(always)]
 #[tactic(auto, using(crate::proofs::Rows::reads), unfolding(crate::specs::Rows::words3))]
-pub fn detach(mut words: Words<'_>, ms: u64) -> Option<Event>
+pub fn detach(mut words: Words<'_>, ms: u64) -> Option<FirstLine<'_, Event>>
     requires { ms < 2 ^ 40 }
-    ensures { result ≡ at_moment ms (words3 name_number name_number opens Step.Detach words.entry) }
+    ensures { told result ≡ with_behind words.entry.behind (at_moment ms (words3 name_number name_number opens Step.Detach words.entry.words)) }
 {
     let client = words.name_number()?;
     let connection = words.name_number()?;
@@ -141,9 +143,9 @@ pub fn detach(mut words: Words<'_>, ms: u64) -> Option<Event>
 /// The fields of `leak`.
 #[inline(always)]
 #[tactic(auto, using(crate::proofs::Rows::reads), unfolding(crate::specs::Rows::words3))]
-pub fn leak(mut words: Words<'_>, ms: u64) -> Option<Event>
+pub fn leak(mut words: Words<'_>, ms: u64) -> Option<FirstLine<'_, Event>>
     requires { ms < 2 ^ 40 }
-    ensures { result ≡ at_moment ms (words3 name_number name_number opens Step.Leak words.entry) }
+    ensures { told result ≡ with_behind words.entry.behind (at_moment ms (words3 name_number name_number opens Step.Leak words.entry.words)) }
 {
     let client = words.name_number()?;
     let connection = words.name_number()?;
@@ -161,9 +163,9 @@ pub fn leak(mut words: Words<'_>, ms: u64) -> Option<Event>
 /// The fields of `reap`.
 #[inline(always)]
 #[tactic(auto, using(crate::proofs::Rows::reads), unfolding(crate::specs::Rows::words1))]
-pub fn reap(mut words: Words<'_>, ms: u64) -> Option<Event>
+pub fn reap(mut words: Words<'_>, ms: u64) -> Option<FirstLine<'_, Event>>
     requires { ms < 2 ^ 40 }
-    ensures { result ≡ at_moment ms (words1 opens Step.Reap words.entry) }
+    ensures { told result ≡ with_behind words.entry.behind (at_moment ms (words1 opens Step.Reap words.entry.words)) }
 {
     let opens = words.opens()?;
     words.finish_event(ms, Step::Reap { opens })
@@ -172,9 +174,9 @@ pub fn reap(mut words: Words<'_>, ms: u64) -> Option<Event>
 /// The fields of `min`.
 #[inline(always)]
 #[tactic(auto, using(crate::proofs::Rows::reads), unfolding(crate::specs::Rows::words1))]
-pub fn min(mut words: Words<'_>, ms: u64) -> Option<Event>
+pub fn min(mut words: Words<'_>, ms: u64) -> Option<FirstLine<'_, Event>>
     requires { ms < 2 ^ 40 }
-    ensures { result ≡ at_moment ms (words1 opens Step.Min words.entry) }
+    ensures { told result ≡ with_behind words.entry.behind (at_moment ms (words1 opens Step.Min words.entry.words)) }
 {
     let opens = words.opens()?;
     words.finish_event(ms, Step::Min { opens })
@@ -183,9 +185,9 @@ pub fn min(mut words: Words<'_>, ms: u64) -> Option<Event>
 /// The fields of `closed`.
 #[inline(always)]
 #[tactic(auto, using(crate::proofs::Rows::reads), unfolding(crate::specs::Rows::words0))]
-pub fn close_state(words: Words<'_>, ms: u64) -> Option<Event>
+pub fn close_state(words: Words<'_>, ms: u64) -> Option<FirstLine<'_, Event>>
     requires { ms < 2 ^ 40 }
-    ensures { result ≡ at_moment ms (words0 Step.CloseState words.entry) }
+    ensures { told result ≡ with_behind words.entry.behind (at_moment ms (words0 Step.CloseState words.entry.words)) }
 {
     words.finish_event(ms, Step::CloseState)
 }
@@ -193,9 +195,9 @@ pub fn close_state(words: Words<'_>, ms: u64) -> Option<Event>
 /// The fields of `begin`.
 #[inline(always)]
 #[tactic(auto, using(crate::proofs::Rows::reads), unfolding(crate::specs::Rows::words3))]
-pub fn begin(mut words: Words<'_>, ms: u64) -> Option<Event>
+pub fn begin(mut words: Words<'_>, ms: u64) -> Option<FirstLine<'_, Event>>
     requires { ms < 2 ^ 40 }
-    ensures { result ≡ at_moment ms (words3 name_number name_number statement Step.Begin words.entry) }
+    ensures { told result ≡ with_behind words.entry.behind (at_moment ms (words3 name_number name_number statement Step.Begin words.entry.words)) }
 {
     let client = words.name_number()?;
     let connection = words.name_number()?;
@@ -213,9 +215,9 @@ pub fn begin(mut words: Words<'_>, ms: u64) -> Option<Event>
 /// The fields of `custom`.
 #[inline(always)]
 #[tactic(auto, using(crate::proofs::Rows::reads), unfolding(crate::specs::Rows::words4))]
-pub fn custom(mut words: Words<'_>, ms: u64) -> Option<Event>
+pub fn custom(mut words: Words<'_>, ms: u64) -> Option<FirstLine<'_, Event>>
     requires { ms < 2 ^ 40 }
-    ensures { result ≡ at_moment ms (words4 name_number name_number sign statement Step.Custom words.entry) }
+    ensures { told result ≡ with_behind words.entry.behind (at_moment ms (words4 name_number name_number sign statement Step.Custom words.entry.words)) }
 {
     let client = words.name_number()?;
     let connection = words.name_number()?;
@@ -235,9 +237,9 @@ pub fn custom(mut words: Words<'_>, ms: u64) -> Option<Event>
 /// The fields of `put`.
 #[inline(always)]
 #[tactic(auto, using(crate::proofs::Rows::reads), unfolding(crate::specs::Rows::words5))]
-pub fn put(mut words: Words<'_>, ms: u64) -> Option<Event>
+pub fn put(mut words: Words<'_>, ms: u64) -> Option<FirstLine<'_, Event>>
     requires { ms < 2 ^ 40 }
-    ensures { result ≡ at_moment ms (words5 name_number name_number key value statement (λ client connection key value answer. Step.Put client connection key answer value) words.entry) }
+    ensures { told result ≡ with_behind words.entry.behind (at_moment ms (words5 name_number name_number key value statement (λ client connection key value answer. Step.Put client connection key answer value) words.entry.words)) }
 {
     let client = words.name_number()?;
     let connection = words.name_number()?;
@@ -259,9 +261,9 @@ pub fn put(mut words: Words<'_>, ms: u64) -> Option<Event>
 /// The fields of `del`.
 #[inline(always)]
 #[tactic(auto, using(crate::proofs::Rows::reads), unfolding(crate::specs::Rows::words4))]
-pub fn del(mut words: Words<'_>, ms: u64) -> Option<Event>
+pub fn del(mut words: Words<'_>, ms: u64) -> Option<FirstLine<'_, Event>>
     requires { ms < 2 ^ 40 }
-    ensures { result ≡ at_moment ms (words4 name_number name_number key statement Step.Del words.entry) }
+    ensures { told result ≡ with_behind words.entry.behind (at_moment ms (words4 name_number name_number key statement Step.Del words.entry.words)) }
 {
     let client = words.name_number()?;
     let connection = words.name_number()?;
@@ -281,9 +283,9 @@ pub fn del(mut words: Words<'_>, ms: u64) -> Option<Event>
 /// The fields of `get`.
 #[inline(always)]
 #[tactic(auto, using(crate::proofs::Rows::reads), unfolding(crate::specs::Rows::words4))]
-pub fn get(mut words: Words<'_>, ms: u64) -> Option<Event>
+pub fn get(mut words: Words<'_>, ms: u64) -> Option<FirstLine<'_, Event>>
     requires { ms < 2 ^ 40 }
-    ensures { result ≡ at_moment ms (words4 name_number name_number key statement Step.Get words.entry) }
+    ensures { told result ≡ with_behind words.entry.behind (at_moment ms (words4 name_number name_number key statement Step.Get words.entry.words)) }
 {
     let client = words.name_number()?;
     let connection = words.name_number()?;
@@ -303,9 +305,9 @@ pub fn get(mut words: Words<'_>, ms: u64) -> Option<Event>
 /// The fields of `commit`.
 #[inline(always)]
 #[tactic(auto, using(crate::proofs::Rows::reads), unfolding(crate::specs::Rows::words3))]
-pub fn commit(mut words: Words<'_>, ms: u64) -> Option<Event>
+pub fn commit(mut words: Words<'_>, ms: u64) -> Option<FirstLine<'_, Event>>
     requires { ms < 2 ^ 40 }
-    ensures { result ≡ at_moment ms (words3 name_number name_number statement Step.Commit words.entry) }
+    ensures { told result ≡ with_behind words.entry.behind (at_moment ms (words3 name_number name_number statement Step.Commit words.entry.words)) }
 {
     let client = words.name_number()?;
     let connection = words.name_number()?;
@@ -323,9 +325,9 @@ pub fn commit(mut words: Words<'_>, ms: u64) -> Option<Event>
 /// The fields of `rollback`.
 #[inline(always)]
 #[tactic(auto, using(crate::proofs::Rows::reads), unfolding(crate::specs::Rows::words3))]
-pub fn rollback(mut words: Words<'_>, ms: u64) -> Option<Event>
+pub fn rollback(mut words: Words<'_>, ms: u64) -> Option<FirstLine<'_, Event>>
     requires { ms < 2 ^ 40 }
-    ensures { result ≡ at_moment ms (words3 name_number name_number statement Step.Rollback words.entry) }
+    ensures { told result ≡ with_behind words.entry.behind (at_moment ms (words3 name_number name_number statement Step.Rollback words.entry.words)) }
 {
     let client = words.name_number()?;
     let connection = words.name_number()?;
@@ -343,21 +345,21 @@ pub fn rollback(mut words: Words<'_>, ms: u64) -> Option<Event>
 /// The fields of `giveup`.
 #[inline(always)]
 #[tactic(auto, using(crate::proofs::Rows::reads), unfolding(crate::specs::Rows::words2))]
-pub fn give_up(mut words: Words<'_>, ms: u64) -> Option<Event>
+pub fn give_up(mut words: Words<'_>, ms: u64) -> Option<FirstLine<'_, Event>>
     requires { ms < 2 ^ 40 }
-    ensures { result ≡ at_moment ms (words2 name_number name_number Step.GiveUp words.entry) }
+    ensures { told result ≡ with_behind words.entry.behind (at_moment ms (words2 name_number name_number Step.GiveUp words.entry.words)) }
 {
     let client = words.name_number()?;
-    let connection = words.last_name_number()?;
+    let connection = words.name_number()?;
     words.finish_event(ms, Step::GiveUp { client, connection })
 }
 
 /// The fields of `close`.
 #[inline(always)]
 #[tactic(auto, using(crate::proofs::Rows::reads), unfolding(crate::specs::Rows::words0))]
-pub fn close(words: Words<'_>, ms: u64) -> Option<Event>
+pub fn close(words: Words<'_>, ms: u64) -> Option<FirstLine<'_, Event>>
     requires { ms < 2 ^ 40 }
-    ensures { result ≡ at_moment ms (words0 Step.Close words.entry) }
+    ensures { told result ≡ with_behind words.entry.behind (at_moment ms (words0 Step.Close words.entry.words)) }
 {
     words.finish_event(ms, Step::Close)
 }

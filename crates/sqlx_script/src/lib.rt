@@ -4,6 +4,8 @@
 
 mod answers;
 mod fields;
+mod first_line;
+mod front;
 pub mod laws;
 mod letters;
 mod lines;
@@ -20,6 +22,7 @@ mod words;
 pub use answers::{
     AfterConnectAnswer, ConnectAnswer, GiveAnswers, HookAnswer, PollAnswers, StatementAnswer,
 };
+pub use first_line::FirstLine;
 pub use lines::cut_line;
 pub use numbers::number_in;
 pub use output_line::{OutputLine, OutputPage, push_number};

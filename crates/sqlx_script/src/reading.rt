@@ -1,10 +1,15 @@
-//! What a line of a script says.
-ghost use Rattle.std.specs.Prelude.{◌≡◌, ◌<◌, ◌≤◌, ◌^◌, IfSome, true};
+//! What the first line of a text says.
+ghost use Rattle.std.specs.Prelude.{◌≡◌, ◌<◌, ◌≤◌, ◌^◌, IfSome, true, length};
 ghost use Rattle.sqlx_script.specs.Built.{has_few_opens};
-ghost use Rattle.sqlx_script.specs.Grammar.{at_moment, step_of, event_of, limits_after, pool_of};
+ghost use Rattle.sqlx_script.specs.Grammar.{at_moment, step_of, event_words, event_of, limits_after, pool_words, pool_of};
 ghost use Rattle.sqlx_script.specs.Names.{text_of};
+ghost use Rattle.sqlx_script.specs.Words.{has_newline as has_newline_spec, first_line, behind_line, words_in_front};
+ghost use Rattle.sqlx_script.specs.Rows.{with_behind};
+ghost use Rattle.sqlx_script.specs.FirstLine.{told};
 
 use crate::fields;
+use crate::first_line::FirstLine;
+use crate::front::has_newline;
 use crate::names::Name;
 use crate::numbers::NANOS;
 use crate::pool_line::PoolLine;
@@ -14,9 +19,14 @@ use crate::words::Words;
 // What follows the moment, which is so many milliseconds.
 #[inline(always)]
 #[tactic(auto, unfolding(crate::specs::Grammar::step_of, crate::specs::Grammar::statement_of))]
-fn event(name: Name, words: Words<'_>, ms: u64, counts_tests: bool) -> Option<Event>
+fn event(
+    name: Name,
+    words: Words<'_>,
+    ms: u64,
+    counts_tests: bool,
+) -> Option<FirstLine<'_, Event>>
     requires { ms < 2 ^ 40 }
-    ensures { result ≡ at_moment ms (step_of counts_tests (text_of name) words.entry) }
+    ensures { told result ≡ with_behind words.entry.behind (at_moment ms (step_of counts_tests (text_of name) words.entry.words)) }
 {
     match name {
         Name::Ask => fields::ask(words, ms),
@@ -42,30 +52,44 @@ fn event(name: Name, words: Words<'_>, ms: u64, counts_tests: bool) -> Option<Ev
     }
 }
 
-/// What a line after the first says, if it is an event; `counts_tests` is what the first line says.
-#[tactic(auto, using(crate::proofs::Rows::reads, crate::proofs::FewOpens::step_few), unfolding(crate::specs::Grammar::event_of, crate::specs::Grammar::event_words))]
-pub fn read_event(line: &[u8], counts_tests: bool) -> Option<Event>
-    ensures says { result ≡ event_of counts_tests line.now }
-    ensures few { IfSome result (λ event. has_few_opens event.step ≡ true) }
+// What the first line of a text that has a newline says, if it is an event.
+#[inline(always)]
+#[tactic(auto, using(crate::proofs::Rows::reads), unfolding(crate::specs::Grammar::event_words))]
+fn event_in_front(text: &[u8], counts_tests: bool) -> Option<FirstLine<'_, Event>>
+    requires { has_newline_spec text.now ≡ true }
+    ensures { told result ≡ with_behind (behind_line text.now) (event_words counts_tests (words_in_front text.now)) }
 {
-    let mut words = Words::of_line(line)?;
-    let name = words.name()?;
+    let (name, mut words) = Words::behind_name(text)?;
     let ms = words.millis()?;
     event(name, words, ms, counts_tests)
 }
 
+/// What the first line of a text says, if it is an event; `counts_tests` is what the first line of the script says.
+#[inline(always)]
+pub fn read_event(text: &[u8], counts_tests: bool) -> Option<FirstLine<'_, Event>>
+    ensures says { told result ≡ with_behind (behind_line text.now) (event_of counts_tests (first_line text.now)) }
+    ensures few { IfSome result (λ line. has_few_opens line.says.step ≡ true) }
+    ensures shorter { IfSome result (λ line. length line.behind.now < length text.now) }
+{
+    if has_newline(text) {
+        event_in_front(text, counts_tests)
+    } else {
+        None
+    }
+}
+
 // How old connections may grow, what is asked of them and how many are tested, and these maximum, minimum and nanoseconds to wait.
 #[tactic(auto, using(crate::proofs::Rows::reads), unfolding(crate::specs::Grammar::limits_after))]
-fn limits(
-    words: &mut Words<'_>,
+fn limits<'a>(
+    words: &mut Words<'a>,
     counts_tests: bool,
     max: u32,
     min: u32,
     timeout: u64,
-) -> Option<PoolLine>
-    ensures says { result ≡ limits_after counts_tests max min timeout words.old }
-    ensures max { IfSome result (λ pool. pool.max ≡ max) }
-    ensures tries { IfSome result (λ pool. (1 ≤ pool.tries) × (pool.tries ≤ 16)) }
+) -> Option<FirstLine<'a, PoolLine>>
+    ensures says { told result ≡ with_behind words.old.behind (limits_after counts_tests max min timeout words.old.words) }
+    ensures max { IfSome result (λ line. line.says.max ≡ max) }
+    ensures tries { IfSome result (λ line. (1 ≤ line.says.tries) × (line.says.tries ≤ 16)) }
 {
     let lifetime = words.limit_nanos()?;
     let idle = words.limit_nanos()?;
@@ -86,17 +110,30 @@ fn limits(
     })
 }
 
-/// What a first line says.
-#[tactic(auto, using(crate::proofs::Rows::reads), unfolding(crate::specs::Grammar::pool_of, crate::specs::Grammar::pool_words))]
-pub fn read_pool_line(line: &[u8]) -> Option<PoolLine>
-    ensures says { result ≡ pool_of line.now }
-    ensures some { IfSome result (λ pool. 1 ≤ pool.max) }
-    ensures tries { IfSome result (λ pool. (1 ≤ pool.tries) × (pool.tries ≤ 16)) }
+// What the first line of a text that has a newline says, if it is the first line of a script.
+#[tactic(auto, using(crate::proofs::Rows::reads), unfolding(crate::specs::Grammar::pool_words))]
+fn pool_line_in_front(text: &[u8]) -> Option<FirstLine<'_, PoolLine>>
+    requires { has_newline_spec text.now ≡ true }
+    ensures says { told result ≡ with_behind (behind_line text.now) (pool_words (words_in_front text.now)) }
+    ensures some { IfSome result (λ line. 1 ≤ line.says.max) }
+    ensures tries { IfSome result (λ line. (1 ≤ line.says.tries) × (line.says.tries ≤ 16)) }
 {
-    let mut words = Words::of_line(line)?;
-    let counts_tests = words.pool_name()?;
+    let (counts_tests, mut words) = Words::behind_pool_name(text)?;
     let max = words.number(1, 65_536)?;
     let min = words.opens()?;
     let timeout = words.millis()?;
     limits(&mut words, counts_tests, max as u32, min, timeout * NANOS)
+}
+
+/// What the first line of a text says, if it is the first line of a script.
+pub fn read_pool_line(text: &[u8]) -> Option<FirstLine<'_, PoolLine>>
+    ensures says { told result ≡ with_behind (behind_line text.now) (pool_of (first_line text.now)) }
+    ensures some { IfSome result (λ line. 1 ≤ line.says.max) }
+    ensures tries { IfSome result (λ line. (1 ≤ line.says.tries) × (line.says.tries ≤ 16)) }
+{
+    if has_newline(text) {
+        pool_line_in_front(text)
+    } else {
+        None
+    }
 }

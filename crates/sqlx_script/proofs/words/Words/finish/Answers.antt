@@ -1,9 +1,11 @@
-use Rattle.std.proofs.Common.{◌≡◌, true, false, length, sym, eq-eqb, ◌∙◌}
-use Rattle.sqlx_script.specs.Words.{words_left}
+use Rattle.std.proofs.Common.{sym, ap}
+use Rattle.sqlx_script.specs.Words.{behind_line, words_behind}
+use Rattle.sqlx_script.specs.Rows.{with_behind}
 use Rattle.sqlx_script.proofs.Cuts.{not_ended}
-use Rattle.sqlx_script.proofs.Left.{none_left}
+use Rattle.sqlx_script.proofs.Fronts.{not_over}
 use Rattle.sqlx_script.proofs.words.Words.finish.Goals as goal
 
-pub returns-else-is_empty : goal.returns-else-is_empty
-returns-else-is_empty g c =
-    rw (← c.self.view_is) (sym (not_ended c.args.made (words_left c.self.inside.rest.now) (λ e. let none = none_left c.self.inside.rest.now e in let no' : true ≡ false = sym (eq-eqb (length c.self.inside.rest.now) 0 none) ∙ sym c.is_empty.ensures ∙ c.if-is_empty.false in cc)))
+pub returns-else-self-eq10 : goal.returns-else-self-eq10
+returns-else-self-eq10 g c =
+    let some = not_over c.self.inside.rest.now c.self.invariant c.if-self-eq10.false in
+    rw (← c.self.view_is) (ap (with_behind (behind_line c.self.inside.rest.now)) (sym (not_ended c.args.made (words_behind c.self.inside.rest.now) some)))

@@ -1,9 +1,20 @@
+use Rattle.std.proofs.Common.{sym, ◌∙◌}
 use Rattle.sqlx_script.specs.Letters.{statement}
-use Rattle.sqlx_script.proofs.ShortWords.{none_reads, some_reads, statement_short}
+use Rattle.sqlx_script.proofs.ShortWords.{no_short, other_short, some_short, statement_short}
 use Rattle.sqlx_script.proofs.words.Words.statement.Goals as goal
 
-pub returns-in_err-short_word : goal.returns-in_err-short_word
-returns-in_err-short_word c = rw c.from_residual.ensures (none_reads 1 statement statement_short c.args.self.now c.in_err-short_word.ensures.none)
+pub returns-in_err-word : goal.returns-in_err-word
+returns-in_err-word c = rw (c.from_residual-in_err-word.ensures, ← c.in_ok-text.ensures.words) (no_short 1 statement statement_short c.in_ok-text.field-0.now c.in_ok-text.ensures.newline c.in_err-word.ensures.none)
+
+pub returns-in_err-answer : goal.returns-in_err-answer
+returns-in_err-answer c =
+    rw (c.from_residual-in_err-answer.ensures, ← c.in_ok-text.ensures.words) (other_short 1 statement statement_short c.in_ok-text.field-0.now c.in_ok-word.word.now c.in_ok-word.rest.now c.in_ok-text.ensures.newline c.in_ok-word.ensures.some c.in_ok-word.ensures.len (sym c.statement.ensures ∙ c.in_err-answer.was))
+
+pub invariant_of-self : goal.invariant_of-self
+invariant_of-self c =
+    (some_short 1 statement statement_short c.in_ok-text.field-0.now c.in_ok-word.word.now c.in_ok-word.rest.now _ c.in_ok-text.ensures.newline c.in_ok-word.ensures.some c.in_ok-word.ensures.end (sym c.statement.ensures ∙ c.in_ok-answer.was)).2
 
 pub returns : goal.returns
-returns c = some_reads 1 statement statement_short c.args.self.now c.short_word.new.self c.in_ok-short_word.field-0.now c.statement.result c.in_ok-short_word.ensures.some c.statement.ensures
+returns c =
+    let took = some_short 1 statement statement_short c.in_ok-text.field-0.now c.in_ok-word.word.now c.in_ok-word.rest.now _ c.in_ok-text.ensures.newline c.in_ok-word.ensures.some c.in_ok-word.ensures.end (sym c.statement.ensures ∙ c.in_ok-answer.was) in
+    (rw (← c.in_ok-text.ensures.words) took.0, took.1 ∙ c.in_ok-text.ensures.behind)

@@ -1,0 +1,57 @@
+-- What a call tells of the first line of a text.
+use Rattle.std.proofs.Common.{◌≡◌, ℕ, ◌<◌, true, Bool, List, [], ◌∷◌, Option, Some, None, IfSome, length, refl, ap, ◌∙◌}
+use Rattle.sqlx_script.specs.Words.{has_newline, behind_line}
+use Rattle.sqlx_script.specs.Numbers.{◌>>=◌, millis}
+use Rattle.sqlx_script.specs.Rows.{with_behind}
+use Rattle.sqlx_script.specs.FirstLine.{told}
+use Rattle.sqlx_script.specs.Built.{has_few_opens}
+use Rattle.sqlx_script.specs.Grammar.{at_moment, step_of, event_words}
+use Rattle.sqlx_script.specs.declared.first_line.FirstLine.{FirstLine}
+use Rattle.sqlx_script.specs.declared.step.Event.{Event}
+use Rattle.sqlx_script.specs.declared.step.Step.{Step}
+use Rattle.sqlx_script.proofs.FirstLines.{shorter}
+use Rattle.sqlx_script.proofs.FewOpens.{step_few}
+
+abbrev few_in : Option Event → Bool
+few_in (Some event) = has_few_opens event.step
+few_in None = true
+
+-- an event tells few connects
+event_few : (counts_tests : Bool) (ws : List (List ℕ)) → few_in (event_words counts_tests ws) ≡ true
+unfolding event_words
+event_few counts_tests [] = refl
+event_few counts_tests (w ∷ []) = refl
+event_few counts_tests (w ∷ v ∷ ws) = few_at (millis v) (step_of counts_tests w ws) refl
+  where
+    few_at : (ms : Option ℕ) (made : Option Step) → step_of counts_tests w ws ≡ made → few_in (ms >>= λ ms. at_moment ms made) ≡ true
+    few_at None made is = refl
+    few_at (Some ms) None is = refl
+    few_at (Some ms) (Some step) is = step_few counts_tests w ws step is
+
+abbrev said : {T : Type 0} → Option (T × List ℕ) → Option T
+said (Some pair) = Some pair.0
+said None = None
+
+abbrev rest_of : {T : Type 0} → List ℕ → Option (T × List ℕ) → List ℕ
+rest_of other (Some pair) = pair.1
+rest_of other None = other
+
+said_of : {T : Type 0} (behind : List ℕ) (o : Option T) → said (with_behind behind o) ≡ o
+said_of behind (Some x) = refl
+said_of behind None = refl
+
+rest_is : {T : Type 0} (behind : List ℕ) (o : Option T) → rest_of behind (with_behind behind o) ≡ behind
+rest_is behind (Some x) = refl
+rest_is behind None = refl
+
+-- the event that is told tells few connects
+pub told_few : (line : Option (FirstLine Event)) (behind : List ℕ) (counts_tests : Bool) (ws : List (List ℕ)) → told line ≡ with_behind behind (event_words counts_tests ws)
+    → IfSome line (λ line. has_few_opens line.says.step ≡ true)
+told_few (Some line) behind counts_tests ws h = ap few_in (ap said h ∙ said_of behind (event_words counts_tests ws)) ∙ event_few counts_tests ws
+told_few None behind counts_tests ws h = tt
+
+-- the text behind the line that is told is shorter
+pub told_shorter : {T : Type 0} (line : Option (FirstLine T)) (text : List ℕ) (o : Option T) → told line ≡ with_behind (behind_line text) o → has_newline text ≡ true
+    → IfSome line (λ line. length line.behind.now < length text)
+told_shorter (Some line) text o h some = let is = ap (rest_of (behind_line text)) h ∙ rest_is (behind_line text) o in rw is (shorter text some)
+told_shorter None text o h some = tt
