@@ -4,15 +4,19 @@ ghost use Rattle.std.specs.Fmt.{decimal};
 ghost use Rattle.sqlx_made.specs.Made.{line_in};
 
 use crate::block::Block;
-use sqlx_script::{OutputPage, push_number};
+use arrayvec::ArrayString;
+use sqlx_script::push_number;
 use std::alloc::AllocError;
+
+/// Lines of the script, which lie in the value itself until they are put behind its text together.
+pub type Page = ArrayString<4096>;
 
 // The most that a line takes, with its newline.
 const LINE: usize = 128;
 
 // Puts a blank and a number behind what the page holds.
-#[inline]
-fn push_word(page: &mut OutputPage, n: u32)
+#[inline(always)]
+fn push_word(page: &mut Page, n: u32)
     requires room { length page.old.bytes + 21 ≤ 4096 }
     ensures bytes { page.new.bytes ≡ page.old.bytes ++ 32 ∷ decimal n }
     ensures short { length page.new.bytes ≤ length page.old.bytes + 21 }
@@ -22,8 +26,8 @@ fn push_word(page: &mut OutputPage, n: u32)
 }
 
 // The front of each line: its first word, its number and its client.
-#[inline]
-fn push_front(page: &mut OutputPage, word: &str, number: u32, client: u32)
+#[inline(always)]
+fn push_front(page: &mut Page, word: &str, number: u32, client: u32)
     requires short { length word.now ≤ 8 }
     requires room { length page.old.bytes + 50 ≤ 4096 }
     ensures bytes { page.new.bytes ≡ page.old.bytes ++ word.now ++ 32 ∷ decimal number ++ 32 ∷ decimal client }
@@ -35,7 +39,7 @@ fn push_front(page: &mut OutputPage, word: &str, number: u32, client: u32)
 }
 
 // Puts the line at this place of a block behind what the page holds.
-fn push_words(page: &mut OutputPage, number: u32, block: Block, place: u32)
+fn push_words(page: &mut Page, number: u32, block: Block, place: u32)
     requires place { place < 7 }
     requires room { length page.old.bytes + 128 ≤ 4096 }
     ensures { page.new.bytes ≡ page.old.bytes ++ line_in number block place }
@@ -85,7 +89,7 @@ fn push_words(page: &mut OutputPage, number: u32, block: Block, place: u32)
 }
 
 /// Puts what the page holds behind the text, and empties it.
-pub fn push_page(text: &mut String, page: &mut OutputPage) -> Result<(), AllocError>
+pub fn push_page(text: &mut String, page: &mut Page) -> Result<(), AllocError>
     ensures text { OnOk result (string_bytes text.new ≡ string_bytes text.old ++ page.old.bytes) }
     ensures empty { OnOk result (page.new.bytes ≡ []) }
 {
@@ -95,7 +99,7 @@ pub fn push_page(text: &mut String, page: &mut OutputPage) -> Result<(), AllocEr
 }
 
 // Makes room for a line on the page: where it hasn't, what it holds goes behind the text.
-fn make_room(text: &mut String, page: &mut OutputPage) -> Result<(), AllocError>
+fn make_room(text: &mut String, page: &mut Page) -> Result<(), AllocError>
     ensures text { OnOk result (string_bytes text.new ++ page.new.bytes ≡ string_bytes text.old ++ page.old.bytes) }
     ensures room { OnOk result (length page.new.bytes + 128 ≤ 4096) }
 {
@@ -108,7 +112,7 @@ fn make_room(text: &mut String, page: &mut OutputPage) -> Result<(), AllocError>
 /// Puts the line at this place of a block behind a text and a page of it, the place being from 0 to 6 and `number` the line's number.
 pub fn push_line(
     text: &mut String,
-    page: &mut OutputPage,
+    page: &mut Page,
     number: u32,
     block: Block,
     place: u32,

@@ -3,8 +3,7 @@ ghost use Rattle.std.specs.Prelude.{◌≡◌, ◌<◌, ◌≤◌, ◌^◌, IfOk
 ghost use Rattle.sqlx_made.specs.Made.{made_text};
 
 use crate::block::Block;
-use crate::lines::{push_line, push_page};
-use sqlx_script::OutputPage;
+use crate::lines::{Page, push_line, push_page};
 use std::alloc::{AllocError, Global};
 
 /// The script of so many lines, its first line among them, for this seed.
@@ -14,7 +13,7 @@ pub fn made_script(alloc: Global, lines: u32, seed: u32) -> Result<String, Alloc
     ensures { IfOk result (λ text. string_bytes text ≡ made_text lines seed) }
 {
     let mut text = String::from_str(alloc, "pool 1 0 1000 - - +---\n")?;
-    let mut page = OutputPage::new();
+    let mut page = Page::new();
     let mut block = Block::first(seed);
     for line in 2..lines + 1 {
         let place = (line - 2) % 7;

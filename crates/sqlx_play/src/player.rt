@@ -1,7 +1,7 @@
 //! Plays a script.
 ghost use Rattle.std.specs.Prelude.{◌≡◌, true, ◌^◌, ◌≤◌, ℕ, List, length, IfOk, IfErr, OnOk};
 ghost use Rattle.std.specs.Io.KnownBytes.{Appends};
-ghost use Rattle.sqlx_script.specs.Texts.{line_of, reply_text, report_text};
+ghost use Rattle.sqlx_script.specs.Texts.{line_of, report_text};
 ghost use Rattle.sqlx_script.specs.Built.{has_few_opens};
 ghost use Rattle.sqlx_script.specs.Grammar.{limit};
 ghost use Rattle.sqlx_play.specs.stage.EventFrame.{Frame};
@@ -15,7 +15,7 @@ use crate::pour::{read_all, write_all};
 use crate::stage::{Stage, answer, new_stage, report};
 use mem_acts::{ClientLink, MemStore, Route};
 use sqlx_pool_core::PoolCore;
-use sqlx_script::{Event, OutputPage, Reply, Report, cut_line, read_event, read_pool_line};
+use sqlx_script::{Event, OutputLine, Report, read_event, read_pool_line};
 use std::alloc::Global;
 
 /// What a script left: the pool's core and the database that it was played on.
@@ -25,23 +25,6 @@ pub struct Played {
     pub store: MemStore,
 }
 
-// Puts a reply's line in place of what the page holds.
-#[inline(always)]
-fn set_reply(page: &mut OutputPage, reply: &Reply)
-    ensures { page.new.bytes ≡ line_of (reply_text reply.now) }
-{
-    page.clear();
-    reply.push_line(page);
-}
-
-// Puts the closing report's line in place of what the page holds.
-fn set_report(page: &mut OutputPage, report: &Report)
-    ensures { page.new.bytes ≡ line_of (report_text report.now) }
-{
-    page.clear();
-    report.push_line(page);
-}
-
 // Plays an event and writes its reply.
 #[tactic(auto, using(crate::proofs::scripts::Parts::none_yet))]
 #[inline(always)]
@@ -49,7 +32,7 @@ fn play_event<R: Route, K: Sink>(
     alloc: Global,
     stage: &mut Stage,
     event: &Event,
-    line: &mut OutputPage,
+    line: &mut OutputLine,
     sink: &mut K,
 ) -> Result<(), PlayError>
     requires few { has_few_opens event.now.step ≡ true }
@@ -61,7 +44,7 @@ fn play_event<R: Route, K: Sink>(
     ensures cause { IfErr result (TextCause (λ _. ⊥) (RepliesInPart (K.written sink.old) (K.written sink.new) stage.old event.now) (K.faults sink.old) (K.faults sink.new)) }
 {
     let reply = answer::<R>(stage, alloc, event)?;
-    set_reply(line, &reply);
+    reply.fill_line(line);
     write_all(sink, line.as_str().as_bytes())
 }
 
@@ -70,7 +53,7 @@ fn play_lines<R: Route, K: Sink>(
     alloc: Global,
     stage: &mut Stage,
     text: &[u8],
-    reply: &mut OutputPage,
+    reply: &mut OutputLine,
     sink: &mut K,
 ) -> Result<(), PlayError>
     requires fresh { IsFresh stage.old }
@@ -85,16 +68,15 @@ fn play_lines<R: Route, K: Sink>(
     let mut last: u64 = 0;
     let mut number: u64 = 2;
     while !rest.is_empty() {
-        let (line, after) = cut_line(rest);
-        let event = match read_event(line, counts_tests) {
-            Some(event) if event.moment.0 >= last => event,
+        let line = match read_event(rest, counts_tests) {
+            Some(line) if line.says.moment.0 >= last => line,
             _ => return Err(PlayError::ScriptLine(number)),
         };
-        if let Err(error) = play_event::<R, K>(alloc, stage, &event, reply, sink) {
+        if let Err(error) = play_event::<R, K>(alloc, stage, &line.says, reply, sink) {
             return Err(error);
         }
-        rest = after;
-        last = event.moment.0;
+        rest = line.behind;
+        last = line.says.moment.0;
         number += 1;
     }
     Ok(())
@@ -114,7 +96,7 @@ fn played_on(stage: Stage) -> Played
 
 // Writes the closing report, by one call if the sink takes it whole.
 fn write_report<K: Sink>(
-    line: &mut OutputPage,
+    line: &mut OutputLine,
     sink: &mut K,
     report: &Report,
 ) -> Result<(), PlayError>
@@ -123,7 +105,7 @@ fn write_report<K: Sink>(
     ensures cause { IfErr result (TextCause (λ _. ⊥) (WrotePart (K.written sink.old) (K.written sink.new) (line_of (report_text report.now)))
         (K.faults sink.old) (K.faults sink.new)) }
 {
-    set_report(line, report);
+    report.fill_line(line);
     write_all(sink, line.as_str().as_bytes())
 }
 
@@ -141,13 +123,12 @@ fn play_text<R: Route, K: Sink>(
     if text.is_empty() {
         return Err(PlayError::ScriptLine(1));
     }
-    let (first, rest) = cut_line(text);
-    let Some(pool) = read_pool_line(first) else {
+    let Some(first) = read_pool_line(text) else {
         return Err(PlayError::ScriptLine(1));
     };
-    let mut stage = new_stage(alloc, pool)?;
-    let mut line = OutputPage::new();
-    if let Err(error) = play_lines::<R, K>(alloc, &mut stage, rest, &mut line, sink) {
+    let mut stage = new_stage(alloc, first.says)?;
+    let mut line = OutputLine::new();
+    if let Err(error) = play_lines::<R, K>(alloc, &mut stage, first.behind, &mut line, sink) {
         drop(stage);
         return Err(error);
     }

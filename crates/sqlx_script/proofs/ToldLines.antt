@@ -1,5 +1,5 @@
 -- What a call tells of the first line of a text.
-use Rattle.std.proofs.Common.{◌≡◌, ℕ, ◌<◌, true, Bool, List, [], ◌∷◌, Option, Some, None, IfSome, length, refl, ap, ◌∙◌}
+use Rattle.std.proofs.Common.{◌≡◌, ℕ, ◌<◌, true, Bool, List, [], ◌∷◌, Option, Some, None, IfSome, length, refl, sym, ap, ◌∙◌}
 use Rattle.sqlx_script.specs.Words.{has_newline, behind_line}
 use Rattle.sqlx_script.specs.Numbers.{◌>>=◌, millis}
 use Rattle.sqlx_script.specs.Rows.{with_behind}
@@ -43,6 +43,17 @@ said_of behind None = refl
 rest_is : {T : Type 0} (behind : List ℕ) (o : Option T) → rest_of behind (with_behind behind o) ≡ behind
 rest_is behind (Some x) = refl
 rest_is behind None = refl
+
+-- what a line says that was told, and the text behind it
+pub told_some : {T : Type 0} (r : Option (FirstLine T)) (line : FirstLine T) (behind : List ℕ) (o : Option T) → r ≡ Some line → told r ≡ with_behind behind o
+    → (o ≡ Some line.says) × (line.behind.now ≡ behind)
+told_some r line behind o is h =
+    let tells = ap told (sym is) ∙ h in
+    (sym (ap said tells ∙ said_of behind o), ap (rest_of behind) tells ∙ rest_is behind o)
+
+-- a line of which nothing was told says nothing
+pub told_none : {T : Type 0} (r : Option (FirstLine T)) (behind : List ℕ) (o : Option T) → r ≡ None → told r ≡ with_behind behind o → o ≡ None
+told_none r behind o is h = sym (ap said (ap told (sym is) ∙ h) ∙ said_of behind o)
 
 -- the event that is told tells few connects
 pub told_few : (line : Option (FirstLine Event)) (behind : List ℕ) (counts_tests : Bool) (ws : List (List ℕ)) → told line ≡ with_behind behind (event_words counts_tests ws)

@@ -25,7 +25,7 @@ pub use answers::{
 pub use first_line::FirstLine;
 pub use lines::cut_line;
 pub use numbers::number_in;
-pub use output_line::{OutputLine, OutputPage, push_number};
+pub use output_line::{OutputLine, push_number};
 pub use pool_line::PoolLine;
 pub use reading::{read_event, read_pool_line};
 pub use reply::Reply;

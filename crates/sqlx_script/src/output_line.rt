@@ -7,48 +7,45 @@ use arrayvec::ArrayString;
 use itoa::{Buffer, Integer};
 use sqlx_savepoints::LevelText;
 
-/// A line of a script or of its output, which lies in the value itself. Each line that is made fits into 128 bytes.
+/// A line of output, which lies in the value itself. None takes more than 128 bytes.
 pub type OutputLine = ArrayString<128>;
 
-/// Lines of output, which lie in the value itself and are written together.
-pub type OutputPage = ArrayString<4096>;
-
-// Puts the digits of a number of any kind behind what the page holds.
+// Puts the digits of a number of any kind behind what the line holds.
 #[inline]
-pub(crate) fn push_integer<I: Integer, const CAP: usize>(page: &mut ArrayString<CAP>, n: I)
-    requires room { length page.old.bytes + I.MAX_STR_LEN ≤ CAP }
-    ensures bytes { page.new.bytes ≡ page.old.bytes ++ I.text n }
-    ensures short { length page.new.bytes ≤ length page.old.bytes + I.MAX_STR_LEN }
+pub(crate) fn push_integer<I: Integer, const CAP: usize>(line: &mut ArrayString<CAP>, n: I)
+    requires room { length line.old.bytes + I.MAX_STR_LEN ≤ CAP }
+    ensures bytes { line.new.bytes ≡ line.old.bytes ++ I.text n }
+    ensures short { length line.new.bytes ≤ length line.old.bytes + I.MAX_STR_LEN }
 {
     let mut digits = Buffer::new();
-    page.push_str(digits.format(n));
+    line.push_str(digits.format(n));
 }
 
-/// Puts a number's digits behind what the page holds. Most numbers of a line have one.
+/// Puts a number's digits behind what the line holds. Most numbers of a line have one.
 #[inline]
 #[tactic(auto, using(std::proofs::lemmas::Fmt::decimal_digit))]
-pub fn push_number<const CAP: usize>(page: &mut ArrayString<CAP>, n: u64)
-    requires room { length page.old.bytes + 20 ≤ CAP }
-    ensures bytes { page.new.bytes ≡ page.old.bytes ++ decimal n }
-    ensures short { length page.new.bytes ≤ length page.old.bytes + 20 }
+pub fn push_number<const CAP: usize>(line: &mut ArrayString<CAP>, n: u64)
+    requires room { length line.old.bytes + 20 ≤ CAP }
+    ensures bytes { line.new.bytes ≡ line.old.bytes ++ decimal n }
+    ensures short { length line.new.bytes ≤ length line.old.bytes + 20 }
 {
     if n < 10 {
-        page.push((b'0' + n as u8) as char);
+        line.push((b'0' + n as u8) as char);
     } else {
-        push_integer::<u64, CAP>(page, n);
+        push_integer::<u64, CAP>(line, n);
     }
 }
 
-// Puts a level's text behind what the page holds.
+// Puts a level's text behind what the line holds.
 #[inline]
-pub(crate) fn push_level<const CAP: usize>(page: &mut ArrayString<CAP>, level: LevelText)
-    requires room { length page.old.bytes + 59 ≤ CAP }
-    ensures bytes { page.new.bytes ≡ page.old.bytes ++ text_of level }
-    ensures short { length page.new.bytes ≤ length page.old.bytes + 59 }
+pub(crate) fn push_level<const CAP: usize>(line: &mut ArrayString<CAP>, level: LevelText)
+    requires room { length line.old.bytes + 59 ≤ CAP }
+    ensures bytes { line.new.bytes ≡ line.old.bytes ++ text_of level }
+    ensures short { length line.new.bytes ≤ length line.old.bytes + 59 }
 {
     let (words, number) = level.parts();
-    page.push_str(words);
+    line.push_str(words);
     if let Some(n) = number {
-        push_number::<CAP>(page, n);
+        push_number::<CAP>(line, n);
     }
 }

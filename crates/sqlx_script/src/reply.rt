@@ -4,7 +4,7 @@ ghost use Rattle.std.specs.Fmt.{decimal};
 ghost use Rattle.sqlx_savepoints.specs.Texts.{text_of};
 ghost use Rattle.sqlx_script.specs.Texts.{reply_text, line_of};
 
-use crate::output_line::{OutputLine, OutputPage, push_integer, push_level, push_number};
+use crate::output_line::{OutputLine, push_integer, push_level, push_number};
 use arrayvec::ArrayString;
 use sqlx_savepoints::LevelText;
 use std::fmt;
@@ -72,92 +72,94 @@ pub enum Reply {
     RowNotFound,
 }
 
-// Puts words and a number behind what the page holds.
+// Puts words and a number behind what the line holds.
 #[inline(always)]
-fn push_counted<const CAP: usize>(page: &mut ArrayString<CAP>, words: &str, n: u64)
-    requires room { length page.old.bytes + length words.now + 20 ≤ CAP }
-    ensures bytes { page.new.bytes ≡ page.old.bytes ++ words.now ++ decimal n }
-    ensures short { length page.new.bytes ≤ length page.old.bytes + length words.now + 20 }
+fn push_counted<const CAP: usize>(line: &mut ArrayString<CAP>, words: &str, n: u64)
+    requires room { length line.old.bytes + length words.now + 20 ≤ CAP }
+    ensures bytes { line.new.bytes ≡ line.old.bytes ++ words.now ++ decimal n }
+    ensures short { length line.new.bytes ≤ length line.old.bytes + length words.now + 20 }
 {
-    page.push_str(words);
-    push_number(page, n);
+    line.push_str(words);
+    push_number(line, n);
 }
 
-// Puts how many were reaped, and how many were opened, behind what the page holds.
-fn push_reaped<const CAP: usize>(page: &mut ArrayString<CAP>, reaped: u64, opened: u64)
-    requires room { length page.old.bytes + 127 ≤ CAP }
-    ensures bytes { page.new.bytes ≡ page.old.bytes ++ codes "reaped " ++ decimal reaped ++ codes " opened " ++ decimal opened }
-    ensures short { length page.new.bytes ≤ length page.old.bytes + 127 }
+// Puts how many were reaped, and how many were opened, behind what the line holds.
+fn push_reaped<const CAP: usize>(line: &mut ArrayString<CAP>, reaped: u64, opened: u64)
+    requires room { length line.old.bytes + 127 ≤ CAP }
+    ensures bytes { line.new.bytes ≡ line.old.bytes ++ codes "reaped " ++ decimal reaped ++ codes " opened " ++ decimal opened }
+    ensures short { length line.new.bytes ≤ length line.old.bytes + 127 }
 {
-    push_counted(page, "reaped ", reaped);
-    push_counted(page, " opened ", opened);
+    push_counted(line, "reaped ", reaped);
+    push_counted(line, " opened ", opened);
 }
 
-// Puts a depth, and the text that ran, behind what the page holds.
+// Puts a depth, and the text that ran, behind what the line holds.
 #[inline(always)]
-fn push_depth<const CAP: usize>(page: &mut ArrayString<CAP>, depth: u64, text: LevelText)
-    requires room { length page.old.bytes + 127 ≤ CAP }
-    ensures bytes { page.new.bytes ≡ page.old.bytes ++ codes "level " ++ decimal depth ++ codes " " ++ text_of text }
-    ensures short { length page.new.bytes ≤ length page.old.bytes + 127 }
+fn push_depth<const CAP: usize>(line: &mut ArrayString<CAP>, depth: u64, text: LevelText)
+    requires room { length line.old.bytes + 127 ≤ CAP }
+    ensures bytes { line.new.bytes ≡ line.old.bytes ++ codes "level " ++ decimal depth ++ codes " " ++ text_of text }
+    ensures short { length line.new.bytes ≤ length line.old.bytes + 127 }
 {
-    push_counted(page, "level ", depth);
-    page.push_str(" ");
-    push_level(page, text);
+    push_counted(line, "level ", depth);
+    line.push_str(" ");
+    push_level(line, text);
 }
 
 impl Reply {
-    // Puts the text behind what the page holds.
-    fn push_text<const CAP: usize>(&self, page: &mut ArrayString<CAP>)
-        requires room { length page.old.bytes + 127 ≤ CAP }
-        ensures bytes { page.new.bytes ≡ page.old.bytes ++ reply_text self.now }
-        ensures short { length page.new.bytes ≤ length page.old.bytes + 127 }
+    // Puts the text behind what the line holds.
+    #[inline(always)]
+    fn push_text<const CAP: usize>(&self, line: &mut ArrayString<CAP>)
+        requires room { length line.old.bytes + 127 ≤ CAP }
+        ensures bytes { line.new.bytes ≡ line.old.bytes ++ reply_text self.now }
+        ensures short { length line.new.bytes ≤ length line.old.bytes + 127 }
     {
         match *self {
-            Reply::Ticket(n) => push_counted(page, "ticket ", n),
-            Reply::PoolClosed => page.push_str("PoolClosed"),
-            Reply::PoolTimedOut => page.push_str("PoolTimedOut"),
-            Reply::NotHeld => page.push_str("NotHeld"),
-            Reply::Waiting => page.push_str("waiting"),
+            Reply::Ticket(n) => push_counted(line, "ticket ", n),
+            Reply::PoolClosed => line.push_str("PoolClosed"),
+            Reply::PoolTimedOut => line.push_str("PoolTimedOut"),
+            Reply::NotHeld => line.push_str("NotHeld"),
+            Reply::Waiting => line.push_str("waiting"),
             Reply::Backoff(until) => {
-                page.push_str("backoff ");
-                push_integer(page, until);
+                line.push_str("backoff ");
+                push_integer(line, until);
             }
-            Reply::Ready(n) => push_counted(page, "ready ", n),
-            Reply::Io => page.push_str("Io"),
-            Reply::DatabaseRefused => page.push_str("Database refused"),
-            Reply::Cancelled => page.push_str("cancelled"),
-            Reply::NothingToLend => page.push_str("none"),
-            Reply::Kept => page.push_str("kept"),
-            Reply::Closed(n) => push_counted(page, "closed ", n),
-            Reply::Detached(n) => push_counted(page, "detached ", n),
-            Reply::Leaked(n) => push_counted(page, "leaked ", n),
-            Reply::Reaped { reaped, opened } => push_reaped(page, reaped, opened),
-            Reply::Opened(n) => push_counted(page, "opened ", n),
-            Reply::Closing(n) => push_counted(page, "closing ", n),
-            Reply::StateOpen => page.push_str("Open"),
-            Reply::StateClosing => page.push_str("Closing"),
-            Reply::StateClosed => page.push_str("Closed"),
-            Reply::Level { depth, text } => push_depth(page, depth, text),
-            Reply::DatabaseDeep => page.push_str("Database deep"),
-            Reply::DatabaseBusy => page.push_str("Database busy"),
-            Reply::InvalidSavePointStatement => page.push_str("InvalidSavePointStatement"),
-            Reply::BeginFailed => page.push_str("BeginFailed"),
-            Reply::Written(n) => push_counted(page, "ok ", n),
+            Reply::Ready(n) => push_counted(line, "ready ", n),
+            Reply::Io => line.push_str("Io"),
+            Reply::DatabaseRefused => line.push_str("Database refused"),
+            Reply::Cancelled => line.push_str("cancelled"),
+            Reply::NothingToLend => line.push_str("none"),
+            Reply::Kept => line.push_str("kept"),
+            Reply::Closed(n) => push_counted(line, "closed ", n),
+            Reply::Detached(n) => push_counted(line, "detached ", n),
+            Reply::Leaked(n) => push_counted(line, "leaked ", n),
+            Reply::Reaped { reaped, opened } => push_reaped(line, reaped, opened),
+            Reply::Opened(n) => push_counted(line, "opened ", n),
+            Reply::Closing(n) => push_counted(line, "closing ", n),
+            Reply::StateOpen => line.push_str("Open"),
+            Reply::StateClosing => line.push_str("Closing"),
+            Reply::StateClosed => line.push_str("Closed"),
+            Reply::Level { depth, text } => push_depth(line, depth, text),
+            Reply::DatabaseDeep => line.push_str("Database deep"),
+            Reply::DatabaseBusy => line.push_str("Database busy"),
+            Reply::InvalidSavePointStatement => line.push_str("InvalidSavePointStatement"),
+            Reply::BeginFailed => line.push_str("BeginFailed"),
+            Reply::Written(n) => push_counted(line, "ok ", n),
             Reply::Value(value) => {
-                page.push_str("value ");
-                push_integer(page, value);
+                line.push_str("value ");
+                push_integer(line, value);
             }
-            Reply::RowNotFound => page.push_str("RowNotFound"),
+            Reply::RowNotFound => line.push_str("RowNotFound"),
         }
     }
 
-    /// Puts the text and a newline behind what the page holds, where that leaves room for a line.
-    pub fn push_line(&self, page: &mut OutputPage)
-        requires room { length page.old.bytes + 128 ≤ 4096 }
-        ensures { page.new.bytes ≡ page.old.bytes ++ line_of (reply_text self.now) }
+    /// Puts the text and a newline in place of what the line holds.
+    #[inline(always)]
+    pub fn fill_line(&self, line: &mut OutputLine)
+        ensures { line.new.bytes ≡ line_of (reply_text self.now) }
     {
-        self.push_text(page);
-        page.push_str("\n");
+        line.clear();
+        self.push_text(line);
+        line.push_str("\n");
     }
 }
 

@@ -2,7 +2,7 @@
 ghost use Rattle.std.specs.Prelude.{◌≡◌, ◌+◌, ◌++◌, ◌≤◌, length};
 ghost use Rattle.sqlx_script.specs.Texts.{report_text, line_of};
 
-use crate::output_line::{OutputLine, OutputPage, push_number};
+use crate::output_line::{OutputLine, push_number};
 use arrayvec::ArrayString;
 use std::fmt;
 
@@ -20,29 +20,29 @@ pub struct Report {
 }
 
 impl Report {
-    // Puts the text behind what the page holds.
-    fn push_text<const CAP: usize>(&self, page: &mut ArrayString<CAP>)
-        requires room { length page.old.bytes + 127 ≤ CAP }
-        ensures bytes { page.new.bytes ≡ page.old.bytes ++ report_text self.now }
-        ensures short { length page.new.bytes ≤ length page.old.bytes + 127 }
+    // Puts the text behind what the line holds.
+    fn push_text<const CAP: usize>(&self, line: &mut ArrayString<CAP>)
+        requires room { length line.old.bytes + 127 ≤ CAP }
+        ensures bytes { line.new.bytes ≡ line.old.bytes ++ report_text self.now }
+        ensures short { length line.new.bytes ≤ length line.old.bytes + 127 }
     {
-        page.push_str("held ");
-        push_number(page, self.held);
-        page.push_str(" idle ");
-        push_number(page, self.idle);
-        page.push_str(" leaked ");
-        push_number(page, self.leaked);
-        page.push_str(" waiting ");
-        push_number(page, self.waiting);
+        line.push_str("held ");
+        push_number(line, self.held);
+        line.push_str(" idle ");
+        push_number(line, self.idle);
+        line.push_str(" leaked ");
+        push_number(line, self.leaked);
+        line.push_str(" waiting ");
+        push_number(line, self.waiting);
     }
 
-    /// Puts the text and a newline behind what the page holds, where that leaves room for a line.
-    pub fn push_line(&self, page: &mut OutputPage)
-        requires room { length page.old.bytes + 128 ≤ 4096 }
-        ensures { page.new.bytes ≡ page.old.bytes ++ line_of (report_text self.now) }
+    /// Puts the text and a newline in place of what the line holds.
+    pub fn fill_line(&self, line: &mut OutputLine)
+        ensures { line.new.bytes ≡ line_of (report_text self.now) }
     {
-        self.push_text(page);
-        page.push_str("\n");
+        line.clear();
+        self.push_text(line);
+        line.push_str("\n");
     }
 }
 

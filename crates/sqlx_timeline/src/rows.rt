@@ -56,14 +56,14 @@ impl Timeline {
         let whole = format!(in alloc; "{line}\n")?;
         if self.rows.is_empty() {
             match read_pool_line(whole.as_bytes()) {
-                Some(pool) => self.counts_tests = pool.counts_tests,
+                Some(first) => self.counts_tests = first.says.counts_tests,
                 None => return Ok(false),
             }
         } else {
             match read_event(whole.as_bytes(), self.counts_tests) {
-                Some(event) if !reply.is_empty() => self
+                Some(line) if !reply.is_empty() => self
                     .clients
-                    .hear(&event.step, Told::by(reply))?,
+                    .hear(&line.says.step, Told::by(reply))?,
                 _ => return Ok(false),
             }
         }
