@@ -1,6 +1,6 @@
 -- What a call tells of the first line of a text.
 use Rattle.std.proofs.Common.{◌≡◌, ℕ, ◌<◌, true, Bool, List, [], ◌∷◌, Option, Some, None, IfSome, length, refl, sym, ap, ◌∙◌}
-use Rattle.sqlx_script.specs.Words.{has_newline, behind_line}
+use Rattle.sqlx_script.specs.Words.{lines_of, first_line, has_newline, behind_line}
 use Rattle.sqlx_script.specs.Numbers.{◌>>=◌, millis}
 use Rattle.sqlx_script.specs.Rows.{with_behind}
 use Rattle.sqlx_script.specs.FirstLine.{told}
@@ -9,7 +9,7 @@ use Rattle.sqlx_script.specs.Grammar.{at_moment, step_of, event_words}
 use Rattle.sqlx_script.specs.declared.first_line.FirstLine.{FirstLine}
 use Rattle.sqlx_script.specs.declared.step.Event.{Event}
 use Rattle.sqlx_script.specs.declared.step.Step.{Step}
-use Rattle.sqlx_script.proofs.FirstLines.{shorter}
+use Rattle.sqlx_script.proofs.FirstLines.{lines_are, shorter}
 use Rattle.sqlx_script.proofs.FewOpens.{step_few}
 
 abbrev few_in : Option Event → Bool
@@ -44,12 +44,13 @@ rest_is : {T : Type 0} (behind : List ℕ) (o : Option T) → rest_of behind (wi
 rest_is behind (Some x) = refl
 rest_is behind None = refl
 
--- what a line says that was told, and the text behind it
-pub told_some : {T : Type 0} (r : Option (FirstLine T)) (line : FirstLine T) (behind : List ℕ) (o : Option T) → r ≡ Some line → told r ≡ with_behind behind o
-    → (o ≡ Some line.says) × (line.behind.now ≡ behind)
-told_some r line behind o is h =
+-- what a line says that was told, and the lines that follow it
+pub told_some : {T : Type 0} (r : Option (FirstLine T)) (line : FirstLine T) (text : List ℕ) (o : Option T) → r ≡ Some line → told r ≡ with_behind (behind_line text) o → 0 < length text
+    → (o ≡ Some line.says) × (lines_of text ≡ first_line text ∷ lines_of line.behind.now)
+told_some r line text o is h some =
     let tells = ap told (sym is) ∙ h in
-    (sym (ap said tells ∙ said_of behind o), ap (rest_of behind) tells ∙ rest_is behind o)
+    let behind : line.behind.now ≡ behind_line text = ap (rest_of (behind_line text)) tells ∙ rest_is (behind_line text) o in
+    (sym (ap said tells ∙ said_of (behind_line text) o), rw behind (lines_are text some))
 
 -- a line of which nothing was told says nothing
 pub told_none : {T : Type 0} (r : Option (FirstLine T)) (behind : List ℕ) (o : Option T) → r ≡ None → told r ≡ with_behind behind o → o ≡ None

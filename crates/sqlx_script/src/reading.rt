@@ -130,6 +130,7 @@ pub fn read_pool_line(text: &[u8]) -> Option<FirstLine<'_, PoolLine>>
     ensures says { told result ≡ with_behind (behind_line text.now) (pool_of (first_line text.now)) }
     ensures some { IfSome result (λ line. 1 ≤ line.says.max) }
     ensures tries { IfSome result (λ line. (1 ≤ line.says.tries) × (line.says.tries ≤ 16)) }
+    ensures shorter { IfSome result (λ line. length line.behind.now < length text.now) }
 {
     if has_newline(text) {
         pool_line_in_front(text)

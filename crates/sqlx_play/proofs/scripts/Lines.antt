@@ -1,5 +1,5 @@
 -- How far the lines after the first were played.
-use Rattle.std.proofs.Common.{◌≡◌, ℕ, ◌+◌, ◌^◌, ◌<◌, ◌≤◌, true, Bool, List, [], ◌∷◌, ◌++◌, Option, Some, None, refl, sym, ap, subst, ◌∙◌, append_assoc, append-nil, nat_lt, length, length-append, ◌==◌, eqb-true, arith}
+use Rattle.std.proofs.Common.{◌≡◌, ℕ, ◌+◌, ◌^◌, ◌<◌, ◌≤◌, true, false, Bool, List, [], ◌∷◌, ◌++◌, Option, Some, None, refl, sym, ap, subst, ◌∙◌, append_assoc, append-nil, nat_lt, length, length-append, ◌==◌, eqb-true, arith}
 use Rattle.std.specs.Io.KnownBytes.{Appends}
 use Rattle.std.proofs.KnownBytes.{Appends-nil, Appends-trans}
 use Rattle.std.proofs.lemmas.Bool.{lt-ltb, le-ltb, cond-true, cond-false}
@@ -178,6 +178,10 @@ stops_early text rest line rest' number last pool before now stage e w lines is 
 pub no_element : (xs : List ℕ) → true ≡ (length xs == 0) → xs ≡ []
 no_element [] h = refl
 no_element (x ∷ xs) h = absurd (omega (arith, eqb-true (length (x ∷ xs)) 0 (sym h)))
+
+pub some_element : (xs : List ℕ) → false ≡ (length xs == 0) → 0 < length xs
+some_element [] h = cc
+some_element (x ∷ xs) h = omega arith
 
 -- no line is left
 pub finished : (text rest : List ℕ) (number last : ℕ) (pool : PoolLine) (before now : Option (List ℕ)) (stage : Stage)
