@@ -85,8 +85,14 @@ fn short_number(text: &[u8], low: u64, high: u64) -> Option<(u64, &[u8])>
         return None;
     }
     let mut n = u64::from(first - b'0');
+    if ends_word(text[1]) && low <= n && n < high {
+        return Some((n, &text[1..]));
+    }
+    if first == b'0' {
+        return None;
+    }
     let mut at = 1;
-    while first != b'0' && text[at].is_ascii_digit() {
+    while text[at].is_ascii_digit() {
         n = n.wrapping_mul(10).wrapping_add(u64::from(text[at] - b'0'));
         at += 1;
     }
@@ -122,7 +128,8 @@ pub fn number(text: &[u8], low: u64, high: u64) -> Option<(u64, &[u8])>
     if let Some(found) = short_number(text, low, high) {
         return Some(found);
     }
-    long_number(text, low, high)
+    let (n, rest) = long_number(text, low, high)?;
+    Some((n, rest))
 }
 
 // The value in front, which has no minus, and the text behind it.
