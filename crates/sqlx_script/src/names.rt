@@ -1,5 +1,5 @@
 //! The names of the events.
-ghost use Rattle.std.specs.Prelude.{◌≡◌, ◌++◌, ◌∷◌, ◌≢◌, IfSome, IfNone, List, ℕ};
+ghost use Rattle.std.specs.Prelude.{◌≡◌, ◌++◌, ◌∷◌, ◌≢◌, IfSome, IfNone, List, ℕ, slice_index};
 ghost use Rattle.sqlx_script.specs.Names.{text_of};
 
 /// What a line after the first is about, by its first word.
@@ -64,13 +64,15 @@ const COMM: u32 = 0x6d6d_6f63; // `comm`
 
 const ROLL: u32 = 0x6c6c_6f72; // `roll`
 
-// This name and what follows it in a text, if the text begins with the end of the name.
+// This name and what stands behind it in a text, if the text begins with the end of the name and a blank.
 #[inline(always)]
 fn behind<'a>(name: Name, end: &[u8], text: &'a [u8]) -> Option<(Name, &'a [u8])>
-    ensures some { IfSome result (λ r. (r.0 ≡ name) × (text.now ≡ end.now ++ r.1.now)) }
-    ensures none { IfNone result ((rest : List ℕ) → text.now ≢ end.now ++ rest) }
+    ensures name { IfSome result (λ r. r.0 ≡ name) }
+    ensures some { IfSome result (λ r. text.now ≡ end.now ++ r.1.now) }
+    ensures blank { IfSome result (λ r. slice_index r.1.now 0 ≡ 32) }
+    ensures none { IfNone result ((rest : List ℕ) → text.now ≢ end.now ++ 32 ∷ rest) }
 {
-    if text.len() < end.len() {
+    if text.len() <= end.len() {
         return None;
     }
     for at in 0..end.len() {
@@ -78,43 +80,48 @@ fn behind<'a>(name: Name, end: &[u8], text: &'a [u8]) -> Option<(Name, &'a [u8])
             return None;
         }
     }
-    Some((name, &text[end.len()..]))
+    if text[end.len()] == b' ' {
+        Some((name, &text[end.len()..]))
+    } else {
+        None
+    }
 }
 
-/// The name in front of a text with a blank behind it, and what follows that.
+/// The name in front of a text that has a blank behind it, and the text from that blank on.
 #[inline(always)]
 pub fn name_in_front(text: &[u8]) -> Option<(Name, &[u8])>
-    ensures some { IfSome result (λ r. text.now ≡ text_of r.0 ++ 32 ∷ r.1.now) }
+    ensures some { IfSome result (λ r. text.now ≡ text_of r.0 ++ r.1.now) }
+    ensures blank { IfSome result (λ r. slice_index r.1.now 0 ≡ 32) }
     ensures none { IfNone result ((name : Name) → (rest : List ℕ) → text.now ≢ text_of name ++ 32 ∷ rest) }
 {
     let [a, b, c, d, rest @ ..] = text else {
         return None;
     };
     match u32::from_le_bytes([*a, *b, *c, *d]) {
-        ASK => Some((Name::Ask, rest)),
-        POLL => behind(Name::Poll, b" ", rest),
-        CANC => behind(Name::Cancel, b"el ", rest),
-        TRY => Some((Name::Try, rest)),
-        GIVE => match behind(Name::Give, b" ", rest) {
+        ASK => Some((Name::Ask, &text[3..])),
+        POLL => behind(Name::Poll, b"", rest),
+        CANC => behind(Name::Cancel, b"el", rest),
+        TRY => Some((Name::Try, &text[3..])),
+        GIVE => match behind(Name::Give, b"", rest) {
             Some(found) => Some(found),
-            None => behind(Name::GiveUp, b"up ", rest),
+            None => behind(Name::GiveUp, b"up", rest),
         },
-        END => Some((Name::End, rest)),
-        DETA => behind(Name::Detach, b"ch ", rest),
-        LEAK => behind(Name::Leak, b" ", rest),
-        REAP => behind(Name::Reap, b" ", rest),
-        MIN => Some((Name::Min, rest)),
-        CLOS => match behind(Name::Close, b"e ", rest) {
+        END => Some((Name::End, &text[3..])),
+        DETA => behind(Name::Detach, b"ch", rest),
+        LEAK => behind(Name::Leak, b"", rest),
+        REAP => behind(Name::Reap, b"", rest),
+        MIN => Some((Name::Min, &text[3..])),
+        CLOS => match behind(Name::Close, b"e", rest) {
             Some(found) => Some(found),
-            None => behind(Name::CloseState, b"ed ", rest),
+            None => behind(Name::CloseState, b"ed", rest),
         },
-        BEGI => behind(Name::Begin, b"n ", rest),
-        CUST => behind(Name::Custom, b"om ", rest),
-        PUT => Some((Name::Put, rest)),
-        DEL => Some((Name::Del, rest)),
-        GET => Some((Name::Get, rest)),
-        COMM => behind(Name::Commit, b"it ", rest),
-        ROLL => behind(Name::Rollback, b"back ", rest),
+        BEGI => behind(Name::Begin, b"n", rest),
+        CUST => behind(Name::Custom, b"om", rest),
+        PUT => Some((Name::Put, &text[3..])),
+        DEL => Some((Name::Del, &text[3..])),
+        GET => Some((Name::Get, &text[3..])),
+        COMM => behind(Name::Commit, b"it", rest),
+        ROLL => behind(Name::Rollback, b"back", rest),
         _ => None,
     }
 }

@@ -46,8 +46,7 @@ impl<'a> Words<'a> {
         ensures none { IfNone result ((name : Name) → (w : List ℕ) → (ws : List (List ℕ)) → words_in_front text.now ≢ text_of name ∷ w ∷ ws) }
     {
         let (name, rest) = name_in_front(text)?;
-        let at = text.len() - rest.len() - 1;
-        Some((name, Words { rest: &text[at..] }))
+        Some((name, Words { rest }))
     }
 
     /// Whether the first word of a script's first line says that its polls tell how many tests their letters answer, and the words behind it.
