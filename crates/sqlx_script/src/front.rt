@@ -1,14 +1,13 @@
 //! The word in front of a text that has a newline.
-ghost use Rattle.std.specs.Prelude.{◌≡◌, ◌<◌, ◌≤◌, true, false, None, ◌∷◌, ◌++◌, IfSome, IfNone, length, take, slice_index};
+ghost use Rattle.std.specs.Prelude.{◌≡◌, ◌<◌, ◌≤◌, ◌^◌, true, false, None, ◌∷◌, ◌++◌, IfSome, IfNone, length, take, slice_index};
 ghost use Rattle.sqlx_script.specs.Words as words;
 ghost use Rattle.sqlx_script.specs.Words.{words_in_front, words_behind, behind_line, is_behind_word};
 ghost use Rattle.sqlx_script.specs.Rows.{word, Takes};
-ghost use Rattle.sqlx_script.specs.Numbers as numbers_spec;
+ghost use Rattle.sqlx_script.specs.Numbers.{number_in, plain_value, minus_value, value};
 
-use crate::numbers;
 use memchr::memchr;
 
-// How many digits a number without a check of its size may have.
+// How many digits a number below 10^19 may have.
 const FEW: usize = 19;
 
 /// Whether there is a newline. That takes a look where the last byte is one.
@@ -73,11 +72,13 @@ pub fn short_word(text: &[u8], len: usize) -> Option<(&[u8], &[u8])>
     Some((&text[..len], &text[len..]))
 }
 
-// The number in front in one pass, where it is as it should be and not too long.
+/// The number in front, from `low` to below `high`, and the text behind it.
 #[inline(always)]
-fn short_number(text: &[u8], low: u64, high: u64) -> Option<(u64, &[u8])>
-    requires { words.has_newline text.now ≡ true }
-    ensures takes { IfSome result (λ r. Takes (numbers_spec.number_in low high) text.now r.0 r.1.now) }
+pub fn number(text: &[u8], low: u64, high: u64) -> Option<(u64, &[u8])>
+    requires newline { words.has_newline text.now ≡ true }
+    requires high { high ≤ 10 ^ 19 }
+    ensures some { IfSome result (λ r. Takes (number_in low high) text.now r.0 r.1.now) }
+    ensures none { IfNone result (word (number_in low high) (words_in_front text.now) ≡ None) }
     ensures within { IfSome result (λ r. (low ≤ r.0) × (r.0 < high)) }
 {
     let first = text[0];
@@ -85,59 +86,28 @@ fn short_number(text: &[u8], low: u64, high: u64) -> Option<(u64, &[u8])>
         return None;
     }
     let mut n = u64::from(first - b'0');
-    if ends_word(text[1]) && low <= n && n < high {
-        return Some((n, &text[1..]));
-    }
-    if first == b'0' {
-        return None;
-    }
     let mut at = 1;
-    while text[at].is_ascii_digit() {
-        n = n.wrapping_mul(10).wrapping_add(u64::from(text[at] - b'0'));
-        at += 1;
+    if text[1] != b' ' {
+        while first != b'0' && text[at].is_ascii_digit() {
+            n = n.wrapping_mul(10).wrapping_add(u64::from(text[at] - b'0'));
+            at += 1;
+        }
+        if at > FEW || !ends_word(text[at]) {
+            return None;
+        }
     }
-    if at > FEW || n < low || high <= n || !ends_word(text[at]) {
+    if n < low || high <= n {
         return None;
     }
     Some((n, &text[at..]))
-}
-
-// The number in front, however long it is.
-#[cold]
-#[inline(never)]
-#[tactic(auto, unfolding(crate::specs::Rows::word))]
-fn long_number(text: &[u8], low: u64, high: u64) -> Option<(u64, &[u8])>
-    requires { words.has_newline text.now ≡ true }
-    ensures some { IfSome result (λ r. Takes (numbers_spec.number_in low high) text.now r.0 r.1.now) }
-    ensures none { IfNone result (word (numbers_spec.number_in low high) (words_in_front text.now) ≡ None) }
-    ensures within { IfSome result (λ r. (low ≤ r.0) × (r.0 < high)) }
-{
-    let (word, rest) = first_word(text);
-    let n = numbers::number_in(word, low, high)?;
-    Some((n, rest))
-}
-
-/// The number in front, from `low` to below `high`, and the text behind it.
-#[inline(always)]
-pub fn number(text: &[u8], low: u64, high: u64) -> Option<(u64, &[u8])>
-    requires { words.has_newline text.now ≡ true }
-    ensures some { IfSome result (λ r. Takes (numbers_spec.number_in low high) text.now r.0 r.1.now) }
-    ensures none { IfNone result (word (numbers_spec.number_in low high) (words_in_front text.now) ≡ None) }
-    ensures within { IfSome result (λ r. (low ≤ r.0) × (r.0 < high)) }
-{
-    if let Some(found) = short_number(text, low, high) {
-        return Some(found);
-    }
-    let (n, rest) = long_number(text, low, high)?;
-    Some((n, rest))
 }
 
 // The value in front, which has no minus, and the text behind it.
 #[inline(always)]
 fn plain_value(text: &[u8]) -> Option<(i64, &[u8])>
     requires { words.has_newline text.now ≡ true }
-    ensures some { IfSome result (λ r. Takes numbers_spec.plain_value text.now r.0 r.1.now) }
-    ensures none { IfNone result (word numbers_spec.plain_value (words_in_front text.now) ≡ None) }
+    ensures some { IfSome result (λ r. Takes plain_value text.now r.0 r.1.now) }
+    ensures none { IfNone result (word plain_value (words_in_front text.now) ≡ None) }
 {
     let (n, rest) = number(text, 0, 9_223_372_036_854_775_808)?;
     Some((n as i64, rest))
@@ -147,8 +117,8 @@ fn plain_value(text: &[u8]) -> Option<(i64, &[u8])>
 #[inline(always)]
 fn minus_value(text: &[u8]) -> Option<(i64, &[u8])>
     requires { words.has_newline text.now ≡ true }
-    ensures some { IfSome result (λ r. Takes numbers_spec.minus_value text.now r.0 r.1.now) }
-    ensures none { IfNone result (word numbers_spec.minus_value (words_in_front text.now) ≡ None) }
+    ensures some { IfSome result (λ r. Takes minus_value text.now r.0 r.1.now) }
+    ensures none { IfNone result (word minus_value (words_in_front text.now) ≡ None) }
 {
     let (n, rest) = number(text, 1, 9_223_372_036_854_775_809)?;
     Some((-((n - 1) as i64) - 1, rest))
@@ -158,8 +128,8 @@ fn minus_value(text: &[u8]) -> Option<(i64, &[u8])>
 #[inline(always)]
 pub fn value(text: &[u8]) -> Option<(i64, &[u8])>
     requires { words.has_newline text.now ≡ true }
-    ensures some { IfSome result (λ r. Takes numbers_spec.value text.now r.0 r.1.now) }
-    ensures none { IfNone result (word numbers_spec.value (words_in_front text.now) ≡ None) }
+    ensures some { IfSome result (λ r. Takes value text.now r.0 r.1.now) }
+    ensures none { IfNone result (word value (words_in_front text.now) ≡ None) }
 {
     if text[0] == b'-' {
         return minus_value(&text[1..]);

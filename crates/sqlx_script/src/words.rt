@@ -96,6 +96,7 @@ impl<'a> Words<'a> {
     #[inline(always)]
     #[tactic(auto, unfolding(crate::specs::Rows::word))]
     pub fn number(&mut self, low: u64, high: u64) -> Option<u64>
+        requires { high ≤ 10 ^ 19 }
         ensures reads { Reads (numbers_spec.number_in low high) result self.old self.new }
         ensures within { IfSome result (λ n. (low ≤ n) × (n < high)) }
     {
