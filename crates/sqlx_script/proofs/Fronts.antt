@@ -148,6 +148,7 @@ words_some (b ∷ text) h = some_at (b == 10) (is_blank b) (words_in_front text)
     onto_some : (parts : List (List ℕ)) → onto_first b parts ≡ [] → ⊥
     onto_some [] h = cc
     onto_some (part ∷ parts) h = cc
+
     some_at : (c d : Bool) (ws : List (List ℕ)) → cond c ([] ∷ []) (cond d ([] ∷ ws) (onto_first b ws)) ≡ [] → ⊥
     some_at true d ws h = cc
     some_at false true ws h = cc

@@ -159,9 +159,9 @@ pub no_digit_in : (low high : ℕ) (text : List ℕ) (at : ℕ) → has_newline 
     → word (number_in low high) (words_in_front text) ≡ None
 no_digit_in low high text at some before inside other =
     none_front low high text some (λ w rest is end'.
-      let here = inside_first w rest at (rw is at (no_end_more text at before inside)) end' in
-      let digit : is_ascii_digit (get_or w at 0) ≡ false = ap is_ascii_digit (here.1 ∙ ap (λ x. get_or x at 0) (sym is)) ∙ other in
-      not_number low high w (and_r _ _ (not_all w at here.0 digit)))
+    let here = inside_first w rest at (rw is at (no_end_more text at before inside)) end' in
+    let digit : is_ascii_digit (get_or w at 0) ≡ false = ap is_ascii_digit (here.1 ∙ ap (λ x. get_or x at 0) (sym is)) ∙ other in
+    not_number low high w (and_r _ _ (not_all w at here.0 digit)))
 
 -- nor where it is empty
 no_word : (low high : ℕ) (text : List ℕ) → has_newline text ≡ true → ends_word (get_or text 0 0) ≡ true → word (number_in low high) (words_in_front text) ≡ None
@@ -181,10 +181,10 @@ pub zero_leads : (low high : ℕ) (text : List ℕ) → has_newline text ≡ tru
 zero_leads low high text some zero' inside =
     let first : has_end (take 1 text) ≡ false = no_end_more text 0 refl (ap ends_word zero') in
     none_front low high text some (λ w rest is end'.
-      let here = inside_first w rest 1 (rw is at (no_end_more text 1 first inside)) end' in
-      let start = inside_first w rest 0 (rw is at first) end' in
-      let lead = leads w here.0 (start.1 ∙ ap (λ x. get_or x 0 0) (sym is) ∙ zero') in
-      not_number low high w (and_l _ _ (and_r _ _ (ap not lead))))
+    let here = inside_first w rest 1 (rw is at (no_end_more text 1 first inside)) end' in
+    let start = inside_first w rest 0 (rw is at first) end' in
+    let lead = leads w here.0 (start.1 ∙ ap (λ x. get_or x 0 0) (sym is) ∙ zero') in
+    not_number low high w (and_l _ _ (and_r _ _ (ap not lead))))
 
 -- a number of so many digits more than one is no smaller
 at_least : (k : ℕ) (text : List ℕ) → k < length text → is_ascii_digit (get_or text 0 0) ≡ true → (get_or text 0 0 ≡ 48 → ⊥) → 10 ^ k ≤ digits_value 10 (take (suc k) text)
@@ -204,11 +204,11 @@ pub too_long : (low high : ℕ) (text : List ℕ) (at : ℕ) → has_newline tex
 too_long low high text zero some small long inside all lead = absurd (omega (arith, long))
 too_long low high text (suc at) some small long inside all lead =
     none_front low high text some (λ w rest is end'.
-      let here = inside_first w rest at (rw is at (no_end (take (suc at) text) all)) end' in
-      let least = at_least 19 text (omega (arith, long, inside)) (first_digit text at all (omega (arith, inside))) lead in
-      let same : take 20 text ≡ take 20 w = ap (take 20) is ∙ take_front w rest 20 (omega (arith, here.0, long)) in
-      let whole = digits_value-take-le 10 w 20 (omega arith) in
-      too_high low high w (omega (arith, least, ap (digits_value 10) same, whole, small)))
+    let here = inside_first w rest at (rw is at (no_end (take (suc at) text) all)) end' in
+    let least = at_least 19 text (omega (arith, long, inside)) (first_digit text at all (omega (arith, inside))) lead in
+    let same : take 20 text ≡ take 20 w = ap (take 20) is ∙ take_front w rest 20 (omega (arith, here.0, long)) in
+    let whole = digits_value-take-le 10 w 20 (omega arith) in
+    too_high low high w (omega (arith, least, ap (digits_value 10) same, whole, small)))
   where
     first_digit : (text : List ℕ) (at : ℕ) → all_ascii_digits (take (suc at) text) ≡ true → 0 < length text → is_ascii_digit (get_or text 0 0) ≡ true
     first_digit [] at all some = absurd (omega (arith, some))

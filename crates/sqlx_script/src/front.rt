@@ -10,7 +10,7 @@ use memchr::memchr;
 // How many digits a number below 10^19 may have.
 const FEW: usize = 19;
 
-/// Whether there is a newline. That takes a look where the last byte is one.
+/// Whether there is a newline; one look tells it where the last byte is one.
 #[inline(always)]
 pub fn has_newline(text: &[u8]) -> bool
     ensures { result ≡ words.has_newline text.now }

@@ -19,12 +19,7 @@ use crate::words::Words;
 // What follows the moment, which is so many milliseconds.
 #[inline(always)]
 #[tactic(auto, unfolding(crate::specs::Grammar::step_of, crate::specs::Grammar::statement_of))]
-fn event(
-    name: Name,
-    words: Words<'_>,
-    ms: u64,
-    counts_tests: bool,
-) -> Option<FirstLine<'_, Event>>
+fn event(name: Name, words: Words<'_>, ms: u64, counts_tests: bool) -> Option<FirstLine<'_, Event>>
     requires { ms < 2 ^ 40 }
     ensures { told result ≡ with_behind words.entry.behind (at_moment ms (step_of counts_tests (text_of name) words.entry.words)) }
 {
