@@ -1,8 +1,12 @@
 -- The summary of what was written for a script.
-use Rattle.std.specs.Prelude.{ℕ, ◌==◌, List, [], ◌∷◌, ◌++◌, codes}
+use Rattle.std.specs.Prelude.{ℕ, ◌==◌, List, [], ◌∷◌, ◌++◌, if◌then◌else◌, codes}
 use Rattle.std.specs.Fmt.{decimal}
 use Rattle.std.specs.List.{starts_with, count_by}
 use Rattle.sqlx_script.specs.Texts.{line_of}
+
+-- one for a line that begins with these bytes
+abbrev pub one_for : List ℕ → List ℕ → ℕ
+one_for front line = if starts_with ◌==◌ line front then 1 else 0
 
 -- how many of the lines begin with these bytes
 abbrev pub beginning : List ℕ → List (List ℕ) → ℕ

@@ -1,9 +1,8 @@
 //! The summary of what was written for a script.
-ghost use Rattle.std.specs.Prelude.{◌≡◌, ◌==◌, ◌≤◌, [], IfOk, codes, if◌then◌else◌};
-ghost use Rattle.std.specs.List.{starts_with};
+ghost use Rattle.std.specs.Prelude.{◌≡◌, ◌+◌, ◌-◌, ◌<◌, ◌≤◌, ◌^◌, [], IfOk, codes};
 ghost use Rattle.sqlx_script.specs.Words.{lines_of};
 ghost use Rattle.sqlx_script.specs.Texts.{line_of};
-ghost use Rattle.sqlx_made.specs.Summary.{beginning, last_of, summary_text};
+ghost use Rattle.sqlx_made.specs.Summary.{one_for, beginning, last_of, summary_text};
 
 use sqlx_script::cut_line;
 use std::alloc::{AllocError, Global};
@@ -17,11 +16,30 @@ struct Told<'a> {
 }
 
 // One for a line that begins with these bytes.
+#[inline(always)]
 fn one_if(line: &[u8], front: &[u8]) -> u64
-    ensures is { result ≡ (if starts_with ◌==◌ line.now front.now then 1 else 0) }
+    ensures is { result ≡ one_for front.now line.now }
     ensures once { result ≤ 1 }
 {
     u64::from(line.starts_with(front))
+}
+
+// A further line. Its first byte tells of which kind it can be.
+#[inline(always)]
+fn add<'a>(told: &mut Told<'a>, line: &'a [u8])
+    requires few { (told.old.ready < 2 ^ 64 - 1) × (told.old.kept < 2 ^ 64 - 1) × (told.old.closed < 2 ^ 64 - 1) }
+    ensures ready { told.new.ready ≡ told.old.ready + one_for (codes "ready ") line.entry.now }
+    ensures kept { told.new.kept ≡ told.old.kept + one_for (line_of (codes "kept")) line.entry.now }
+    ensures closed { told.new.closed ≡ told.old.closed + one_for (codes "closed ") line.entry.now }
+    ensures last { told.new.last.now ≡ line.entry.now }
+{
+    match line {
+        [b'r', ..] => told.ready += one_if(line, b"ready "),
+        [b'k', ..] => told.kept += one_if(line, b"kept\n"),
+        [b'c', ..] => told.closed += one_if(line, b"closed "),
+        _ => {}
+    }
+    told.last = line;
 }
 
 // Reads the lines of a text.
@@ -32,24 +50,18 @@ fn read_lines(text: &[u8]) -> Told<'_>
     ensures last { result.last.now ≡ last_of [] (lines_of text.now) }
 {
     let mut rest = text;
-    let mut ready: u64 = 0;
-    let mut kept: u64 = 0;
-    let mut closed: u64 = 0;
-    let mut last = &text[..0];
+    let mut told = Told {
+        ready: 0,
+        kept: 0,
+        closed: 0,
+        last: &text[..0],
+    };
     while !rest.is_empty() {
         let (line, after) = cut_line(rest);
-        ready += one_if(line, b"ready ");
-        kept += one_if(line, b"kept\n");
-        closed += one_if(line, b"closed ");
-        last = line;
+        add(&mut told, line);
         rest = after;
     }
-    Told {
-        ready,
-        kept,
-        closed,
-        last,
-    }
+    told
 }
 
 /// The summary of a script of so many lines for which this was written, the closing report last.

@@ -1,22 +1,22 @@
-use Rattle.std.proofs.Common.{◌+◌, codes, sym, ap, ◌∙◌, arith}
+use Rattle.std.proofs.Common.{◌+◌, codes, refl, sym, ap, ◌∙◌, arith}
 use Rattle.sqlx_script.specs.Words.{lines_of}
 use Rattle.sqlx_script.specs.Texts.{line_of}
 use Rattle.sqlx_made.specs.Summary.{beginning, last_of}
-use Rattle.sqlx_made.proofs.SummaryLemmas.{counted_more}
+use Rattle.sqlx_made.proofs.SummaryLemmas.{counted_more, at_most_one}
 use Rattle.sqlx_made.proofs.summary.read_lines.Goals as goal
 
-pub loop-last-preserved : goal.loop-last-preserved
-loop-last-preserved c =
+pub loop-rest-preserved : goal.loop-rest-preserved
+loop-rest-preserved c =
     let at = sym c.cut_line.ensures.line in
-    let was = c.loop-last.invariant in
+    let was = c.loop-rest.invariant in
     let line = c.cut_line.result.0.now in
     let rest = lines_of c.cut_line.result.1.now in
     record {
-      ready = counted_more c.loop-last.ready _ _ (codes "ready ") line rest c.one_if-ready.ensures.is (ap (λ ls. c.loop-last.ready + beginning (codes "ready ") ls) at ∙ was.ready);
-      kept = counted_more c.loop-last.kept _ _ (line_of (codes "kept")) line rest c.one_if-kept.ensures.is (ap (λ ls. c.loop-last.kept + beginning (line_of (codes "kept")) ls) at ∙ was.kept);
-      closed = counted_more c.loop-last.closed _ _ (codes "closed ") line rest c.one_if-closed.ensures.is (ap (λ ls. c.loop-last.closed + beginning (codes "closed ") ls) at ∙ was.closed);
-      few_ready = omega (arith, c.cut_line.ensures.shorter, c.one_if-ready.ensures.once, was.few_ready);
-      few_kept = omega (arith, c.cut_line.ensures.shorter, c.one_if-kept.ensures.once, was.few_kept);
-      few_closed = omega (arith, c.cut_line.ensures.shorter, c.one_if-closed.ensures.once, was.few_closed);
-      last = ap (last_of c.loop-last.last.now) at ∙ was.last;
+      ready = rw c.add.ensures.ready (counted_more c.loop-rest.told.ready _ _ (codes "ready ") line rest refl (ap (λ ls. c.loop-rest.told.ready + beginning (codes "ready ") ls) at ∙ was.ready));
+      kept = rw c.add.ensures.kept (counted_more c.loop-rest.told.kept _ _ (line_of (codes "kept")) line rest refl (ap (λ ls. c.loop-rest.told.kept + beginning (line_of (codes "kept")) ls) at ∙ was.kept));
+      closed = rw c.add.ensures.closed (counted_more c.loop-rest.told.closed _ _ (codes "closed ") line rest refl (ap (λ ls. c.loop-rest.told.closed + beginning (codes "closed ") ls) at ∙ was.closed));
+      few_ready = omega (arith, c.cut_line.ensures.shorter, c.add.ensures.ready, at_most_one (codes "ready ") line, was.few_ready);
+      few_kept = omega (arith, c.cut_line.ensures.shorter, c.add.ensures.kept, at_most_one (line_of (codes "kept")) line, was.few_kept);
+      few_closed = omega (arith, c.cut_line.ensures.shorter, c.add.ensures.closed, at_most_one (codes "closed ") line, was.few_closed);
+      last = rw c.add.ensures.last (ap (last_of c.loop-rest.told.last.now) at ∙ was.last);
     }
