@@ -1,6 +1,6 @@
 -- The first line of a text is the first of its lines, and its words stand in front of the text.
-use Rattle.std.proofs.Common.{◌≡◌, ℕ, suc, ◌<◌, ◌-◌, ◌==◌, ◌||◌, Bool, true, false, cond, List, [], ◌∷◌, Option, None, length, take, refl, sym, ap, ◌∙◌, arith}
-use Rattle.std.specs.List.{slice_split, onto_first}
+use Rattle.std.proofs.Common.{◌≡◌, ℕ, suc, ◌<◌, ◌-◌, ◌==◌, ◌||◌, Bool, true, false, cond, List, [], ◌∷◌, Option, None, length, refl, ap, ◌∙◌, arith}
+use Rattle.std.specs.List.{onto_first}
 use Rattle.sqlx_script.specs.Words.{longer, lines_of, is_blank, ends_well, words_of, first_line, behind_line, has_newline, words_in_front}
 use Rattle.sqlx_script.specs.Grammar.{whole}
 

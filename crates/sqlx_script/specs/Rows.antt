@@ -1,5 +1,5 @@
 -- Words in a row, each of its kind, and no more.
-use Rattle.std.specs.Prelude.{◌≡◌, ℕ, Bool, true, false, List, [], ◌∷◌, Option, Some, None, if◌then◌else◌, ◌==◌, length}
+use Rattle.std.specs.Prelude.{◌≡◌, ℕ, Bool, true, false, List, [], ◌∷◌, Option, Some, None}
 use Rattle.sqlx_script.specs.Words.{Left, words_in_front, words_behind, behind_line, is_behind_word}
 use Rattle.sqlx_script.specs.Numbers.{◌>>=◌}
 

@@ -1,5 +1,5 @@
 -- The lines of a script, and the words of a line.
-use Rattle.std.specs.Prelude.{ℕ, ◌-◌, Bool, true, false, ◌||◌, ◌&&◌, ◌==◌, List, [], ◌∷◌, length, take, if◌then◌else◌, slice_index}
+use Rattle.std.specs.Prelude.{ℕ, ◌-◌, Bool, false, ◌||◌, ◌&&◌, ◌==◌, List, [], ◌∷◌, length, take, if◌then◌else◌, slice_index}
 use Rattle.std.specs.List.{slice_split, onto_first}
 
 -- the lines, with b in front of the first
