@@ -2,7 +2,8 @@
 //!
 //! A savepoint copies nothing: each write notes what stood there, and going back undoes the writes.
 //! So the memory is that of the writes and savepoints, however many of both there are.
-ghost use Rattle.std.specs.Prelude.{◌≡◌, ℕ, ◌+◌, ◌≤◌, ◌==◌, length, min, IfOk, OnOk, OnErr, IsSome, is_some};
+ghost use Rattle.std.specs.Prelude.{◌≡◌, ℕ, ◌+◌, ◌≤◌, ◌<◌, ◌==◌, length, min, IfOk, OnOk, OnErr, IsSome, is_some};
+ghost use Rattle.std.specs.VecDeque.{deque_len, deque_capacity};
 ghost use Rattle.std.specs.List.{list_any};
 ghost use Rattle.std.specs.FinMap as finite;
 ghost use Rattle.sqlx_savepoints.specs.Rows.{laid};
@@ -97,10 +98,9 @@ impl SavepointStack {
         ensures err { OnErr result (self.new ≡ self.old) }
     {
         let mark = self.changes.len();
-        match self.saved.push_front(Saved { name, mark }) {
-            Ok(()) => Ok(()),
-            Err(_) => Err(OutOfMemory),
-        }
+        make_room(&mut self.saved)?;
+        self.saved.push_front_reserved(Saved { name, mark });
+        Ok(())
     }
 
     pub(crate) fn release(&mut self, name: u64)
@@ -145,9 +145,7 @@ impl SavepointStack {
         ensures ok { OnOk result (self.new ≡ record self.old { own = finite.insert self.old.own key value; undo = noted self.old.undo }) }
         ensures err { OnErr result (self.new ≡ self.old) }
     {
-        if self.changes.reserve(1).is_err() {
-            return Err(OutOfMemory);
-        }
+        make_room(&mut self.changes)?;
         let before = self.own.insert(key, value)?;
         self.changes.push_front_reserved(Change { key, before });
         Ok(())
@@ -155,6 +153,21 @@ impl SavepointStack {
 }
 
 ghost use Rattle.mem_store.specs.UndoLog.{as_of, from_name, first_mark};
+
+/// Makes room for one more. A list that is full grows to four times its length: what it leaves where it
+/// lay is then a third of what it takes, and not as much again.
+fn make_room<T>(list: &mut VecDeque<T>) -> Result<(), OutOfMemory>
+    ensures items { list.new.items ≡ list.old.items }
+    ensures room { OnOk result (deque_len list.new < deque_capacity list.new) }
+{
+    if list.len() < list.capacity() {
+        return Ok(());
+    }
+    match list.reserve(list.len().saturating_mul(3).max(4)) {
+        Ok(()) => Ok(()),
+        Err(_) => Err(OutOfMemory),
+    }
+}
 
 fn is_among(saved: &VecDeque<Saved>, name: u64) -> bool
     ensures { result ≡ list_any (λ s. name == s.name) saved.now.items }

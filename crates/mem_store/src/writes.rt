@@ -59,7 +59,7 @@ impl Numbering<Write> for Writes {
     }
 }
 
-// Makes room for one more. Where the places are used up the gaps are closed, and as many places are added as are left.
+// Makes room for one more. Where the places are used up the gaps are closed, and three times as many places are added as are left.
 fn make_room(places: &mut Vec<Option<Write>>, notes: &mut Notes) -> Result<(), OutOfMemory>
     requires { Tells number_of notes.old places.old.items }
     ensures items { items_at places.new.items ≡ items_at places.old.items }
@@ -70,7 +70,7 @@ fn make_room(places: &mut Vec<Option<Write>>, notes: &mut Notes) -> Result<(), O
         return Ok(());
     }
     notes.close_gaps::<Write, Writes>(places);
-    match places.reserve(places.len().max(1)) {
+    match places.reserve(places.len().saturating_mul(3).max(4)) {
         Ok(()) => Ok(()),
         Err(_) => Err(OutOfMemory),
     }
@@ -183,6 +183,9 @@ impl Writes {
         ensures err { OnErr result (rows.new ≡ rows.old) }
     {
         let mut noted = VecDeque::new(self.alloc);
+        if noted.reserve(self.places.len()).is_err() {
+            return Err(OutOfMemory);
+        }
         match insert_values(&self.places, rows, &mut noted) {
             Ok(()) => {
                 do_deletions(&self.places, rows);
