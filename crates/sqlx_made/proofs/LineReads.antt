@@ -3,7 +3,7 @@ use Rattle.std.proofs.Common.{◌≡◌, ℕ, Bool, true, false, List, [], ◌�
 use Rattle.sqlx_script.specs.Numbers.{number_in, millis, nanos, name_number, key, value}
 use Rattle.sqlx_script.specs.Letters.{plus_or_minus, hook_letter, connect_letter, after_connect_letter, statement_letter, statement, poll_answers, give_answers}
 use Rattle.sqlx_script.specs.Rows.{words1, words3, words4, words5}
-use Rattle.sqlx_script.specs.Grammar.{poll_words, statement_of, step_of, event_words}
+use Rattle.sqlx_script.specs.Grammar.{poll_words, put_words, statement_of, step_of, event_words}
 use Rattle.sqlx_script.specs.declared.answers.HookAnswer.TheVariants.{Accepts}
 use Rattle.sqlx_script.specs.declared.answers.AfterConnectAnswer.TheVariants.{SetUp}
 use Rattle.sqlx_script.specs.declared.answers.ConnectAnswer.TheVariants.{Connected}
@@ -53,5 +53,5 @@ module _ (now client : List ℕ) (i k : ℕ) (reads_now : millis now ≡ Some i)
 
       pub put_reads : (drawn : List ℕ) (v : ℤ) → value drawn ≡ Some v
           → event_words false (codes "put" ∷ now ∷ client ∷ connection ∷ word ∷ drawn ∷ codes "+" ∷ []) ≡ Some (at i (Put k c n Runs v))
-      unfolding event_words step_of statement_of words5 statement statement_letter
+      unfolding event_words step_of statement_of put_words words5 statement statement_letter
       put_reads drawn v reads_value = rw reads_now (rw reads_client (rw reads_connection (rw reads_key (rw reads_value refl))))

@@ -6,7 +6,7 @@ use Rattle.sqlx_script.specs.Numbers.{number_in, name_number, opens, tests}
 use Rattle.sqlx_script.specs.Letters.{poll_answers, answering}
 use Rattle.sqlx_script.specs.Rows.{row, row_if, ended, words0, words1, words2, words3, words4, words5}
 use Rattle.sqlx_script.specs.Built.{is_few, has_few_opens}
-use Rattle.sqlx_script.specs.Grammar.{statement_of, poll_words, step_of}
+use Rattle.sqlx_script.specs.Grammar.{statement_of, put_words, poll_words, step_of}
 use Rattle.sqlx_script.specs.declared.step.Step.{Step}
 use Rattle.sqlx_script.specs.declared.step.Step.TheVariants.{Ask, Poll, Cancel, Try, Give, End, Detach, Leak, Reap, Min, CloseState, Begin, Custom, Put, Del, Get, Commit, Rollback, GiveUp, Close}
 use Rattle.sqlx_script.proofs.Rows.{bound}
@@ -95,7 +95,7 @@ choose true here others step h few rest = few h
 choose false here others step h few rest = rest h
 
 statement_few : (name : List ℕ) → Few (statement_of name)
-unfolding statement_of
+unfolding statement_of put_words
 statement_few name fields step h =
     choose (bytes_eq name (codes "begin")) _ _ step h (none3 _ _ _ Begin (λ _ _ _. refl) fields step) (λ h1.
     choose (bytes_eq name (codes "custom")) _ _ step h1 (none4 _ _ _ _ Custom (λ _ _ _ _. refl) fields step) (λ h2.

@@ -13,7 +13,7 @@ use Rattle.sqlx_script.specs.Letters.{plus_or_minus, hook_letter, after_connect_
 use Rattle.sqlx_script.specs.Rows.{row, row_if, ended, words0, words1, words2, words3, words4, words5}
 use Rattle.sqlx_script.proofs.Rows.{bound}
 use Rattle.sqlx_script.specs.Laws.{is_plain, is_script_byte}
-use Rattle.sqlx_script.specs.Grammar.{statement_of, poll_words, step_of, pool_name, limits_after, event_words, pool_words, event_of, pool_of, whole, Reading, reading_at, reading_from, Script, script_after, script_lines, IsScript}
+use Rattle.sqlx_script.specs.Grammar.{statement_of, put_words, poll_words, step_of, pool_name, limits_after, event_words, pool_words, event_of, pool_of, whole, Reading, reading_at, reading_from, Script, script_after, script_lines, IsScript}
 use Rattle.sqlx_script.specs.declared.answers.HookAnswer.{HookAnswer}
 use Rattle.sqlx_script.specs.declared.answers.AfterConnectAnswer.{AfterConnectAnswer}
 use Rattle.sqlx_script.specs.declared.answers.ConnectAnswer.{ConnectAnswer}
@@ -264,7 +264,7 @@ pick name text fields f others step h t tame rest = elim (cases_Bool (bytes_eq n
 ]
 
 statement_step_plain : (name : List ℕ) (fields : List (List ℕ)) (step : Step) → statement_of name fields ≡ Some step → (plain name ≡ true) × (all_plain fields ≡ true)
-unfolding statement_of
+unfolding statement_of put_words
 statement_step_plain name fields step h =
     pick name (codes "begin") fields _ _ step h refl (tame3 name_plain name_plain statement_plain Begin) (λ h1.
     pick name (codes "custom") fields _ _ step h1 refl (tame4 name_plain name_plain sign_plain statement_plain Custom) (λ h2.

@@ -4,7 +4,7 @@ use Rattle.sqlx_script.specs.Numbers.{number_in, limit_nanos, value}
 use Rattle.sqlx_script.specs.Letters.{plus_or_minus, hook_letter, after_connect_letter, connect_letter, statement_letter, statement, poll_answers, switches}
 use Rattle.sqlx_script.specs.Rows.{words1, words5}
 use Rattle.sqlx_script.specs.Texts.{line_of}
-use Rattle.sqlx_script.specs.Grammar.{statement_of, poll_words, step_of, pool_name, limits_after, event_words, pool_words, event_of, pool_of, reading_from, script_lines, first_bad, whole}
+use Rattle.sqlx_script.specs.Grammar.{statement_of, put_words, poll_words, step_of, pool_name, limits_after, event_words, pool_words, event_of, pool_of, reading_from, script_lines, first_bad, whole}
 use Rattle.sqlx_script.specs.declared.answers.StatementAnswer.TheVariants.{Runs}
 use Rattle.sqlx_script.specs.declared.answers.HookAnswer.TheVariants.{LeavesOpen}
 use Rattle.sqlx_script.specs.declared.answers.AfterConnectAnswer.TheVariants.{SetUpFails}
@@ -51,19 +51,19 @@ unfolding event_of event_words step_of statement_of number_in
 unknown_name = refl
 
 put : whole (event_words false) (line_of (codes "put 5 7 1 999 -9223372036854775808 +")) ≡ Some (record { moment = record { 0 = 5000000 }; step = Put 7 1 999 Runs (negsuc 9223372036854775807) })
-unfolding event_words step_of statement_of words5 number_in value statement statement_letter
+unfolding event_words step_of statement_of put_words words5 number_in value statement statement_letter
 put = refl
 
 key_too_large : whole (event_words false) (line_of (codes "put 5 7 1 1000 4 +")) ≡ None
-unfolding event_words step_of statement_of words5 number_in value statement statement_letter
+unfolding event_words step_of statement_of put_words words5 number_in value statement statement_letter
 key_too_large = refl
 
 minus_zero : whole (event_words false) (line_of (codes "put 5 7 1 9 -0 +")) ≡ None
-unfolding event_words step_of statement_of words5 number_in value statement statement_letter
+unfolding event_words step_of statement_of put_words words5 number_in value statement statement_letter
 minus_zero = refl
 
 value_too_large : whole (event_words false) (line_of (codes "put 5 7 1 9 9223372036854775808 +")) ≡ None
-unfolding event_words step_of statement_of words5 number_in value statement statement_letter
+unfolding event_words step_of statement_of put_words words5 number_in value statement statement_letter
 value_too_large = refl
 
 -- ---- first lines

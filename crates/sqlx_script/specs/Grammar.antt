@@ -12,12 +12,16 @@ use Rattle.sqlx_script.specs.declared.step.Step.TheVariants.{Ask, Poll, Cancel, 
 
 -- ---- lines
 
+-- the fields of `put`: its last word is the answer, which stands before the value in the event
+unfoldable pub put_words : List (List ℕ) → Option Step
+put_words = words5 name_number name_number key value statement (λ client connection key value answer. Put client connection key answer value)
+
 -- what follows the moment, for the name of a statement
 unfoldable pub statement_of : List ℕ → List (List ℕ) → Option Step
 statement_of name fields =
     if bytes_eq name (codes "begin") then words3 name_number name_number statement Begin fields else
     if bytes_eq name (codes "custom") then words4 name_number name_number sign statement Custom fields else
-    if bytes_eq name (codes "put") then words5 name_number name_number key value statement (λ client connection key value answer. Put client connection key answer value) fields else
+    if bytes_eq name (codes "put") then put_words fields else
     if bytes_eq name (codes "del") then words4 name_number name_number key statement Del fields else
     if bytes_eq name (codes "get") then words4 name_number name_number key statement Get fields else
     if bytes_eq name (codes "commit") then words3 name_number name_number statement Commit fields else

@@ -1,8 +1,8 @@
 //! The fields of each event, after its name and its moment, which is so many milliseconds.
 ghost use Rattle.std.specs.Prelude.{◌≡◌, ◌<◌, ◌^◌};
-ghost use Rattle.sqlx_script.specs.Rows.{words0, words1, words2, words3, words4, words5, with_behind};
+ghost use Rattle.sqlx_script.specs.Rows.{words0, words1, words2, words3, words4, with_behind};
 ghost use Rattle.sqlx_script.specs.FirstLine.{told};
-ghost use Rattle.sqlx_script.specs.Grammar.{at_moment, poll_words};
+ghost use Rattle.sqlx_script.specs.Grammar.{at_moment, poll_words, put_words};
 ghost use Rattle.sqlx_script.specs.Numbers.{name_number, opens, key, value};
 ghost use Rattle.sqlx_script.specs.Letters.{sign, statement, give_answers};
 
@@ -236,10 +236,10 @@ pub fn custom(mut words: Words<'_>, ms: u64) -> Option<FirstLine<'_, Event>>
 
 /// The fields of `put`.
 #[inline(always)]
-#[tactic(auto, using(crate::proofs::Rows::reads), unfolding(crate::specs::Rows::words5))]
+#[tactic(auto, using(crate::proofs::Rows::reads), unfolding(crate::specs::Grammar::put_words, crate::specs::Rows::words5))]
 pub fn put(mut words: Words<'_>, ms: u64) -> Option<FirstLine<'_, Event>>
     requires { ms < 2 ^ 40 }
-    ensures { told result ≡ with_behind words.entry.behind (at_moment ms (words5 name_number name_number key value statement (λ client connection key value answer. Step.Put client connection key answer value) words.entry.words)) }
+    ensures { told result ≡ with_behind words.entry.behind (at_moment ms (put_words words.entry.words)) }
 {
     let client = words.name_number()?;
     let connection = words.name_number()?;
