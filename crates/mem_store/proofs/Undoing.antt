@@ -1,5 +1,5 @@
 -- Changes that are noted and undone, and the savepoints behind them.
-use Rattle.std.proofs.Common.{◌≡◌, ℕ, ◌≤◌, ◌==◌, ◌||◌, nat_lt, min, ℤ, Bool, true, false, cond, is_some, IsSome, Option, Some, None, option_map, List, [], ◌∷◌, length, drop, refl, sym, ap, subst, ◌∙◌, arith, eqb-true}
+use Rattle.std.proofs.Common.{◌≡◌, ℕ, suc, ◌+◌, ◌≤◌, ◌==◌, ◌||◌, nat_lt, min, ℤ, Bool, true, false, cond, is_some, IsSome, Option, Some, None, option_map, List, [], ◌∷◌, length, map, drop, refl, sym, ap, subst, ◌∙◌, arith, eqb-true}
 use Rattle.std.specs.List.{list_any}
 use Rattle.std.specs.Option.{unwrap_or}
 use Rattle.std.proofs.lemmas.Bool.{lt-ltb, le-ltb, cond-true, cond-false}
@@ -12,7 +12,7 @@ use Rattle.mem_store.specs.declared.saved.Saved.{Saved}
 use Rattle.mem_store.specs.declared.saved.Change.{Change}
 use Rattle.mem_store.specs.declared.saved.Overwrite.{Overwrite}
 use Rattle.mem_store.specs.SavepointStack.{SavepointStack, saved_at, released_to, restored_to}
-use Rattle.mem_store.specs.Undo.{Undo, noted, undo_released, undo_restored}
+use Rattle.mem_store.specs.Undo.{Undo, counted_from, noted, undo_behind, undo_released, undo_restored}
 use Rattle.mem_store.specs.UndoLog.{put_back, unwritten, as_of, entries_at, AreMarked, from_name, first_mark}
 use Rattle.mem_store.proofs.Trees.{found, Updated, get-found, from_entries-insert, tied}
 
@@ -118,9 +118,26 @@ rest_marked now (top ∷ older) marked = later_marked top.mark now older marked.
 
 -- ---- releasing and going back
 
+-- the marks count the writes before what is noted
+from_name-counted : (unnoted name : ℕ) (saved : List Saved) → from_name name (map (counted_from unnoted) saved) ≡ map (counted_from unnoted) (from_name name saved)
+from_name-counted unnoted name [] = refl
+from_name-counted unnoted name (top ∷ older) =
+    elim (name == top.name) as (λ (b : Bool). cond b (counted_from unnoted top ∷ map (counted_from unnoted) older) (from_name name (map (counted_from unnoted) older)) ≡ map (counted_from unnoted) (cond b (top ∷ older) (from_name name older))) [
+      | true ↦ refl
+      | false ↦ from_name-counted unnoted name older
+    ]
+
+rest-counted : (unnoted : ℕ) (found : List Saved) → drop 1 (map (counted_from unnoted) found) ≡ map (counted_from unnoted) (drop 1 found)
+rest-counted unnoted [] = refl
+rest-counted unnoted (top ∷ older) = refl
+
+first_mark-counted : (unnoted mark : ℕ) (found : List Saved) → first_mark found ≡ Some mark → first_mark (map (counted_from unnoted) found) ≡ Some (unnoted + mark)
+first_mark-counted unnoted mark [] marks = absurd cc
+first_mark-counted unnoted mark (top ∷ older) marks = let same : top.mark ≡ mark = cc in ap (λ (m : ℕ). Some (unnoted + m)) same
+
 -- a stack by what stands in its fields
-abbrev pub stack_in : Writes → List Change → List Saved → SavepointStack
-stack_in own changes saved = record { own = own; entries = entries_at own changes saved; undo = record { len = length changes; saved = saved } }
+abbrev pub stack_in : ℕ → Writes → List Change → List Saved → SavepointStack
+stack_in unnoted own changes saved = record { own = own; entries = entries_at own changes saved; undo = undo_behind unnoted (length changes) saved }
 
 released_at : (name : ℕ) (stack : SavepointStack) (changes : List Change) (found : List Saved) → newest name stack.entries ≡ first_entry stack.own changes found → IsSome (newest name stack.entries)
     → record stack { entries = entries_at stack.own changes (drop 1 found); undo = undo_released name stack.undo } ≡ released_to name stack
@@ -128,9 +145,12 @@ released_at name stack changes [] is some = absurd (let none : false ≡ true = 
 released_at name stack changes (top ∷ older) is some =
     sym (ap (λ (o : Option (Writes × List Entry)). unwrap_or (option_map (λ (found : Writes × List Entry). record stack { entries = found.1; undo = undo_released name stack.undo }) o) stack) is)
 
-released-is : (name : ℕ) (own : Writes) (changes : List Change) (saved : List Saved) → IsSome (newest name (entries_at own changes saved))
-    → stack_in own changes (drop 1 (from_name name saved)) ≡ released_to name (stack_in own changes saved)
-released-is name own changes saved some = released_at name (stack_in own changes saved) changes (from_name name saved) (newest-from_name name own changes saved) some
+released-is : (name unnoted : ℕ) (own : Writes) (changes : List Change) (saved : List Saved) → IsSome (newest name (entries_at own changes saved))
+    → stack_in unnoted own changes (drop 1 (from_name name saved)) ≡ released_to name (stack_in unnoted own changes saved)
+released-is name unnoted own changes saved some =
+    ap (λ (s : List Saved). record { own = own; entries = entries_at own changes (drop 1 (from_name name saved)); undo = record { len = unnoted + length changes; saved = s } })
+    (sym (ap (drop 1) (from_name-counted unnoted name saved) ∙ rest-counted unnoted (from_name name saved)))
+    ∙ released_at name (stack_in unnoted own changes saved) changes (from_name name saved) (newest-from_name name own changes saved) some
 
 -- the first savepoint has this name
 abbrev IsNamed : ℕ → List Saved → Type 0
@@ -151,12 +171,15 @@ mark_below mark now [] marks marked = absurd cc
 mark_below mark now (top ∷ older) marks marked = let same : top.mark ≡ mark = cc in let below = marked.0 in omega (arith, same, below)
 
 -- the log goes back to the mark
-restored_undo : (name mark left now : ℕ) (saved : List Saved) → first_mark (from_name name saved) ≡ Some mark → AreMarked now saved → left ≡ min mark now
-    → ◌≡◌ {A = Undo} (record { len = left; saved = from_name name saved }) (undo_restored name (record { len = now; saved = saved }))
-restored_undo name mark left now saved marks marked left_is =
+restored_undo : (name unnoted mark left now : ℕ) (saved : List Saved) → first_mark (from_name name saved) ≡ Some mark → AreMarked now saved → left ≡ min mark now
+    → ◌≡◌ {A = Undo} (undo_behind unnoted left (from_name name saved)) (undo_restored name (undo_behind unnoted now saved))
+restored_undo name unnoted mark left now saved marks marked left_is =
     let below = mark_below mark now (from_name name saved) marks (from_name-marked name now saved marked) in
     let here : left ≡ mark = omega (arith, left_is, below) in
-    ap (λ (n : ℕ). record { len = n; saved = from_name name saved }) (here ∙ ap (λ (o : Option ℕ). unwrap_or o now) (sym marks))
+    let found = from_name-counted unnoted name saved in
+    let marks' : first_mark (from_name name (map (counted_from unnoted) saved)) ≡ Some (unnoted + mark) = ap first_mark found ∙ first_mark-counted unnoted mark (from_name name saved) marks in
+    let len : unnoted + left ≡ unwrap_or (first_mark (from_name name (map (counted_from unnoted) saved))) (unnoted + now) = ap (λ (m : ℕ). unnoted + m) here ∙ ap (λ (o : Option ℕ). unwrap_or o (unnoted + now)) (sym marks') in
+    λ i. record { len = len i; saved = sym found i }
 
 restored_at : (name mark now : ℕ) (stack : SavepointStack) (own : Writes) (changes changes' : List Change) (found : List Saved) → newest name stack.entries ≡ first_entry stack.own changes found → first_mark found ≡ Some mark → IsNamed name found → AreMarked now found
     → own ≡ as_of mark changes stack.own → ((earlier : ℕ) → earlier ≤ mark → as_of earlier changes' own ≡ as_of earlier changes stack.own)
@@ -175,12 +198,12 @@ restored_at name mark now stack own changes changes' (top ∷ older) is marks na
     parts
     ∙ sym (ap (λ (o : Option (Writes × List Entry)). unwrap_or (option_map (λ (found : Writes × List Entry). record { own = found.0; entries = record { name = name; own = found.0 } ∷ found.1; undo = undo_restored name stack.undo }) o) stack) is)
 
-restored-is : (name mark : ℕ) (own own' : Writes) (changes changes' : List Change) (saved : List Saved) → first_mark (from_name name saved) ≡ Some mark → AreMarked (length changes) saved → length changes' ≡ min mark (length changes)
+restored-is : (name unnoted mark : ℕ) (own own' : Writes) (changes changes' : List Change) (saved : List Saved) → first_mark (from_name name saved) ≡ Some mark → AreMarked (length changes) saved → length changes' ≡ min mark (length changes)
     → own' ≡ as_of mark changes own → ((earlier : ℕ) → earlier ≤ mark → as_of earlier changes' own' ≡ as_of earlier changes own)
-    → stack_in own' changes' (from_name name saved) ≡ restored_to name (stack_in own changes saved)
-restored-is name mark own own' changes changes' saved marks marked left own_is alike =
-    ap (λ (u : Undo). record { own = own'; entries = entries_at own' changes' (from_name name saved); undo = u }) (restored_undo name mark (length changes') (length changes) saved marks marked left)
-    ∙ restored_at name mark (length changes) (stack_in own changes saved) own' changes changes' (from_name name saved) (newest-from_name name own changes saved) marks (from_name-named name saved)
+    → stack_in unnoted own' changes' (from_name name saved) ≡ restored_to name (stack_in unnoted own changes saved)
+restored-is name unnoted mark own own' changes changes' saved marks marked left own_is alike =
+    ap (λ (u : Undo). record { own = own'; entries = entries_at own' changes' (from_name name saved); undo = u }) (restored_undo name unnoted mark (length changes') (length changes) saved marks marked left)
+    ∙ restored_at name mark (length changes) (stack_in unnoted own changes saved) own' changes changes' (from_name name saved) (newest-from_name name own changes saved) marks (from_name-named name saved)
     (from_name-marked name (length changes) saved marked) own_is alike
 
 -- the marks are in order behind going back
@@ -191,9 +214,9 @@ restored-marked name mark now left saved found is marks left_is marked = at foun
   at (top ∷ older) marks marked = let same : mark ≡ top.mark = cc in (omega (arith, same, left_is, marked.0), marked.1)
 
 -- no savepoint has the name
-pub unnamed-none : (name : ℕ) (stack : SavepointStack) (own : Writes) (changes : List Change) (saved found : List Saved) → stack_in own changes saved ≡ stack → found ≡ from_name name saved
+pub unnamed-none : (name unnoted : ℕ) (stack : SavepointStack) (own : Writes) (changes : List Change) (saved found : List Saved) → stack_in unnoted own changes saved ≡ stack → found ≡ from_name name saved
     → None ≡ first_mark found → IsSome (newest name stack.entries) → ⊥
-unnamed-none name stack own changes saved found view is marks some =
+unnamed-none name unnoted stack own changes saved found view is marks some =
     at found marks (ap (λ (fs : List Saved). is_some (first_entry own changes fs)) is ∙ sym (ap is_some (newest-from_name name own changes saved)) ∙ ap (λ (k : SavepointStack). is_some (newest name k.entries)) view ∙ some) where
       at : (found : List Saved) → None ≡ first_mark found → is_some (first_entry own changes found) ≡ true → ⊥
       at [] marks some = cc
@@ -201,43 +224,53 @@ unnamed-none name stack own changes saved found view is marks some =
 
 -- ---- the same of what stands in the fields
 
-pub saved-by : (name mark : ℕ) (stack : SavepointStack) (own : Writes) (changes : List Change) (saved saved' : List Saved) → stack_in own changes saved ≡ stack
-    → mark ≡ length changes → saved' ≡ record { name = name; mark = mark } ∷ saved → stack_in own changes saved' ≡ saved_at name stack
-saved-by name mark stack own changes saved saved' view at is =
+pub saved-by : (name mark unnoted : ℕ) (stack : SavepointStack) (own : Writes) (changes : List Change) (saved saved' : List Saved) → stack_in unnoted own changes saved ≡ stack
+    → mark ≡ length changes → saved' ≡ record { name = name; mark = mark } ∷ saved → stack_in unnoted own changes saved' ≡ saved_at name stack
+saved-by name mark unnoted stack own changes saved saved' view at is =
     let here = as_of-here mark changes own (omega (arith, at)) in
-    let parts : stack_in own changes (record { name = name; mark = mark } ∷ saved) ≡ saved_at name (stack_in own changes saved) = λ i. record {
+    let parts : stack_in unnoted own changes (record { name = name; mark = mark } ∷ saved) ≡ saved_at name (stack_in unnoted own changes saved) = λ i. record {
       own = own;
       entries = record { name = name; own = here i } ∷ entries_at own changes saved;
-      undo = record { len = length changes; saved = record { name = name; mark = at i } ∷ saved };
+      undo = record { len = unnoted + length changes; saved = record { name = name; mark = unnoted + at i } ∷ map (counted_from unnoted) saved };
     } in
-    ap (λ (s : List Saved). stack_in own changes s) is ∙ parts ∙ ap (saved_at name) view
+    ap (λ (s : List Saved). stack_in unnoted own changes s) is ∙ parts ∙ ap (saved_at name) view
 
-pub released-by : (name : ℕ) (stack : SavepointStack) (own : Writes) (changes : List Change) (saved found rest : List Saved) → stack_in own changes saved ≡ stack
-    → found ≡ from_name name saved → rest ≡ drop 1 found → IsSome (newest name stack.entries) → stack_in own changes rest ≡ released_to name stack
-released-by name stack own changes saved found rest view found_is rest_is =
-    subst (λ (k : SavepointStack). IsSome (newest name k.entries) → stack_in own changes rest ≡ released_to name k) view
-    (λ some. ap (λ (s : List Saved). stack_in own changes s) (rest_is ∙ ap (drop 1) found_is) ∙ released-is name own changes saved some)
+pub released-by : (name unnoted : ℕ) (stack : SavepointStack) (own : Writes) (changes : List Change) (saved found rest : List Saved) → stack_in unnoted own changes saved ≡ stack
+    → found ≡ from_name name saved → rest ≡ drop 1 found → IsSome (newest name stack.entries) → stack_in unnoted own changes rest ≡ released_to name stack
+released-by name unnoted stack own changes saved found rest view found_is rest_is =
+    subst (λ (k : SavepointStack). IsSome (newest name k.entries) → stack_in unnoted own changes rest ≡ released_to name k) view
+    (λ some. ap (λ (s : List Saved). stack_in unnoted own changes s) (rest_is ∙ ap (drop 1) found_is) ∙ released-is name unnoted own changes saved some)
 
 pub released-marked : (name now : ℕ) (saved found rest : List Saved) → found ≡ from_name name saved → rest ≡ drop 1 found → AreMarked now saved → AreMarked now rest
 released-marked name now saved found rest found_is rest_is marked = subst (AreMarked now) (sym (rest_is ∙ ap (drop 1) found_is)) (rest_marked now (from_name name saved) (from_name-marked name now saved marked))
 
-pub restored-by : (name mark : ℕ) (stack : SavepointStack) (own own' : Writes) (changes changes' : List Change) (saved found : List Saved) → stack_in own changes saved ≡ stack
+pub restored-by : (name unnoted mark : ℕ) (stack : SavepointStack) (own own' : Writes) (changes changes' : List Change) (saved found : List Saved) → stack_in unnoted own changes saved ≡ stack
     → found ≡ from_name name saved → Some mark ≡ first_mark found → AreMarked (length changes) saved → length changes' ≡ min mark (length changes) → own' ≡ as_of mark changes own
-    → ((earlier : ℕ) → earlier ≤ mark → as_of earlier changes' own' ≡ as_of earlier changes own) → stack_in own' changes' found ≡ restored_to name stack
-restored-by name mark stack own own' changes changes' saved found view found_is marks marked left own_is alike =
-    ap (λ (s : List Saved). stack_in own' changes' s) found_is
-    ∙ restored-is name mark own own' changes changes' saved (ap first_mark (sym found_is) ∙ sym marks) marked left own_is alike
+    → ((earlier : ℕ) → earlier ≤ mark → as_of earlier changes' own' ≡ as_of earlier changes own) → stack_in unnoted own' changes' found ≡ restored_to name stack
+restored-by name unnoted mark stack own own' changes changes' saved found view found_is marks marked left own_is alike =
+    ap (λ (s : List Saved). stack_in unnoted own' changes' s) found_is
+    ∙ restored-is name unnoted mark own own' changes changes' saved (ap first_mark (sym found_is) ∙ sym marks) marked left own_is alike
     ∙ ap (restored_to name) view
 
-pub inserted-by : (key : ℤ) (value : Option ℤ) (before : Option (Option ℤ)) (stack : SavepointStack) (own own' : Writes) (changes changes' : List Change) (saved : List Saved) → stack_in own changes saved ≡ stack
+pub inserted-by : (key : ℤ) (value : Option ℤ) (before : Option (Option ℤ)) (unnoted : ℕ) (stack : SavepointStack) (own own' : Writes) (changes changes' : List Change) (saved : List Saved) → stack_in unnoted own changes saved ≡ stack
     → AreMarked (length changes) saved → before ≡ get own key → changes' ≡ record { key = key; before = before } ∷ changes → own' ≡ insert own key value
-    → stack_in own' changes' saved ≡ record stack { own = insert stack.own key value; undo = noted stack.undo }
-inserted-by key value before stack own own' changes changes' saved view marked before_is changes_is own_is =
+    → stack_in unnoted own' changes' saved ≡ record stack { own = insert stack.own key value; undo = noted stack.undo }
+inserted-by key value before unnoted stack own own' changes changes' saved view marked before_is changes_is own_is =
     let new : List Change = record { key = key; before = get own key } ∷ changes in
-    ap (λ (o : Writes). stack_in o changes' saved) own_is
-    ∙ ap (λ (cs : List Change). stack_in (insert own key value) cs saved) (changes_is ∙ ap (λ (b : Option (Option ℤ)). record { key = key; before = b } ∷ changes) before_is)
-    ∙ ap (λ (es : List Entry). record { own = insert own key value; entries = es; undo = record { len = length new; saved = saved } }) (entries-noted (length changes) saved changes own key value marked (omega arith))
+    let more : unnoted + length new ≡ suc (unnoted + length changes) = omega arith in
+    ap (λ (o : Writes). stack_in unnoted o changes' saved) own_is
+    ∙ ap (λ (cs : List Change). stack_in unnoted (insert own key value) cs saved) (changes_is ∙ ap (λ (b : Option (Option ℤ)). record { key = key; before = b } ∷ changes) before_is)
+    ∙ (λ i. record { own = insert own key value; entries = entries-noted (length changes) saved changes own key value marked (omega arith) i; undo = record { len = more i; saved = map (counted_from unnoted) saved } })
     ∙ ap (λ (k : SavepointStack). record k { own = insert k.own key value; undo = noted k.undo }) view
+
+-- a write where there is no savepoint, for which nothing is noted
+pub unnoted-by : (key : ℤ) (value : Option ℤ) (unnoted unnoted' : ℕ) (stack : SavepointStack) (own own' : Writes) (changes : List Change) (saved : List Saved) → stack_in unnoted own changes saved ≡ stack
+    → length saved ≡ 0 → unnoted' ≡ suc unnoted → own' ≡ insert own key value → stack_in unnoted' own' changes saved ≡ record stack { own = insert stack.own key value; undo = noted stack.undo }
+unnoted-by key value unnoted unnoted' stack own own' changes [] view none one own_is =
+    let more : unnoted' + length changes ≡ suc (unnoted + length changes) = omega (arith, one) in
+    (λ i. record { own = own_is i; entries = []; undo = record { len = more i; saved = [] } })
+    ∙ ap (λ (k : SavepointStack). record k { own = insert k.own key value; undo = noted k.undo }) view
+unnoted-by key value unnoted unnoted' stack own own' changes (top ∷ older) view none one own_is = absurd (omega (arith, none))
 
 -- ---- the tree, where a value is put back
 

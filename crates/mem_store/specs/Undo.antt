@@ -1,5 +1,5 @@
--- How far a connection can go back: how many changes of its own writes are noted, and how many were noted when each savepoint was set.
-use Rattle.std.specs.Prelude.{◌≡◌, ℕ, zero, suc, ◌+◌, is_some, if◌then◌else◌, List, [], ◌∷◌, drop, refl}
+-- How far a connection can go back: how many writes of its levels are counted, and how many were when each savepoint was set.
+use Rattle.std.specs.Prelude.{◌≡◌, ℕ, zero, suc, ◌+◌, is_some, if◌then◌else◌, List, [], ◌∷◌, drop, map, refl}
 use Rattle.std.specs.Option.{unwrap_or}
 use Rattle.std.specs.Coded.{Coded, code_by, coded×, coded_ℕ, coded_list}
 use Rattle.sqlx_savepoints.specs.NamedSavepoints.{Named, after}
@@ -9,7 +9,7 @@ use Rattle.sqlx_savepoints.specs.declared.level_text.LevelText.TheVariants.{Roll
 use Rattle.mem_store.specs.declared.saved.Saved.{Saved}
 use Rattle.mem_store.specs.UndoLog.{first_mark, from_name}
 
--- how many changes are noted, and the savepoints with their marks, the newest first
+-- how many writes are counted, and the savepoints with their marks, the newest first
 pub record Undo : Type 0 where
   pub len : ℕ
   pub saved : List Saved
@@ -26,16 +26,24 @@ undo_code = code_by (ℕ × List Saved) (coded× coded_ℕ (coded_list saved_cod
 abbrev pub no_undo : Undo
 no_undo = record { len = 0; saved = [] }
 
--- one more change is noted
+-- a savepoint whose mark counts so many writes more
+abbrev pub counted_from : ℕ → Saved → Saved
+counted_from unnoted s = record { name = s.name; mark = unnoted + s.mark }
+
+-- so many changes are noted, behind so many writes for which none had to be
+abbrev pub undo_behind : ℕ → ℕ → List Saved → Undo
+undo_behind unnoted len saved = record { len = unnoted + len; saved = map (counted_from unnoted) saved }
+
+-- one write more is counted
 abbrev pub noted : Undo → Undo
 noted undo = record undo { len = suc undo.len }
 
--- a write by this depth: outside a level it is committed at once, and nothing is noted
+-- a write by this depth: outside a level it is committed at once, and isn't counted
 abbrev pub noted_at : ℕ → Undo → Undo
 noted_at zero undo = undo
 noted_at (suc depth) undo = noted undo
 
--- a savepoint of this name on top, which marks how many changes are noted
+-- a savepoint of this name on top, which marks how many writes are counted
 abbrev pub undo_saved : ℕ → Undo → Undo
 undo_saved name undo = record undo { saved = record { name = name; mark = undo.len } ∷ undo.saved }
 

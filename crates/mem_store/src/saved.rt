@@ -1,6 +1,6 @@
 //! A savepoint on the list, and a write that can be undone.
 
-/// A savepoint: its name, and how many changes were noted when it was set.
+/// A savepoint: its name, and how many changes stood noted when it was set.
 #[derive(Clone, Copy)]
 pub(crate) struct Saved {
     pub(crate) name: u64,

@@ -1,6 +1,6 @@
 //! A connection's own writes, and the savepoints to which they can go back.
 //!
-//! A savepoint copies nothing: each write notes what stood there, and going back undoes the writes.
+//! A savepoint copies nothing: each write behind one notes what stood there, and going back undoes the writes.
 //! So the memory is that of the writes and savepoints, however many of both there are.
 ghost use Rattle.std.specs.Prelude.{◌≡◌, ℕ, ◌+◌, ◌≤◌, ◌<◌, ◌==◌, length, min, IfOk, OnOk, OnErr, IsSome, is_some};
 ghost use Rattle.std.specs.VecDeque.{deque_len, deque_capacity};
@@ -27,21 +27,25 @@ pub(crate) struct SavepointStack {
     // The newest first, as the changes.
     saved: VecDeque<Saved>,
     changes: VecDeque<Change>,
+    // How many writes came while there was no savepoint. They are counted, and nothing is noted: only the end of the
+    // level goes back to before them.
+    unnoted: usize,
 }
 
 impl Model for SavepointStack {
-    ghost use Rattle.std.specs.Prelude.{length};
+    ghost use Rattle.std.specs.Prelude.{length, ◌+◌, ◌<◌, ◌^◌};
     ghost use Rattle.mem_store.specs.SavepointStack as values;
 
     ghost Value = { values.SavepointStack };
 
     ghost coded = { values.stack_code };
 
+    ghost use Rattle.mem_store.specs.Undo.{undo_behind};
     ghost use Rattle.mem_store.specs.UndoLog.{entries_at, AreMarked};
 
-    ghost view = { λ a. record { own = a.own; entries = entries_at a.own a.changes.items a.saved.items; undo = record { len = length a.changes.items; saved = a.saved.items } } };
+    ghost view = { λ a. record { own = a.own; entries = entries_at a.own a.changes.items a.saved.items; undo = undo_behind a.unnoted (length a.changes.items) a.saved.items } };
 
-    ghost invariant = { λ a. AreMarked (length a.changes.items) a.saved.items };
+    ghost invariant = { λ a. AreMarked (length a.changes.items) a.saved.items × (a.unnoted + length a.changes.items < 2 ^ 64) };
 }
 
 impl SavepointStack {
@@ -54,6 +58,7 @@ impl SavepointStack {
             own: Writes::new(alloc),
             saved: VecDeque::new(alloc),
             changes: VecDeque::new(alloc),
+            unnoted: 0,
         }
     }
 
@@ -63,6 +68,7 @@ impl SavepointStack {
         self.own.clear();
         self.saved.clear();
         self.changes.clear();
+        self.unnoted = 0;
     }
 
     pub(crate) fn get(&self, key: i64) -> Option<Option<i64>>
@@ -122,29 +128,36 @@ impl SavepointStack {
         }
     }
 
-    /// Undoes all changes. Each is a step.
+    /// Takes all writes back. Each is a step.
     pub(crate) fn undo_all<L: Ledger>(&mut self, steps: &mut Steps<L>)
         ensures becomes { self.new ≡ no_savepoints }
         ensures count { CountsFall steps.old self.old.undo steps.new self.new.undo }
     {
-        self.saved.clear();
-        go_back(&mut self.own, &mut self.changes, 0, steps);
+        tick_for(self.undo_len(), steps);
         self.clear();
     }
 
-    /// How many changes are noted.
+    /// How many writes there are to go back over.
     pub(crate) fn undo_len(&self) -> usize
         ensures { result ≡ self.now.undo.len }
     {
-        self.changes.len()
+        self.unnoted + self.changes.len()
     }
 
-    /// A write, and a note of what stood at its key. Room for the note comes first, so that the own
-    /// writes are searched once.
+    /// A write, and behind a savepoint a note of what stood at its key. Room for the note comes first, so that
+    /// the own writes are searched once.
     pub(crate) fn insert(&mut self, key: i64, value: Option<i64>) -> Result<(), OutOfMemory>
         ensures ok { OnOk result (self.new ≡ record self.old { own = finite.insert self.old.own key value; undo = noted self.old.undo }) }
         ensures err { OnErr result (self.new ≡ self.old) }
     {
+        if self.undo_len() == usize::MAX {
+            return Err(OutOfMemory);
+        }
+        if self.saved.is_empty() {
+            let _ = self.own.insert(key, value)?;
+            self.unnoted += 1;
+            return Ok(());
+        }
         make_room(&mut self.changes)?;
         let before = self.own.insert(key, value)?;
         self.changes.push_front_reserved(Change { key, before });
@@ -187,6 +200,15 @@ fn uncover(saved: &mut VecDeque<Saved>, name: u64) -> Option<usize>
         let _ = saved.pop_front();
     }
     None
+}
+
+// A step for each of so many.
+fn tick_for<L: Ledger>(many: usize, steps: &mut Steps<L>)
+    ensures { steps.new ≡ steps.old + many }
+{
+    for _ in 0..many {
+        steps.tick();
+    }
 }
 
 /// Undoes the changes behind the mark, the newest first. Each is a step.

@@ -183,9 +183,6 @@ impl Writes {
         ensures err { OnErr result (rows.new ≡ rows.old) }
     {
         let mut noted = VecDeque::new(self.alloc);
-        if noted.reserve(self.places.len()).is_err() {
-            return Err(OutOfMemory);
-        }
         match insert_values(&self.places, rows, &mut noted) {
             Ok(()) => {
                 do_deletions(&self.places, rows);
