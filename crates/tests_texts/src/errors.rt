@@ -36,7 +36,7 @@ fn tells_a_refusal(rt: HostRuntime) -> Result<(), Fail> {
 
 #[test]
 fn tells_the_kind_of_a_refusal(rt: HostRuntime) -> Result<(), Fail> {
-    for want in [
+    for want in &[
         (ErrorKind::UniqueViolation, true, false, false),
         (ErrorKind::ForeignKeyViolation, false, true, false),
         (ErrorKind::NotNullViolation, false, false, false),
@@ -52,27 +52,29 @@ fn tells_the_kind_of_a_refusal(rt: HostRuntime) -> Result<(), Fail> {
             fault.is_check_violation(),
         );
         drop(fault);
-        assert_eq!(rt; told, want);
+        assert_eq!(rt; told, *want);
     }
     Ok(())
+}
+
+// The kind of the refusal that an error has, lent and given out.
+fn kinds_of(error: Error) -> (Option<ErrorKind>, Option<ErrorKind>) {
+    let seen = error.as_database_error().map(|fault| fault.kind());
+    let given = error.into_database_error();
+    let kind = given.as_ref().map(|fault| fault.kind());
+    drop(given);
+    (seen, kind)
 }
 
 #[test]
 fn gives_the_refusal_of_an_error(rt: HostRuntime) -> Result<(), Fail> {
     crosses_threads(Error::from(refusal(ErrorKind::Other)));
-    for (error, want) in [
-        (
-            Error::database(refusal(ErrorKind::Other)),
-            Some(ErrorKind::Other),
-        ),
-        (Error::NotHeld, None),
-    ] {
-        let seen = error.as_database_error().map(|fault| fault.kind());
-        let given = error.into_database_error();
-        let told = (seen, given.as_ref().map(|fault| fault.kind()));
-        drop(given);
-        assert_eq!(rt; told, (want, want));
-    }
+    let kind = Some(ErrorKind::Other);
+    assert_eq!(rt;
+        kinds_of(Error::database(refusal(ErrorKind::Other))),
+        (kind, kind)
+    );
+    assert_eq!(rt; kinds_of(Error::NotHeld), (None, None));
     Ok(())
 }
 
@@ -94,24 +96,30 @@ fn number_of(answer: Result<(), Error>) -> u8 {
     number
 }
 
+// What a fault becomes, each in turn, and the number of the error, 0 where there is none.
+fn answer_at(at: u8) -> (Result<(), Error>, u8) {
+    match at {
+        0 => (Err(Error::config(Fault::OutOfRange)), 1),
+        1 => (Err(Error::encode(Fault::OutOfRange)), 11),
+        2 => (Err(Error::decode(Fault::OutOfRange)), 12),
+        3 => (Err(Error::config(Fault::OutOfMemory)), 18),
+        4 => (Err(Error::encode(Fault::OutOfMemory)), 18),
+        5 => (Err(Error::decode(Fault::OutOfMemory)), 18),
+        6 => (Err(Error::protocol(UStr::from_static("x"))), 5),
+        7 => (passed_on(refusal(ErrorKind::Other)), 3),
+        8 => (passed_on(IoFault::Other), 4),
+        9 => (passed_on(Fault::UnexpectedNull), 11),
+        10 => (passed_on(Fault::OutOfMemory), 18),
+        11 => (passed_on(OutOfMemory), 18),
+        12 => (passed_on(AllocError), 18),
+        _ => (Ok(()), 0),
+    }
+}
+
 #[test]
 fn wraps_each_fault_but_want_of_memory(rt: HostRuntime) -> Result<(), Fail> {
-    for (answer, number) in [
-        (Err(Error::config(Fault::OutOfRange)), 1),
-        (Err(Error::encode(Fault::OutOfRange)), 11),
-        (Err(Error::decode(Fault::OutOfRange)), 12),
-        (Err(Error::config(Fault::OutOfMemory)), 18),
-        (Err(Error::encode(Fault::OutOfMemory)), 18),
-        (Err(Error::decode(Fault::OutOfMemory)), 18),
-        (Err(Error::protocol(UStr::from_static("x"))), 5),
-        (passed_on(refusal(ErrorKind::Other)), 3),
-        (passed_on(IoFault::Other), 4),
-        (passed_on(Fault::UnexpectedNull), 11),
-        (passed_on(Fault::OutOfMemory), 18),
-        (passed_on(OutOfMemory), 18),
-        (passed_on(AllocError), 18),
-        (Ok(()), 0),
-    ] {
+    for at in 0..14 {
+        let (answer, number) = answer_at(at);
         assert_eq!(rt; number_of(answer), number);
     }
     Ok(())

@@ -33,7 +33,7 @@ fn records_what_the_settings_ask_for(rt: HostRuntime) -> Result<(), Fail> {
     let mut own = LogSettings::default();
     own.log_statements(LevelFilter::Off);
     own.log_slow_statements(LevelFilter::Info, 5);
-    for (settings, sql, nanos, want) in [
+    for (settings, sql, nanos, want) in &[
         (
             first,
             SELECT,
@@ -50,7 +50,7 @@ fn records_what_the_settings_ask_for(rt: HostRuntime) -> Result<(), Fail> {
         (own, "COMMIT", 3, "off"),
         (own, "COMMIT", 12, "INFO true 5|COMMIT|"),
     ] {
-        assert_eq!(rt; told(rt.alloc(), settings, sql, nanos)?.as_str(), want);
+        assert_eq!(rt; told(rt.alloc(), *settings, sql, *nanos)?.as_str(), *want);
     }
     Ok(())
 }
@@ -76,13 +76,13 @@ fn counts_rows(rt: HostRuntime) -> Result<(), Fail> {
 
 #[test]
 fn summary_has_four_words(rt: HostRuntime) -> Result<(), Fail> {
-    for (sql, want) in [
+    for (sql, want) in &[
         (SELECT, "SELECT id, name FROM"),
         ("COMMIT", "COMMIT"),
         ("  a\tb  ", "a b"),
         ("", ""),
     ] {
-        assert_eq!(rt; parse_query_summary(rt.alloc(), sql)?.as_str(), want);
+        assert_eq!(rt; parse_query_summary(rt.alloc(), sql)?.as_str(), *want);
     }
     Ok(())
 }

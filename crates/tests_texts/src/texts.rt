@@ -71,21 +71,21 @@ fn orders_and_parts_texts(rt: HostRuntime) -> Result<(), Fail> {
 #[test]
 fn strips_a_prefix(rt: HostRuntime) -> Result<(), Fail> {
     let text = UStr::from_static("abc");
-    for (prefix, rest) in [
+    for (prefix, rest) in &[
         ("", Some("abc")),
         ("ab", Some("c")),
         ("b", None),
         ("abcd", None),
     ] {
         let found = UStr::strip_prefix(rt.alloc(), &text, prefix)?;
-        assert_eq!(rt; found.as_ref().map(|found| found.as_str()), rest);
+        assert_eq!(rt; found.as_ref().map(|found| found.as_str()), *rest);
     }
     Ok(())
 }
 
 #[test]
 fn names_each_kind(rt: HostRuntime) -> Result<(), Fail> {
-    for (kind, name, whole) in [
+    for (kind, name, whole) in &[
         (AnyTypeInfoKind::Null, "NULL", false),
         (AnyTypeInfoKind::Bool, "BOOLEAN", false),
         (AnyTypeInfoKind::SmallInt, "SMALLINT", true),
@@ -95,7 +95,7 @@ fn names_each_kind(rt: HostRuntime) -> Result<(), Fail> {
         (AnyTypeInfoKind::Blob, "BLOB", false),
     ] {
         let shown = format!(in rt.alloc(); "{kind}")?;
-        assert_eq!(rt; (shown.as_str(), kind.is_integer()), (name, whole));
+        assert_eq!(rt; (shown.as_str(), kind.is_integer()), (*name, *whole));
     }
     Ok(())
 }
