@@ -80,6 +80,52 @@ fn is_back(returned: Returned<u32>) -> bool {
     matches!(returned, Returned::Kept)
 }
 
+// The number of the ticket, and what its poll comes to.
+fn served(
+    alloc: Global,
+    core: &mut PoolCore<u32>,
+    client: u32,
+    asked: Moment,
+    polled: Moment,
+) -> Result<(u64, u64), Error> {
+    let ticket = core.ask(alloc, asked, client)?;
+    let lent = lent_of(core.poll_with(alloc, client, ticket, polled, &(), &mut Yes));
+    Ok((ticket, lent))
+}
+
+fn borrowed(id: u64, created: Moment) -> Lent<u32> {
+    Lent {
+        id,
+        created,
+        raw: 7,
+    }
+}
+
+// A connection that is opened, given back, and lent again behind a test.
+fn lends_twice(alloc: Global, core: &mut PoolCore<u32>) -> Result<[u64; 5], Error> {
+    let (first, opened) = served(alloc, core, 4, Moment(1), Moment(2))?;
+    let kept = is_kept(core.give(4, borrowed(opened, Moment(2)), Moment(3), true));
+    let (second, tested) = served(alloc, core, 5, Moment(4), Moment(5))?;
+    Ok([first, opened, u64::from(kept), second, tested])
+}
+
+// The minimum that is kept, an idle connection that is lent past the line, a ticket that is cancelled, and a return.
+fn keeps_and_cancels(alloc: Global, core: &mut PoolCore<u32>) -> Result<[u64; 6], Error> {
+    let filled = core.keep_minimum(alloc, Moment(6), &(), &mut Yes);
+    let past = core.try_acquire(Moment(7), 6).is_some();
+    let third = core.ask(alloc, Moment(8), 6)?;
+    let cancelled = core.cancel(6, third);
+    let back = is_back(core.give_with(6, borrowed(2, Moment(7)), Moment(9), &mut Yes));
+    Ok([
+        u64::from(filled.opened),
+        u64::from(filled.short),
+        u64::from(past),
+        third,
+        u64::from(cancelled),
+        u64::from(back),
+    ])
+}
+
 #[test]
 fn each_call_succeeds(rt: HostRuntime) -> Result<(), Fail> {
     let alloc = rt.alloc();
@@ -89,43 +135,8 @@ fn each_call_succeeds(rt: HostRuntime) -> Result<(), Fail> {
         .after_connect(true)
         .before_acquire(true);
     let mut core = PoolCore::<u32>::new(alloc, options)?;
-    let mut out = Yes;
-    let first = core.ask(alloc, Moment(1), 4)?;
-    let opened = lent_of(core.poll_with(alloc, 4, first, Moment(2), &(), &mut out));
-    let lent = Lent {
-        id: opened,
-        created: Moment(2),
-        raw: 7,
-    };
-    let kept = is_kept(core.give(4, lent, Moment(3), true));
-    let second = core.ask(alloc, Moment(4), 5)?;
-    let tested = lent_of(core.poll_with(alloc, 5, second, Moment(5), &(), &mut out));
-    let filled = core.keep_minimum(alloc, Moment(6), &(), &mut out);
-    let past = core.try_acquire(Moment(7), 6).is_some();
-    let third = core.ask(alloc, Moment(8), 6)?;
-    let cancelled = core.cancel(6, third);
-    let borrowed = Lent {
-        id: 2,
-        created: Moment(7),
-        raw: 7,
-    };
-    let back = is_back(core.give_with(6, borrowed, Moment(9), &mut out));
-    for (got, want) in [
-        (first, 1),
-        (opened, 1),
-        (u64::from(kept), 1),
-        (second, 2),
-        (tested, 1),
-        (u64::from(filled.opened), 1),
-        (u64::from(filled.short), 0),
-        (u64::from(past), 1),
-        (third, 3),
-        (u64::from(cancelled), 1),
-        (u64::from(back), 1),
-        (core.num_idle() as u64, 1),
-        (u64::from(core.size()), 2),
-    ] {
-        assert_eq!(rt; got, want);
-    }
+    assert_eq!(rt; lends_twice(alloc, &mut core)?, [1, 1, 1, 2, 1]);
+    assert_eq!(rt; keeps_and_cancels(alloc, &mut core)?, [1, 0, 1, 3, 1, 1]);
+    assert_eq!(rt; (core.num_idle(), core.size()), (1, 2));
     Ok(())
 }
