@@ -4,9 +4,10 @@ use Rattle.sqlx_numbered.proofs.notes.stands_at.Goals as goal
 
 pub returns-in-Some-Some-clause-yes : goal.returns-in-Some-Some-clause-yes
 returns-in-Some-Some-clause-yes g c = λ equal none.
+    let same : (x : g.row.T.Denot) → c.in-Some-Some.field-0.now ≡ Some x → g.N.Numbering.number x ≡ c.args.number = λ x is. cc (eqb-true _ _ equal) in
     let found = c.in-Some-Some.ensures.lookup in
     let there = slice_get_read _ _ c.args.place _ refl (ltb-true _ _ (sym found.0)) found.1 ∙ ap Some c.in-Some-Some.field-0-is in
-    record { thing = c.in-Some-Some.thing; stands = there; is = sym (eqb-true _ _ equal ∙ c.number.ensures); first = none }
+    record { thing = c.in-Some-Some.thing; stands = there; is = same _ c.in-Some-Some.field-0-is; first = none }
 
 pub returns-in-Some-Some-clause-no : goal.returns-in-Some-Some-clause-no
 returns-in-Some-Some-clause-no g c = λ no x at.
