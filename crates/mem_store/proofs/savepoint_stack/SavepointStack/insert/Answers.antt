@@ -23,3 +23,12 @@ invariant_of-self-2 c =
     let one : length c.push_front_reserved.new.self.items ≡ suc (length c.self.inside.changes.items) = ap length items in
     let here : c.self.inside.unnoted + length c.self.inside.changes.items ≡ c.undo_len.result = ap (λ (k : SavepointStack). k.undo.len) c.self.view_is ∙ sym c.undo_len.ensures in
     (noted-marked _ c.self.inside.changes.items c.push_front_reserved.new.self.items c.self.inside.saved.items items c.self.invariant.0, omega (arith, one, here, c.if-undo_len.false, c.self.invariant.1))
+
+pub invariant_of-self-in_err-make_room : goal.invariant_of-self-in_err-make_room
+invariant_of-self-in_err-make_room c = rw c.make_room.ensures.items c.self.invariant
+
+pub invariant_of-self-in_err-before : goal.invariant_of-self-in_err-before
+invariant_of-self-in_err-before c = rw c.make_room.ensures.items c.self.invariant
+
+pub push_front_reserved-requires : goal.push_front_reserved-requires
+push_front_reserved-requires c = c.in_ok-make_room.ensures.room
