@@ -4,7 +4,7 @@ use Rattle.sqlx_log.specs.declared.mark.Mark.TheVariants.{Asked}
 use Rattle.sqlx_line.specs.Line.{ComesLast}
 use Rattle.sqlx_pool_core.specs.Sound.{IsSound}
 use Rattle.sqlx_pool_core.specs.KeptLine.{IsNearlyLined}
-use Rattle.sqlx_pool_core.proofs.Alone.{ask-alone}
+use Rattle.sqlx_pool_core.proofs.Alone.{ask-alone, ask-moves-alone}
 use Rattle.sqlx_pool_core.proofs.KeptLine.{comes-last}
 use Rattle.sqlx_pool_core.proofs.LineSteps.{taken-back, asked-nearly, lone-back, has-joined}
 use Rattle.sqlx_pool_core.proofs.Looks.{looks-asked, looks-once}
@@ -37,6 +37,10 @@ serve-requires g c = record {
 pub returns-clause-makes : goal.returns-clause-makes
 returns-clause-makes g c =
     ask-alone _ _ _ c.self.view_is {E = Error} (λ t d. Asked t c.args.client d ∷ []) c.moment-moment.result.0 c.args.now.0 (Ok c.in-Ok.ticket) c.moment-moment.ensures c.self.invariant.alone c.sound-2.ensures c.in-Ok.ensures.stays c.in-Ok.ensures.draws c.in-Ok.ensures.makes
+
+pub returns-clause-balance : goal.returns-clause-balance
+returns-clause-balance g c =
+    ask-moves-alone _ _ _ c.self.view_is {E = Error} (λ t d. Asked t c.args.client d ∷ []) c.moment-moment.result.0 c.args.now.0 (Ok c.in-Ok.ticket) c.moment-moment.ensures c.in-Ok.ensures.balance
 
 pub returns-clause-cost : goal.returns-clause-cost
 returns-clause-cost g c =

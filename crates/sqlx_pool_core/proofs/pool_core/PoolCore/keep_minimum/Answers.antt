@@ -1,6 +1,6 @@
-use Rattle.std.proofs.Common.{◌≡◌, ◌+◌, max, ℕ, Bool, true, [], ◌∷◌, None, Option, refl, sym, ap, ◌∙◌, subst, arith, inl, inr}
+use Rattle.std.proofs.Common.{◌≡◌, ◌+◌, ◌≤◌, max, ℕ, Bool, true, false, [], ◌∷◌, None, Option, refl, sym, ap, ◌∙◌, subst, arith, inl, inr}
 use Rattle.sqlx_pool_core.specs.Core.{Core}
-use Rattle.sqlx_pool_core.specs.MaintenanceSteps.{done, done_marks, placed}
+use Rattle.sqlx_pool_core.specs.MaintenanceSteps.{done, done_marks, placed, has_place}
 use Rattle.sqlx_pool_core.specs.declared.options.PoolOptions.{PoolOptions}
 use Rattle.sqlx_pool_core.specs.declared.idle_check.Opening.{Opening}
 use Rattle.sqlx_pool_core.specs.declared.idle_check.Opening.TheVariants.{Opened, Rejected, Transient, Failed}
@@ -12,11 +12,56 @@ use Rattle.sqlx_pool_core.proofs.CallsKeep.{minimum-more}
 use Rattle.sqlx_pool_core.proofs.KeepRuns.{kept-so, kept-place}
 use Rattle.sqlx_pool_core.proofs.KeepEnds.{kept-ends, kept-short}
 use Rattle.sqlx_pool_core.proofs.Maintenance.{step-marked, step-unmarked, before-more, keeps-ended, place-open, place-room, filled-size, filled-options}
+use Rattle.sqlx_pool_core.proofs.MaintenanceAtMarks.{lacks-at}
 use Rattle.sqlx_pool_core.proofs.pool_core.PoolCore.keep_minimum.Goals as goal
 
 -- a place that was held, and what became of it
 step : {C : Type 0} (now : ℕ) (o : Opening C) (core mid next : Core C) → mid ≡ placed true core → next ≡ done mid.shut (max mid.last now) (raw_of o) mid → next ≡ filled now o core
 step {C} now o core mid next held is = is ∙ ap (λ (c : Core C). done c.shut (max c.last now) (raw_of o) c) held
+
+-- a place was held in a core
+held_place : {C : Type 0} (core mid : Core C) → mid ≡ placed true core → 1 ≤ mid.places
+held_place core mid held = let e = ap (λ (c : Core _). c.places) held in omega (arith, e)
+
+still_open : {C : Type 0} (core mid : Core C) → mid ≡ placed true core → has_place core.options.min_connections core ≡ true → mid.shut ≡ false
+still_open core mid held place = ap (λ (c : Core _). c.shut) held ∙ place-open core place
+
+pub fill-requires-clause-place : goal.fill-requires-clause-place
+fill-requires-clause-place g c = held_place c.places.self c.minimum_place.new.self c.places-test.ensures.becomes
+
+pub fill-requires-clause-open : goal.fill-requires-clause-open
+fill-requires-clause-open g c = still_open c.places.self c.minimum_place.new.self c.places-test.ensures.becomes (sym c.places-test.ensures.answer)
+
+pub fill-requires-in-Rejected-clause-place : goal.fill-requires-in-Rejected-clause-place
+fill-requires-in-Rejected-clause-place g c = held_place c.places.self c.minimum_place.new.self c.places-test.ensures.becomes
+
+pub fill-requires-in-Rejected-clause-open : goal.fill-requires-in-Rejected-clause-open
+fill-requires-in-Rejected-clause-open g c = still_open c.places.self c.minimum_place.new.self c.places-test.ensures.becomes (sym c.places-test.ensures.answer)
+
+pub fill-requires-in-Failed-clause-place : goal.fill-requires-in-Failed-clause-place
+fill-requires-in-Failed-clause-place g c = held_place c.places.self c.minimum_place.new.self c.places-test.ensures.becomes
+
+pub fill-requires-in-Failed-clause-open : goal.fill-requires-in-Failed-clause-open
+fill-requires-in-Failed-clause-open g c = still_open c.places.self c.minimum_place.new.self c.places-test.ensures.becomes (sym c.places-test.ensures.answer)
+
+pub returns-in-Rejected-clause-lacks : goal.returns-in-Rejected-clause-lacks
+returns-in-Rejected-clause-lacks g c = λ marks s. lacks-at c.args.self.now marks s
+
+pub returns-in-Failed-clause-lacks : goal.returns-in-Failed-clause-lacks
+returns-in-Failed-clause-lacks g c = λ marks s. lacks-at c.args.self.now marks s
+
+pub returns-clause-lacks : goal.returns-clause-lacks
+returns-clause-lacks g c = λ marks s. lacks-at c.args.self.now marks s
+
+pub places-smaller : goal.places-smaller
+places-smaller g c =
+    let core = c.places.self in
+    let place = sym c.places-test.ensures.answer in
+    let becomes = step c.args.now.0 (Opened c.in-Opened.raw) core c.minimum_place.new.self c.fill.new.self c.places-test.ensures.becomes c.fill.ensures.becomes in
+    let same = ap (λ (o : PoolOptions). o.max_connections) (filled-options c.args.now.0 c.in-Opened.raw core c.fill.new.self becomes (place-open core place)) in
+    let grown = filled-size c.args.now.0 c.in-Opened.raw core c.fill.new.self becomes (place-open core place) in
+    let room = place-room core place in
+    omega (arith, same, grown, room)
 
 pub overflow_add-opened : goal.overflow_add-opened
 overflow_add-opened g c =

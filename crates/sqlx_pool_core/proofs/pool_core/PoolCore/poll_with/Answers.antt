@@ -62,6 +62,24 @@ returns-in-Test-clause-cause g c = polls-cause g.X.Outside.does g.X.Outside.dept
 pub returns-in-Connect-clause-cause : goal.returns-in-Connect-clause-cause
 returns-in-Connect-clause-cause g c = polls-cause g.X.Outside.does g.X.Outside.depth g.X.Outside.faults g.X.Outside.refusals g.X.Outside.IsShort g.met.X.Outside.facts _ _ _ _ _ _ _ _ _ (returns-in-Connect-clause-polls g c)
 
+pub returns-in-NotHeld-clause-turn : goal.returns-in-NotHeld-clause-turn
+returns-in-NotHeld-clause-turn g c = λ marks s. core_turn-stands c.args.self.now marks s c.args.client c.args.ticket (max c.args.self.now.last c.args.now.0)
+
+pub returns-in-Closed-clause-turn : goal.returns-in-Closed-clause-turn
+returns-in-Closed-clause-turn g c = λ marks s. core_turn-stands c.args.self.now marks s c.args.client c.args.ticket (max c.args.self.now.last c.args.now.0)
+
+pub returns-in-TimedOut-clause-turn : goal.returns-in-TimedOut-clause-turn
+returns-in-TimedOut-clause-turn g c = λ marks s. core_turn-stands c.args.self.now marks s c.args.client c.args.ticket (max c.args.self.now.last c.args.now.0)
+
+pub returns-in-Exhausted-clause-turn : goal.returns-in-Exhausted-clause-turn
+returns-in-Exhausted-clause-turn g c = λ marks s. core_turn-stands c.args.self.now marks s c.args.client c.args.ticket (max c.args.self.now.last c.args.now.0)
+
+pub returns-in-Test-clause-turn : goal.returns-in-Test-clause-turn
+returns-in-Test-clause-turn g c = λ marks s. core_turn-stands c.args.self.now marks s c.args.client c.args.ticket (max c.args.self.now.last c.args.now.0)
+
+pub returns-in-Connect-clause-turn : goal.returns-in-Connect-clause-turn
+returns-in-Connect-clause-turn g c = λ marks s. core_turn-stands c.args.self.now marks s c.args.client c.args.ticket (max c.args.self.now.last c.args.now.0)
+
 pub returns-in-Waiting-clause-turn : goal.returns-in-Waiting-clause-turn
 returns-in-Waiting-clause-turn g c = λ marks s. core_turn-stands c.args.self.now marks s c.args.client c.args.ticket (max c.args.self.now.last c.args.now.0)
 
