@@ -32,6 +32,12 @@ returns-in-Detach-clause-ok g c = plays-event _ _ c.args.event.now _ _ c.in-Deta
 pub returns-in-Leak-clause-ok : goal.returns-in-Leak-clause-ok
 returns-in-Leak-clause-ok g c = plays-event _ _ c.args.event.now _ _ c.in-Leak.is c.leak.ensures.ok
 
+pub returns-in-Close-clause-ok : goal.returns-in-Close-clause-ok
+returns-in-Close-clause-ok g c = plays-event _ _ c.args.event.now _ (Ok c.close.result) c.in-Close.is c.close.ensures.ok
+
+pub returns-in-CloseState-clause-ok : goal.returns-in-CloseState-clause-ok
+returns-in-CloseState-clause-ok g c = plays-event _ _ c.args.event.now _ (Ok c.closed.result) c.in-CloseState.is c.closed.ensures
+
 pub returns-in-Ask-clause-frame : goal.returns-in-Ask-clause-frame
 returns-in-Ask-clause-frame g c = frames-event _ _ c.args.event.now _ _ c.in-Ask.is c.ask.ensures.frame
 
