@@ -91,3 +91,6 @@ returns-in_default-clause-becomes g c =
     let i = c.self.inside in
     let none = rw c.in_default.is at c.find_place.ensures.none in
     rw (← c.self.view_is) (ap (λ ks. line_of ks i.edge i.moves) (sym (all-others (λ m. m) c.args.ticket i.places.items none) ∙ others c.args.ticket (things_at i.places.items)))
+
+pub returns-in-Some-clause-cost : goal.returns-in-Some-clause-cost
+returns-in-Some-clause-cost g c = c.tick.ensures
