@@ -1,4 +1,4 @@
-use Rattle.std.proofs.Common.{◌≡◌, ◌∙◌, ◌++◌, [], ap, arith, length, take, drop, length-append}
+use Rattle.std.proofs.Common.{◌∙◌, ◌++◌, ap, arith, length, take, drop, length-append}
 use Rattle.std.proofs.Math.Seq.{take-length, drop-length}
 use Rattle.sqlx_pool_core.proofs.idle_list.IdleList.take_all.Goals as goal
 

@@ -1,10 +1,7 @@
-use Rattle.std.proofs.Common.{Bool, true, false, List, refl, sym, ap, subst, ◌≡◌, ◌∙◌}
-use Rattle.sqlx_log.specs.declared.mark.Mark.{Mark}
+use Rattle.std.proofs.Common.{Bool, true, false, refl, sym, ap, subst, ◌≡◌, ◌∙◌}
 use Rattle.sqlx_line.specs.Line.{TicketLine}
 use Rattle.sqlx_pool_core.specs.Core.{Core}
-use Rattle.sqlx_pool_core.specs.Sound.{IsSound}
-use Rattle.sqlx_pool_core.specs.Numbers.{Draws}
-use Rattle.sqlx_pool_core.specs.KeptLine.{IsLined, IsLone}
+use Rattle.sqlx_pool_core.specs.KeptLine.{IsLined}
 use Rattle.sqlx_pool_core.specs.MaintenanceSteps.{close_answer, close_marks, closed_from}
 use Rattle.sqlx_pool_core.proofs.Alone.{alone-closed, close-alone, moves-alone}
 use Rattle.sqlx_pool_core.proofs.MaintenanceAtMarks.{close-at}
