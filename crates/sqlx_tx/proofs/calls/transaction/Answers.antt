@@ -1,5 +1,8 @@
-use Rattle.std.proofs.Common.{inr}
+use Rattle.std.proofs.Common.{arith, inr}
 use Rattle.sqlx_tx.proofs.calls.transaction.Goals as goal
+
+pub returns-clause-levels : goal.returns-clause-levels
+returns-clause-levels g c = omega (arith, c.in_default.ensures.ok)
 
 pub returns-clause-transacts : goal.returns-clause-transacts
 returns-clause-transacts g c =

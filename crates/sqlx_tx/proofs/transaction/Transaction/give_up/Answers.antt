@@ -1,0 +1,7 @@
+use Rattle.sqlx_tx.proofs.transaction.Transaction.give_up.Goals as goal
+
+pub returns-clause-levels : goal.returns-clause-levels
+returns-clause-levels g c = rw (g.met.H.Hold.puts, ← c.take_apart-holder.ensures, ← c.conn_mut.ensures.value) assumption
+
+pub returns-clause-does : goal.returns-clause-does
+returns-clause-does g c = rw (g.met.H.Hold.puts, ← c.take_apart-holder.ensures, ← c.conn_mut.ensures.value) assumption
