@@ -15,7 +15,10 @@ impl<DB: Database, A: FromColumn<DB>> FromRow<DB> for (A,) {
     ghost made = { λ row. Then (A.column 0 row) λ a. Gives (record { 0 = a }) };
 
     fn from_row(alloc: Global, row: &DB::Row) -> Result<Self, Error> {
-        Ok((A::from_column(alloc, row, 0)?,))
+        match A::from_column(alloc, row, 0) {
+            Ok(first) => Ok((first,)),
+            Err(refusal) => Err(refusal),
+        }
     }
 }
 
