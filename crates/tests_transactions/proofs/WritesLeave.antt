@@ -5,6 +5,7 @@ use Rattle.sqlx_savepoints.specs.Rows.{Rows, Writes}
 use Rattle.sqlx_savepoints.specs.NamedSavepoints.{Entry, wrote}
 use Rattle.sqlx_text.specs.declared.fault.Fault.{Fault}
 use Rattle.sqlx_traits.specs.Handed.{Handed}
+use Rattle.sqlx_traits.specs.StepList.{Ran}
 use Rattle.sqlx_any.specs.declared.arguments.AnyArguments.{AnyArguments}
 use Rattle.sqlx_any.specs.declared.value.AnyValueKind.{AnyValueKind}
 use Rattle.sqlx_any.specs.Runs.{RunsOver, RunsArguments}
@@ -74,7 +75,16 @@ arguments_leave before text kept (Ok given) list after write ran = runs_leave be
 arguments_leave before text kept (Err fault) list after write (refused, same) = rw same refl
 
 -- the levels behind a query of the text that writes
-pub write_leaves : (before : Session) (query : Handed AnyArguments) (list : Answers) (after : Session)
+write_leaves : (before : Session) (query : Handed AnyArguments) (list : Answers) (after : Session)
     → query.text ≡ statement_text PutText → RunsOver Runs before query list after → depth after ≡ depth before
 write_leaves before query list after is (inl ran) = arguments_leave before query.text query.persistent query.arguments list after (rw is writes) ran
 write_leaves before query list after is (inr (refused, same)) = rw same refl
+
+-- the levels of a connection behind a run of the text that writes, if it ran
+pub puts_leave : {C : Type 0} (backend : C → Session) (before after : C) {text : List ℕ} → text ≡ statement_text PutText
+    → (after ≡ before) ⊎ ((arguments : AnyArguments) × Ran (λ b query list a. RunsOver Runs (backend b) query list (backend a)) before
+    (record { text = text; arguments = Ok (Some arguments); persistent = true }) after (λ _. Unit {0}))
+    → depth (backend after) ≡ depth (backend before)
+puts_leave backend before after is (inl same) = rw same refl
+puts_leave backend before after {text = text} is (inr (arguments, ran)) =
+    write_leaves (backend before) (record { text = text; arguments = Ok (Some arguments); persistent = true }) ran.0 (backend after) is ran.1

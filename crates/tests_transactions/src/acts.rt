@@ -1,21 +1,18 @@
 //! What is done on a connection in levels, over any database.
 
-use crate::callers::{Level, begins, commits, pings_within, tries, writes};
-use crate::levels::{Ends, nests};
-use crate::within::{Answers, outer};
+use crate::callers::{begins, commits, pings_within, tried, tries, writes};
+use crate::levels::{By, End, nests};
 use crate::writes::Writes;
-use sqlx_any::{Any, AnyConnection, AnyConnectionBackend, Database};
+use sqlx_any::{Database, Executor};
 use sqlx_text::{Error, OutOfMemory, SqlStr};
-use sqlx_tx::{Borrowed, calls};
+use sqlx_tx::{Borrowed, Hold, calls};
 use std::alloc::Global;
 
 /// What is done.
 #[derive(Clone, Copy)]
 pub enum Act {
     /// Writes in three levels, each within the one before it, and ends them.
-    Nest(Ends),
-    /// Writes in three calls, each within the one before it, in levels of their own.
-    Call([Answers; 3]),
+    Nest(By, [End; 3]),
     /// Writes a value.
     Write(i64),
     /// Begins a level, and leaves it open.
@@ -35,21 +32,25 @@ pub enum Act {
 }
 
 /// Does it all in turn, and writes each answer in a word behind the line.
-pub fn perform<B: AnyConnectionBackend, W: Writes<Any<B>>>(
+pub fn perform<DB: Database, W: Writes<DB>>(
     alloc: Global,
-    conn: &mut AnyConnection<B>,
+    conn: &mut DB::Connection,
     acts: &[Act],
     line: &mut String,
-) -> Result<(), OutOfMemory> {
+) -> Result<(), OutOfMemory>
+where
+    DB::Connection: Executor<DB>,
+{
     for act in acts {
-        let answer = match *act {
-            Act::Run(text) => writes::<B>(alloc, conn, text),
-            act => answered::<Any<B>, W>(alloc, conn, act),
-        };
-        line.push_str(word(answer))?;
-        line.push('|')?;
+        let answer = answered::<DB, W>(alloc, conn, act);
+        tell(line, word(answer))?;
     }
     Ok(())
+}
+
+fn tell(line: &mut String, word: &str) -> Result<(), OutOfMemory> {
+    line.push_str(word)?;
+    Ok(line.push('|')?)
 }
 
 // An answer in a word.
@@ -69,12 +70,22 @@ fn word(answer: Result<(), Error>) -> &'static str {
 fn answered<DB: Database, W: Writes<DB>>(
     alloc: Global,
     conn: &mut DB::Connection,
-    act: Act,
-) -> Result<(), Error> {
+    act: &Act,
+) -> Result<(), Error>
+where
+    DB::Connection: Executor<DB>,
+{
     match act {
-        Act::Nest(ends) => nests::<DB, W>(alloc, conn, ends),
-        Act::Call(answers) => outer::<DB, W>(alloc, conn, answers),
-        Act::Write(value) => W::write(alloc, conn, value),
+        Act::Nest(by, ends) => nests::<DB, W>(alloc, conn, *by, *ends),
+        Act::Write(value) => W::write(alloc, conn, *value),
+        Act::Run(text) => writes::<DB>(alloc, conn, text),
+        act => begun::<DB>(alloc, conn, act),
+    }
+}
+
+// Begins a level, or does something in one.
+fn begun<DB: Database>(alloc: Global, conn: &mut DB::Connection, act: &Act) -> Result<(), Error> {
+    match act {
         Act::Begin => begins::<DB>(alloc, conn),
         Act::BeginBy(text) => begins_by::<DB>(alloc, conn, text),
         Act::BeginWith(text) => begins_with::<DB>(alloc, conn, text),
@@ -84,7 +95,7 @@ fn answered<DB: Database, W: Writes<DB>>(
 }
 
 // What is done in a level that was left open.
-fn within<DB: Database>(alloc: Global, conn: &mut DB::Connection, act: Act) -> Result<(), Error> {
+fn within<DB: Database>(alloc: Global, conn: &mut DB::Connection, act: &Act) -> Result<(), Error> {
     if !calls::is_in_transaction::<DB>(conn) {
         return Err(Error::NotHeld);
     }
@@ -100,26 +111,23 @@ fn begins_by<DB: Database>(
     conn: &mut DB::Connection,
     text: &'static str,
 ) -> Result<(), Error> {
-    match Level::<'_, DB>::begin(alloc, Borrowed(conn), Some(SqlStr::from_static(text))) {
-        Ok(level) => {
-            let Borrowed(_conn) = level.give_up();
-            Ok(())
-        }
-        Err(refused) => {
-            let (error, holder) = refused;
-            let Borrowed(_conn) = holder;
-            Err(error)
-        }
-    }
+    let text = Some(SqlStr::from_static(text));
+    let (holder, answer) = tried::<DB, Borrowed<'_, DB>>(alloc, Borrowed(conn), text);
+    let Borrowed(_conn) = holder;
+    answer
 }
 
-// The same by a call, and the level stays open.
+// Begins a level by a text in a call, and it stays open.
 fn begins_with<DB: Database>(
     alloc: Global,
     conn: &mut DB::Connection,
     text: &'static str,
 ) -> Result<(), Error> {
-    let level = calls::begin_with::<DB>(alloc, conn, SqlStr::from_static(text))?;
-    let Borrowed(_conn) = level.keep_open();
-    Ok(())
+    match calls::begin_with::<DB>(alloc, conn, SqlStr::from_static(text)) {
+        Ok(level) => {
+            let Borrowed(_conn) = level.keep_open();
+            Ok(())
+        }
+        Err(error) => Err(error),
+    }
 }

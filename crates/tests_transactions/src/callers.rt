@@ -2,8 +2,9 @@
 ghost use Rattle.std.specs.Prelude.{◌≡◌, ◌+◌, ◌-◌, ◌<◌, Ok, None, OnOk};
 ghost use Rattle.sqlx_traits.specs.Calls as call;
 
-use sqlx_any::{Any, AnyConnection, AnyConnectionBackend, Connection, Database, Executor};
-use sqlx_text::Error;
+use crate::levels::{End, both, ended};
+use sqlx_any::{Connection, Database, Executor};
+use sqlx_text::{Error, SqlStr};
 use sqlx_tx::{Borrowed, Hold, Transaction, calls};
 use std::alloc::Global;
 
@@ -11,25 +12,70 @@ use std::alloc::Global;
 pub type Level<'c, DB> = Transaction<DB, Borrowed<'c, DB>>;
 
 /// Runs a text in a level of its own, which is kept where it works and given up where it is refused.
-pub fn writes<B: AnyConnectionBackend>(
+pub fn writes<DB: Database>(
     alloc: Global,
-    conn: &mut AnyConnection<B>,
+    conn: &mut DB::Connection,
     text: &'static str,
+) -> Result<(), Error>
+where
+    DB::Connection: Executor<DB>,
+{
+    match calls::begin::<DB>(alloc, conn) {
+        Ok(level) => {
+            let text = SqlStr::from_static(text);
+            let (holder, answer) = written::<DB, Borrowed<'_, DB>>(alloc, level, text);
+            let Borrowed(_conn) = holder;
+            answer
+        }
+        Err(error) => Err(error),
+    }
+}
+
+// The same in a level that was begun.
+fn written<DB: Database, H: Hold<DB>>(
+    alloc: Global,
+    level: Transaction<DB, H>,
+    text: SqlStr,
+) -> (H, Result<(), Error>)
+where
+    DB::Connection: Executor<DB>,
+{
+    let mut level = level;
+    let written = runs::<DB, DB::Connection>(alloc, level.as_mut(), text);
+    let end = if written.is_ok() {
+        End::Commit
+    } else {
+        End::GiveUp
+    };
+    let (holder, answer) = ends(alloc, level, end);
+    (holder, both(written, answer))
+}
+
+fn runs<DB: Database, E: Executor<DB>>(
+    alloc: Global,
+    conn: &mut E,
+    text: SqlStr,
 ) -> Result<(), Error> {
-    let mut level = calls::begin::<Any<B>>(alloc, conn)?;
-    let written = level.as_mut().execute(alloc, text);
-    if !calls::is_in_transaction::<Any<B>>(level.as_ref()) {
-        drop(written);
-        let Borrowed(_conn) = level.into_holder();
-        return Err(Error::BeginFailed);
+    match conn.execute(alloc, text) {
+        Ok(written) => {
+            drop(written);
+            Ok(())
+        }
+        Err(error) => Err(error),
     }
-    if let Err(error) = written {
-        let Borrowed(_conn) = level.give_up();
-        return Err(error);
+}
+
+// Ends a level, if what ran in it left it open.
+fn ends<DB: Database, H: Hold<DB>>(
+    alloc: Global,
+    level: Transaction<DB, H>,
+    end: End,
+) -> (H, Result<(), Error>) {
+    if calls::is_in_transaction::<DB>(level.as_ref()) {
+        ended(alloc, level, end)
+    } else {
+        (level.into_holder(), Err(Error::BeginFailed))
     }
-    let (holder, answer) = level.commit(alloc);
-    let Borrowed(_conn) = holder;
-    answer
 }
 
 /// Asks for a sign of life in a level that is kept where it comes. It leaves the levels in every case.
@@ -76,6 +122,23 @@ pub fn tries<DB: Database>(alloc: Global, conn: &mut DB::Connection) -> Result<(
             let (error, outer) = refused;
             let Borrowed(_conn) = outer.keep_open();
             Err(error)
+        }
+    }
+}
+
+/// Opens a level over whatever holds the connection, by a text where one is given, and gives it up.
+pub fn tried<DB: Database, H: Hold<DB>>(
+    alloc: Global,
+    outer: H,
+    text: Option<SqlStr>,
+) -> (H, Result<(), Error>)
+    ensures { DB.Connection.levels (H.held result.0) ≡ DB.Connection.levels (H.held outer) }
+{
+    match Transaction::<DB, H>::begin(alloc, outer, text) {
+        Ok(level) => (level.give_up(), Ok(())),
+        Err(refused) => {
+            let (error, outer) = refused;
+            (outer, Err(error))
         }
     }
 }

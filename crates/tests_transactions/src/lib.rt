@@ -13,6 +13,4 @@ mod tests;
 #[cfg(test)]
 mod texts;
 #[cfg(test)]
-mod within;
-#[cfg(test)]
 mod writes;

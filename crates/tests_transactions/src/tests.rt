@@ -1,22 +1,35 @@
 //! What levels leave in the database in memory.
 use crate::acts::{Act, perform};
-use crate::levels::{End, Ends};
-use crate::within::Answers;
+use crate::levels::{By, End};
 use crate::writes::KeyOne;
-use mem_driver::{Answer, MemLink, MemSession, MemStore};
+use mem_driver::{Answer, Mem, MemLink, MemSession, MemStore};
 use sqlx_any::AnyConnection;
-use sqlx_text::{Depth, Error};
+use sqlx_text::{Depth, OutOfMemory};
 use std::alloc::Global;
 use std::process::Abort;
 use std::test::*;
 
 type Conn = AnyConnection<MemSession>;
 
+// Acts on a new database, those behind `before` by statements of which the first meets the answer, and what is told.
+#[derive(Clone, Copy)]
+struct Play<'a> {
+    before: &'a [Act],
+    met: Answer,
+    acts: &'a [Act],
+    want: &'a str,
+}
+
 // A connection to a database without rows.
-fn opened(alloc: Global) -> Result<Conn, Error> {
+fn opened(alloc: Global) -> Result<Conn, OutOfMemory> {
     let mut store = MemStore::new(alloc);
-    let link = MemLink::connect(alloc, &mut store)?;
-    Ok(AnyConnection::new(MemSession::new(store, link, Answer::Accept)))
+    match MemLink::connect(alloc, &mut store) {
+        Ok(link) => Ok(AnyConnection::new(MemSession::new(store, link, Answer::Accept))),
+        Err(error) => {
+            drop(store);
+            Err(error)
+        }
+    }
 }
 
 // The same connection, whose next statement meets the answer.
@@ -25,134 +38,194 @@ fn meeting(conn: Conn, answer: Answer) -> Conn {
     AnyConnection::new(MemSession::new(store, link, answer))
 }
 
-// What is left: the value at key 1, the depth, and how many texts began and ended levels.
-fn left(alloc: Global, conn: Conn, line: &str) -> Result<String, Error> {
-    let depth = conn.depth();
-    let (store, _link) = conn.into_backend().into_parts();
-    let (value, runs) = (store.get(1), store.runs());
-    let (begun, ended) = (runs.begun, runs.ended);
-    Ok(format!(in alloc; "{line} {value:?}, depth {depth}, {begun} begun, {ended} ended")?)
-}
-
 // The connection after the acts, each of which is told behind the line.
-fn after(alloc: Global, conn: Conn, acts: &[Act], line: &mut String) -> Result<Conn, Error> {
+fn after(alloc: Global, conn: Conn, acts: &[Act], line: &mut String) -> Result<Conn, OutOfMemory> {
     let mut conn = conn;
-    let done = perform::<MemSession, KeyOne>(alloc, &mut conn, acts, line);
-    match done {
+    match perform::<Mem, KeyOne>(alloc, &mut conn, acts, line) {
         Ok(()) => Ok(conn),
         Err(error) => {
             drop(conn);
-            Err(Error::from(error))
+            Err(error)
         }
     }
 }
 
-// What is told of the acts, those behind `before` by statements of which the first meets the answer, and what is left.
-fn played(alloc: Global, before: &[Act], met: Answer, acts: &[Act]) -> Result<String, Error> {
+// What is left of a connection.
+#[derive(Clone, Copy)]
+struct Left {
+    value: Option<i64>,
+    depth: usize,
+    begun: u64,
+    ended: u64,
+}
+
+fn what_is_left(conn: Conn) -> Left {
+    let depth = conn.depth();
+    let (store, link) = conn.into_backend().into_parts();
+    drop(link);
+    let (value, runs) = (store.get(1), store.runs());
+    drop(store);
+    Left {
+        value,
+        depth,
+        begun: runs.begun,
+        ended: runs.ended,
+    }
+}
+
+// Plays it, with each act told behind the line: what is left.
+fn played(alloc: Global, play: &Play, line: &mut String) -> Result<Left, OutOfMemory> {
+    let conn = after(alloc, opened(alloc)?, play.before, line)?;
+    let conn = after(alloc, meeting(conn, play.met), play.acts, line)?;
+    Ok(what_is_left(conn))
+}
+
+// What is told of a play: each answer, the value at key 1, the depth, and how many texts began and ended levels.
+fn told(alloc: Global, play: &Play) -> Result<String, OutOfMemory> {
     let mut line = String::new(alloc);
-    let conn = after(alloc, opened(alloc)?, before, &mut line)?;
-    let conn = after(alloc, meeting(conn, met), acts, &mut line)?;
-    left(alloc, conn, &line)
+    let left = played(alloc, play, &mut line)?;
+    let (value, depth, begun, ended) = (left.value, left.depth, left.begun, left.ended);
+    let told = format!(in alloc; "{line} {value:?}, depth {depth}, {begun} begun, {ended} ended");
+    drop(line);
+    Ok(told?)
 }
 
 // Stops the test where another line is told.
-fn says<R: Alloc<A = Global> + Abort>(
-    rt: &R,
-    before: &[Act],
-    met: Answer,
-    acts: &[Act],
-    want: &str,
-) -> Result<(), Fail> {
-    let line = played(rt.alloc(), before, met, acts)?;
-    assert_eq!(rt; line.as_str(), want);
+fn says<R: Alloc<A = Global> + Abort>(rt: &R, play: &Play) -> Result<(), Fail> {
+    let line = told(rt.alloc(), play)?;
+    assert_eq!(rt; line.as_str(), play.want);
     Ok(())
 }
 
-// Stops the test where an act on a new database is told by another word, or leaves another value or an open level.
-fn leaves<R: Alloc<A = Global> + Abort>(
-    rt: &R,
-    act: Act,
-    told: &str,
-    value: Option<i64>,
-) -> Result<(), Fail> {
-    let want = format!(in rt.alloc(); "{told}| {value:?}, depth 0, 3 begun, 3 ended")?;
-    says(rt, &[], Answer::Accept, &[act], &want)
+// The same on a new database, whose statements are all accepted.
+fn tells<R: Alloc<A = Global> + Abort>(rt: &R, acts: &[Act], want: &str) -> Result<(), Fail> {
+    let play = Play {
+        before: &[],
+        met: Answer::Accept,
+        acts,
+        want,
+    };
+    says(rt, &play)
 }
+
+// An act in levels of its own, and what is told of it.
+type Row = (Act, &'static str);
+
+fn leaves<R: Alloc<A = Global> + Abort>(rt: &R, rows: &[Row]) -> Result<(), Fail> {
+    for (act, want) in rows {
+        tells(rt, &[*act], want)?;
+    }
+    Ok(())
+}
+
+const THREE_LEVELS: &[Row] = &[
+    (
+        Act::Nest(By::Values, [End::Commit, End::Commit, End::Commit]),
+        "done| Some(3), depth 0, 3 begun, 3 ended",
+    ),
+    (
+        Act::Nest(By::Values, [End::Commit, End::Commit, End::Rollback]),
+        "done| Some(2), depth 0, 3 begun, 3 ended",
+    ),
+    (
+        Act::Nest(By::Values, [End::Commit, End::Commit, End::GiveUp]),
+        "done| Some(2), depth 0, 3 begun, 3 ended",
+    ),
+    (
+        Act::Nest(By::Values, [End::Commit, End::Rollback, End::Commit]),
+        "done| Some(1), depth 0, 3 begun, 3 ended",
+    ),
+    (
+        Act::Nest(By::Values, [End::Commit, End::GiveUp, End::Commit]),
+        "done| Some(1), depth 0, 3 begun, 3 ended",
+    ),
+    (
+        Act::Nest(By::Values, [End::Rollback, End::Commit, End::Commit]),
+        "done| None, depth 0, 3 begun, 3 ended",
+    ),
+    (
+        Act::Nest(By::Values, [End::GiveUp, End::Commit, End::Commit]),
+        "done| None, depth 0, 3 begun, 3 ended",
+    ),
+];
 
 #[test]
 fn three_levels(rt: HostRuntime) -> Result<(), Fail> {
-    for (first, second, third, value) in [
-        (End::Commit, End::Commit, End::Commit, Some(3)),
-        (End::Commit, End::Commit, End::Rollback, Some(2)),
-        (End::Commit, End::Commit, End::GiveUp, Some(2)),
-        (End::Commit, End::Rollback, End::Commit, Some(1)),
-        (End::Commit, End::GiveUp, End::Commit, Some(1)),
-        (End::Rollback, End::Commit, End::Commit, None),
-        (End::GiveUp, End::Commit, End::Commit, None),
-    ] {
-        let ends = Ends {
-            first,
-            second,
-            third,
-        };
-        leaves(&rt, Act::Nest(ends), "done", value)?;
-    }
-    Ok(())
+    leaves(&rt, THREE_LEVELS)
 }
+
+const THREE_CALLS: &[Row] = &[
+    (
+        Act::Nest(By::Calls, [End::Commit, End::Commit, End::Commit]),
+        "done| Some(3), depth 0, 3 begun, 3 ended",
+    ),
+    (
+        Act::Nest(By::Calls, [End::Commit, End::Commit, End::Rollback]),
+        "done| Some(2), depth 0, 3 begun, 3 ended",
+    ),
+    (
+        Act::Nest(By::Calls, [End::Commit, End::Rollback, End::Commit]),
+        "done| Some(1), depth 0, 3 begun, 3 ended",
+    ),
+    (
+        Act::Nest(By::Calls, [End::Rollback, End::Commit, End::Commit]),
+        "not found| None, depth 0, 3 begun, 3 ended",
+    ),
+];
 
 #[test]
 fn three_calls(rt: HostRuntime) -> Result<(), Fail> {
-    for (first, second, third, told, value) in [
-        (Answers::Good, Answers::Good, Answers::Good, "done", Some(3)),
-        (Answers::Good, Answers::Good, Answers::Bad, "done", Some(2)),
-        (Answers::Good, Answers::Bad, Answers::Good, "done", Some(1)),
-        (
-            Answers::Bad,
-            Answers::Good,
-            Answers::Good,
-            "not found",
-            None,
-        ),
-    ] {
-        leaves(&rt, Act::Call([first, second, third]), told, value)?;
-    }
-    Ok(())
+    leaves(&rt, THREE_CALLS)
 }
 
 const BEGUN: &[Act] = &[Act::Begin, Act::Write(5)];
 
-#[test]
-fn a_commit_of_a_level_that_was_kept_open(rt: HostRuntime) -> Result<(), Fail> {
-    for (met, want) in [
-        (
-            Answer::Accept,
-            "done|done|done| Some(5), depth 0, 1 begun, 1 ended",
-        ),
-        (
-            Answer::Refuse,
-            "done|done|refused| None, depth 0, 1 begun, 1 ended",
-        ),
-    ] {
-        says(&rt, BEGUN, met, &[Act::Commit], want)?;
+// What the first statement behind a begun level meets, and what is told.
+type Met = (Answer, &'static str);
+
+fn meets<R: Alloc<A = Global> + Abort>(rt: &R, acts: &[Act], rows: &[Met]) -> Result<(), Fail> {
+    for (met, want) in rows {
+        let play = Play {
+            before: BEGUN,
+            met: *met,
+            acts,
+            want,
+        };
+        says(rt, &play)?;
     }
     Ok(())
 }
 
+const COMMITS: &[Met] = &[
+    (
+        Answer::Accept,
+        "done|done|done| Some(5), depth 0, 1 begun, 1 ended",
+    ),
+    (
+        Answer::Refuse,
+        "done|done|refused| None, depth 0, 1 begun, 1 ended",
+    ),
+];
+
+#[test]
+fn a_commit_of_a_level_that_was_kept_open(rt: HostRuntime) -> Result<(), Fail> {
+    meets(&rt, &[Act::Commit], COMMITS)
+}
+
+const TRIES: &[Met] = &[
+    (
+        Answer::Accept,
+        "done|done|done|done| Some(5), depth 0, 2 begun, 2 ended",
+    ),
+    (
+        Answer::Refuse,
+        "done|done|refused|done| Some(5), depth 0, 1 begun, 1 ended",
+    ),
+];
+
 #[test]
 fn a_refused_begin_leaves_the_level_around_it(rt: HostRuntime) -> Result<(), Fail> {
-    for (met, want) in [
-        (
-            Answer::Accept,
-            "done|done|done|done| Some(5), depth 0, 2 begun, 2 ended",
-        ),
-        (
-            Answer::Refuse,
-            "done|done|refused|done| Some(5), depth 0, 1 begun, 1 ended",
-        ),
-    ] {
-        says(&rt, BEGUN, met, &[Act::Try, Act::Commit], want)?;
-    }
-    Ok(())
+    meets(&rt, &[Act::Try, Act::Commit], TRIES)
 }
 
 const BEGINS: &[Act] = &[
@@ -167,7 +240,7 @@ const BEGINS: &[Act] = &[
 #[test]
 fn a_begin_by_a_text(rt: HostRuntime) -> Result<(), Fail> {
     let want = "failed|done|failed|done|inside|inside| None, depth 1, 2 begun, 1 ended";
-    says(&rt, &[], Answer::Accept, BEGINS, want)
+    tells(&rt, BEGINS, want)
 }
 
 const TEXTS: &[Act] = &[
@@ -180,5 +253,5 @@ const TEXTS: &[Act] = &[
 #[test]
 fn a_text_in_a_level_of_its_own(rt: HostRuntime) -> Result<(), Fail> {
     let want = "done|refused|failed|done| None, depth 0, 4 begun, 4 ended";
-    says(&rt, &[], Answer::Accept, TEXTS, want)
+    tells(&rt, TEXTS, want)
 }
