@@ -31,6 +31,6 @@ pub fn run_act(
         Act::Get(key) => get(alloc, conn, key),
         Act::Commit => commit(alloc, conn),
         Act::Rollback => rollback(alloc, conn),
-        Act::GiveUp => Ok(give_up(conn)),
+        Act::GiveUp => Ok(give_up(alloc, conn)),
     }
 }

@@ -1,12 +1,14 @@
 //! Levels that are begun and ended, by transactions. One that stays open is taken up again by the next act.
-ghost use Rattle.std.specs.Prelude.{◌≡◌, ◌<◌, ℕ, Some, None};
+ghost use Rattle.std.specs.Prelude.{◌≡◌, ◌<◌, ℕ, Ok, Some, None};
 ghost use Rattle.sqlx_traits.specs.Calls as call;
 ghost use Rattle.sqlx_tx.specs.Begun.{levels_after};
 ghost use Rattle.mem_driver.specs.Asked.{asked};
 ghost use Rattle.mem_driver.specs.Backend.{Does};
 ghost use Rattle.mem_driver.specs.Session.{depth};
 ghost use Rattle.mem_acts.specs.ClientActs.{Gives, left_by, reply_on, statement_at};
+ghost use Rattle.mem_client.specs.Ends.{call_of};
 ghost use Rattle.mem_client.specs.Told.{Answered, reply_to};
+ghost use Rattle.mem_client.specs.declared.levels.End.{End};
 
 use crate::told::told;
 use mem_acts::Act;
@@ -15,21 +17,28 @@ use sqlx_any::{Any, AnyConnection};
 use sqlx_savepoints::LevelText;
 use sqlx_script::Reply;
 use sqlx_text::{Depth, Error, OutOfMemory, SqlStr};
+use sqlx_traits::Database;
 use sqlx_tx::{Borrowed, Transaction};
 use std::alloc::Global;
 
-type Level<'c> = Transaction<Any<MemSession>, Borrowed<'c, Any<MemSession>>>;
+// How a level ends.
+#[derive(Clone, Copy)]
+enum End {
+    Commit,
+    Rollback,
+    GiveUp,
+}
 
 // Begins a level, by the statement where one is given, and keeps it open.
-fn opened(
+fn opened<DB: Database>(
     alloc: Global,
-    conn: &mut AnyConnection<MemSession>,
+    conn: &mut DB::Connection,
     statement: Option<SqlStr>,
 ) -> Result<(), Error>
-    ensures does { Does (call.begin statement) conn.old.backend result conn.new.backend }
-    ensures levels { depth conn.new.backend ≡ levels_after (depth conn.old.backend) result }
+    ensures does { DB.TransactionManager.does (call.begin statement) conn.old result conn.new }
+    ensures levels { DB.Connection.levels conn.new ≡ levels_after (DB.Connection.levels conn.old) result }
 {
-    match Level::begin(alloc, Borrowed(conn), statement) {
+    match Transaction::<DB, Borrowed<'_, DB>>::begin(alloc, Borrowed(conn), statement) {
         Ok(level) => {
             let Borrowed(_conn) = level.keep_open();
             Ok(())
@@ -42,24 +51,41 @@ fn opened(
     }
 }
 
-// Takes the level up that is open, and commits it.
-fn committed(alloc: Global, conn: &mut AnyConnection<MemSession>) -> Result<(), Error>
-    requires { 0 < depth conn.old.backend }
-    ensures { Does call.commit conn.old.backend result conn.new.backend }
+// Takes the level up that is open, and ends it.
+fn ended<DB: Database>(alloc: Global, conn: &mut DB::Connection, how: End) -> Result<(), Error>
+    requires { 0 < DB.Connection.levels conn.old }
+    ensures does { DB.TransactionManager.does (call_of how) conn.old result conn.new }
+    ensures sure { how ≡ End.GiveUp → result ≡ Ok tt }
 {
-    let (holder, answer) = Level::adopt(Borrowed(conn)).commit(alloc);
+    let level = Transaction::<DB, Borrowed<'_, DB>>::adopt(Borrowed(conn));
+    let (holder, answer) = match how {
+        End::Commit => level.commit(alloc),
+        End::Rollback => level.rollback(alloc),
+        End::GiveUp => (level.give_up(), Ok(())),
+    };
     let Borrowed(_conn) = holder;
     answer
 }
 
-// Takes the level up that is open, and rolls it back.
-fn rolled_back(alloc: Global, conn: &mut AnyConnection<MemSession>) -> Result<(), Error>
-    requires { 0 < depth conn.old.backend }
-    ensures { Does call.rollback conn.old.backend result conn.new.backend }
+// Begins a level of the database in memory.
+fn begin_level(
+    alloc: Global,
+    conn: &mut AnyConnection<MemSession>,
+    statement: Option<SqlStr>,
+) -> Result<(), Error>
+    ensures does { Does (call.begin statement) conn.old.backend result conn.new.backend }
+    ensures levels { depth conn.new.backend ≡ levels_after (depth conn.old.backend) result }
 {
-    let (holder, answer) = Level::adopt(Borrowed(conn)).rollback(alloc);
-    let Borrowed(_conn) = holder;
-    answer
+    opened::<Any<MemSession>>(alloc, conn, statement)
+}
+
+// Ends a level of the database in memory.
+fn end_level(alloc: Global, conn: &mut AnyConnection<MemSession>, how: End) -> Result<(), Error>
+    requires { 0 < depth conn.old.backend }
+    ensures does { Does (call_of how) conn.old.backend result conn.new.backend }
+    ensures sure { how ≡ End.GiveUp → result ≡ Ok tt }
+{
+    ended::<Any<MemSession>>(alloc, conn, how)
 }
 
 // The depth and the text of a level that was begun or ended, or why it wasn't.
@@ -80,7 +106,7 @@ pub(crate) fn begin(
     ensures { Gives Act.Begin conn.old.backend.work result conn.new.backend.work }
 {
     let text = begin_at(conn.depth());
-    let answer = opened(alloc, conn, None);
+    let answer = begin_level(alloc, conn, None);
     level_reply(answer, conn.depth() as u64, text)
 }
 
@@ -104,7 +130,7 @@ pub(crate) fn custom(
     ensures { Gives (Act.Custom starts) conn.old.backend.work result conn.new.backend.work }
 {
     let statement = SqlStr::from_static(custom_text(starts));
-    let answer = opened(alloc, conn, Some(statement));
+    let answer = begin_level(alloc, conn, Some(statement));
     level_reply(answer, 1, LevelText::BeginImmediate)
 }
 
@@ -118,7 +144,7 @@ pub(crate) fn commit(
     ensures { Gives Act.Commit conn.old.backend.work result conn.new.backend.work }
 {
     let depth = conn.depth();
-    let answer = committed(alloc, conn);
+    let answer = end_level(alloc, conn, End::Commit);
     level_reply(answer, depth as u64 - 1, commit_at(depth))
 }
 
@@ -132,19 +158,20 @@ pub(crate) fn rollback(
     ensures { Gives Act.Rollback conn.old.backend.work result conn.new.backend.work }
 {
     let depth = conn.depth();
-    let answer = rolled_back(alloc, conn);
+    let answer = end_level(alloc, conn, End::Rollback);
     level_reply(answer, depth as u64 - 1, rollback_at(depth))
 }
 
 /// Leaves the innermost level.
 #[tactic(auto, using(crate::proofs::LevelLemmas::give_up_gives))]
-pub(crate) fn give_up(conn: &mut AnyConnection<MemSession>) -> Reply
+pub(crate) fn give_up(alloc: Global, conn: &mut AnyConnection<MemSession>) -> Reply
     requires { 0 < depth conn.old.backend }
     ensures reply { result ≡ reply_on Act.GiveUp conn.old.backend.work }
     ensures left { conn.new.backend.work ≡ left_by Act.GiveUp conn.old.backend.work }
 {
     let depth = conn.depth();
-    let Borrowed(_conn) = Level::adopt(Borrowed(conn)).give_up();
+    let answer = end_level(alloc, conn, End::GiveUp);
+    drop(answer);
     Reply::Level {
         depth: depth as u64 - 1,
         text: rollback_at(depth),

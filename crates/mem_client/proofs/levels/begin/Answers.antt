@@ -5,5 +5,5 @@ use Rattle.mem_client.proofs.levels.begin.Goals as goal
 
 pub returns : goal.returns
 returns c =
-    begin_gives c.depth-2.result c.begin_at-text.result c.args.conn.now.backend c.opened-answer.new.conn.backend c.opened-answer.result c.level_reply.result
-    c.opened-answer.ensures.does (c.depth-2.ensures ∙ c.opened-answer.ensures.levels) (c.begin_at-text.ensures ∙ ap begin_at c.depth.ensures) c.level_reply.ensures
+    begin_gives c.depth-2.result c.begin_at-text.result c.args.conn.now.backend c.begin_level-answer.new.conn.backend c.begin_level-answer.result c.level_reply.result
+    c.begin_level-answer.ensures.does (c.depth-2.ensures ∙ c.begin_level-answer.ensures.levels) (c.begin_at-text.ensures ∙ ap begin_at c.depth.ensures) c.level_reply.ensures

@@ -5,5 +5,5 @@ use Rattle.mem_client.proofs.levels.custom.Goals as goal
 
 pub returns : goal.returns
 returns c =
-    custom_gives c.args.starts (asked c.from_static-statement.result None) c.args.conn.now.backend c.opened-answer.new.conn.backend c.opened-answer.result c.level_reply.result
-    (ap (λ text. asked text None) c.from_static-statement.ensures ∙ c.custom_text.ensures _) c.opened-answer.ensures.does c.level_reply.ensures
+    custom_gives c.args.starts (asked c.from_static-statement.result None) c.args.conn.now.backend c.begin_level-answer.new.conn.backend c.begin_level-answer.result c.level_reply.result
+    (ap (λ text. asked text None) c.from_static-statement.ensures ∙ c.custom_text.ensures _) c.begin_level-answer.ensures.does c.level_reply.ensures

@@ -1,0 +1,9 @@
+-- The call by which a transaction ends a level.
+use Rattle.sqlx_traits.specs.Calls.{Call, commit, rollback, start_rollback}
+use Rattle.mem_client.specs.declared.levels.End.{End}
+use Rattle.mem_client.specs.declared.levels.End.TheVariants.{Commit, Rollback, GiveUp}
+
+abbrev pub call_of : End → Call
+call_of Commit = commit
+call_of Rollback = rollback
+call_of GiveUp = start_rollback
