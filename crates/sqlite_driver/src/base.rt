@@ -10,6 +10,8 @@ use crate::refusal::{Refusal, refused};
 use crate::statements::{self, Items};
 use sqlite::{Connection, File, FileStore, MemStore};
 use sqlx_any::AnyArguments;
+use sqlx_savepoints::rollback_ansi_transaction_sql;
+use sqlx_text::OutOfMemory;
 use std::alloc::Global;
 
 /// A database's own connection.
@@ -47,14 +49,20 @@ impl Base {
         }
     }
 
-    /// Rolls back to this depth.
+    /// Rolls back to this depth, where the database is in a transaction at all.
     pub(crate) fn roll_back_to(&mut self, alloc: Global, depth: usize) -> Result<(), Refusal>
         ensures ran { OnOk result (RolledBackTo depth self.old self.new) }
         ensures refused { IfErr result (λ refusal. RefusesRollback depth self.old self.new (refusal_error refusal)) }
     {
-        match self {
-            Base::Memory(conn) => statements::roll_back_to(conn, alloc, depth),
-            Base::File(conn) => statements::roll_back_to(conn, alloc, depth),
+        if self.is_autocommit() {
+            return Ok(());
+        }
+        let Some(level) = depth.checked_add(1) else {
+            return Err(Refusal::OutOfMemory);
+        };
+        match rollback_ansi_transaction_sql(alloc, level) {
+            Ok(text) => self.perform(alloc, text.as_str()),
+            Err(OutOfMemory) => Err(Refusal::OutOfMemory),
         }
     }
 

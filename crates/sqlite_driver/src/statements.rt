@@ -1,11 +1,10 @@
 //! Statements on the database's own connection.
-ghost use Rattle.std.specs.Prelude.{◌≡◌, ◌⊎◌, ◌+◌, ◌∷◌, ◌++◌, [], Bool, IfErr, IfOk, List, Ok, OnOk};
+ghost use Rattle.std.specs.Prelude.{◌≡◌, ◌⊎◌, ◌∷◌, ◌++◌, [], Bool, IfErr, IfOk, List, Ok, OnOk};
 ghost use Rattle.either.specs.declared.Either.TheVariants.{Left};
 ghost use Rattle.sqlite.specs.State.{Executes, HasCleanDisk, Shown};
 ghost use Rattle.sqlite.specs.Held.{state};
 ghost use Rattle.sqlite.specs.Values.{bound};
 ghost use Rattle.sqlx_text.specs.declared.error.Error.{Error};
-ghost use Rattle.sqlx_savepoints.specs.Texts.{rollback_at, text_of};
 ghost use Rattle.sqlite_driver.specs.Refusals.{IsUnfit, refusal_error};
 ghost use Rattle.sqlite_driver.specs.Ran.{Ran, Refuses};
 ghost use Rattle.sqlite_driver.specs.Runs.{GainsRows, Gives, IsPrepared, Item, RefusesQuery, RefusesToPrepare, RefusesToShow, all_taken, is_select, no_count};
@@ -15,8 +14,6 @@ use crate::values::{lent_all, row};
 use sqlite::types::ValueRef;
 use sqlite::{Alter, Connection, Row, Statement};
 use sqlx_any::{AnyArguments, AnyQueryResult, AnyRow, Either};
-use sqlx_savepoints::rollback_ansi_transaction_sql;
-use sqlx_text::OutOfMemory;
 use std::alloc::Global;
 use std::collections::VecDeque;
 
@@ -170,26 +167,5 @@ pub(crate) fn perform<S: Alter>(
     match changed(conn, alloc, text, &[]) {
         Ok(_) => Ok(()),
         Err(refusal) => Err(refusal),
-    }
-}
-
-/// Rolls back to this depth, where the database is in a transaction at all.
-pub(crate) fn roll_back_to<S: Alter>(
-    conn: &mut Connection<S>,
-    alloc: Global,
-    depth: usize,
-) -> Result<(), Refusal>
-    ensures ran { OnOk result (((conn.old.in_transaction ≡ Bool.false) × (conn.new ≡ conn.old)) ⊎ Ran (text_of (rollback_at (depth + 1))) (state S.Store conn.old) (state S.Store conn.new)) }
-    ensures refused { IfErr result (λ refusal. (refusal_error refusal ≡ Error.OutOfMemory) ⊎ Refuses (text_of (rollback_at (depth + 1))) [] (state S.Store conn.old) (state S.Store conn.new) (refusal_error refusal)) }
-{
-    if conn.is_autocommit() {
-        return Ok(());
-    }
-    let Some(level) = depth.checked_add(1) else {
-        return Err(Refusal::OutOfMemory);
-    };
-    match rollback_ansi_transaction_sql(alloc, level) {
-        Ok(text) => perform(conn, alloc, text.as_str()),
-        Err(OutOfMemory) => Err(Refusal::OutOfMemory),
     }
 }
