@@ -1,4 +1,4 @@
-use Rattle.std.proofs.Common.{arith}
+use Rattle.std.proofs.Common.{arith, rules}
 use Rattle.sqlx_pool_core.proofs.GiveCode.{leaking}
 use Rattle.sqlx_pool_core.proofs.member.Member.unlend_leaked.Goals as goal
 
@@ -10,3 +10,6 @@ invariant_of-self g c = (
 
 pub end_loan-requires : goal.end_loan-requires
 end_loan-requires g c = let once = c.self.invariant.0.once c.args.conn in omega (arith, once)
+
+pub returns : goal.returns
+returns g c = search rules
