@@ -1,324 +1,265 @@
 //! Rust types as arguments of `Any`, and lists of arguments.
 
 use crate::samples::{Sample, value_of};
-use crate::says::{joined, tells};
+use crate::says::*;
 use sqlx_any::*;
 use sqlx_text::{AnyTypeInfoKind, Fault, OutOfMemory};
 use std::alloc::Global;
 use std::test::*;
 use tests_backend::StubBackend;
 use tests_backend::cells::{self, described, listed};
-use tests_database::answers::{shown, taken};
 
 // The name of a Rust type, its own type, and whether it reads a value of the type.
-fn typed<DB: Database, T: SqlType<DB>>(
-    alloc: Global,
-    other: &DB::TypeInfo,
-) -> Result<String, OutOfMemory> {
+fn typed<DB: Database, T: SqlType<DB>>(other: &DB::TypeInfo, line: &mut String) {
     let own = T::type_info();
-    let rust = T::name();
-    let sql = own.name();
-    let reads = T::compatible(other);
-    let text = format!(in alloc; "{rust} {sql} {reads}");
+    told_type(line, T::name(), own.name(), T::compatible(other));
     drop(own);
-    Ok(text?)
+}
+
+fn told_type(line: &mut String, rust: &str, own: &str, reads: bool) {
+    tell(line, &rust);
+    tell(line, &own);
+    tell(line, &reads);
 }
 
 // About how many bytes a value takes, and whether it is of a type of its own.
-fn sized<'t, DB: Database, T: Encode<'t, DB>>(
-    alloc: Global,
-    value: &T,
-) -> Result<String, OutOfMemory> {
-    let size = value.size_hint();
-    let produces = value.produces().is_some();
-    Ok(format!(in alloc; "{size} {produces}")?)
+fn sized<'t, DB: Database, T: Encode<'t, DB>>(value: &T, line: &mut String) {
+    tell(line, &value.size_hint());
+    let own = value.produces();
+    tell(line, &own.is_some());
+    drop(own);
 }
 
-// Adds a value; whether it counts as null.
-fn encoded<'t, DB: Database, T: Encode<'t, DB>>(
-    alloc: Global,
-    args: &mut DB::Arguments,
-    value: T,
-) -> Result<String, OutOfMemory> {
-    match value.encode(alloc, args.buffer()) {
-        Ok(told) => Ok(told.is_null().to_string(alloc)?),
-        Err(fault) => taken(alloc, Err(fault)),
+// Whether a value that was added counts as null.
+fn told_null(line: &mut String, told: Result<IsNull, Fault>) {
+    match told {
+        Ok(told) => tell(line, &told.is_null()),
+        Err(fault) => faulted(line, fault),
     }
 }
 
-// Adds a value that is lent, the value itself, and no value; whether the last two count as null.
-fn bound<'t, DB: Database, T: Encode<'t, DB> + SqlType<DB> + Drop>(
-    alloc: Global,
-    args: &mut DB::Arguments,
-    value: T,
-) -> Result<String, OutOfMemory>
-where
-    Option<T>: Encode<'t, DB>,
-{
-    let lent = taken(alloc, args.add(alloc, &value));
-    let own = encoded::<DB, T>(alloc, args, value);
-    let none = encoded::<DB, Option<T>>(alloc, args, None);
-    joined(alloc, lent, " ", joined(alloc, own, " ", none))
-}
-
-// What is told of a value as an argument, and of it, lent and owned, and no value as they are added in turn.
+// What is told of a value as an argument, and as it is added in turn, lent and owned.
 fn described_as<'t, DB: Database, T: Encode<'t, DB> + SqlType<DB> + Drop>(
     alloc: Global,
     other: &DB::TypeInfo,
     args: &mut DB::Arguments,
     value: T,
-) -> Result<String, OutOfMemory>
-where
-    Option<T>: Encode<'t, DB>,
-{
-    let ty = typed::<DB, T>(alloc, other);
-    let sized = sized::<DB, T>(alloc, &value);
-    let bound = bound::<DB, T>(alloc, args, value);
-    joined(alloc, ty, " ", joined(alloc, sized, "; ", bound))
+    line: &mut String,
+) {
+    typed::<DB, T>(other, line);
+    sized::<DB, T>(&value, line);
+    taken(line, args.add(alloc, &value));
+    told_null(line, value.encode(alloc, args.buffer()));
 }
 
-// The same with the list that it makes.
+// The same, and of no value behind it, with the list that they make: a line.
 fn argument<'t, B: AnyConnectionBackend, T: Encode<'t, Any<B>> + SqlType<Any<B>> + Drop>(
     alloc: Global,
     value: T,
-) -> Result<String, OutOfMemory>
-where
-    Option<T>: Encode<'t, Any<B>>,
-{
+    line: &mut String,
+) {
     let kind = AnyTypeInfoKind::Integer;
     let values = AnyArgumentBuffer::new(alloc);
     let mut args = AnyArguments { values };
-    let told = described_as::<Any<B>, T>(alloc, &AnyTypeInfo { kind }, &mut args, value);
-    let values = listed(alloc, args.values.as_slice());
+    described_as::<Any<B>, T>(alloc, &AnyTypeInfo { kind }, &mut args, value, line);
+    let none = <Option<T> as Encode<'t, Any<B>>>::encode(None, alloc, &mut args.values);
+    told_null(line, none);
+    text(line, listed(alloc, args.values.as_slice()));
+    end(line);
     drop(args);
-    joined(alloc, told, "; ", values)
 }
 
-// A Rust type, with a value of it.
-#[derive(Clone, Copy)]
-enum Rust {
-    Bool,
-    I16,
-    I32,
-    I64,
-    Str,
-    Owned,
-    Slice,
-    Bytes,
+fn numbers<B: AnyConnectionBackend>(alloc: Global, line: &mut String) {
+    argument::<B, bool>(alloc, true, line);
+    argument::<B, i16>(alloc, -5, line);
+    argument::<B, i32>(alloc, 5, line);
+    argument::<B, i64>(alloc, 70_000, line);
 }
 
-// The same of a value of a type.
-fn argument_of<B: AnyConnectionBackend>(alloc: Global, rust: Rust) -> Result<String, OutOfMemory> {
-    match rust {
-        Rust::Bool => argument::<B, bool>(alloc, true),
-        Rust::I16 => argument::<B, i16>(alloc, -5),
-        Rust::I32 => argument::<B, i32>(alloc, 5),
-        Rust::I64 => argument::<B, i64>(alloc, 70_000),
-        Rust::Str => argument::<B, &str>(alloc, "milk"),
-        Rust::Owned => argument::<B, String>(alloc, cells::owned(alloc)?),
-        Rust::Slice => argument::<B, &[u8]>(alloc, &[1, 2]),
-        Rust::Bytes => argument::<B, Vec<u8>>(alloc, cells::bytes(alloc)?),
-    }
+fn texts<B: AnyConnectionBackend>(alloc: Global, owned: String, line: &mut String) {
+    argument::<B, &str>(alloc, "milk", line);
+    argument::<B, String>(alloc, owned, line);
 }
 
-const TYPES: &[(Rust, &str)] = &[
-    (
-        Rust::Bool,
-        "bool BOOLEAN false 1 false; taken false true; Bool true|Bool true|Null BOOLEAN|",
-    ),
-    (
-        Rust::I16,
-        "i16 SMALLINT true 2 false; taken false true; SmallInt -5|SmallInt -5|Null SMALLINT|",
-    ),
-    (
-        Rust::I32,
-        "i32 INTEGER true 4 false; taken false true; Integer 5|Integer 5|Null INTEGER|",
-    ),
-    (
-        Rust::I64,
-        "i64 BIGINT true 8 false; taken false true; BigInt 70000|BigInt 70000|Null BIGINT|",
-    ),
-    (
-        Rust::Str,
-        "&str TEXT false 4 false; taken false true; Text milk|Text milk|Null TEXT|",
-    ),
-    (
-        Rust::Owned,
-        "String TEXT false 1 false; taken false true; Text x|Text x|Null TEXT|",
-    ),
-    (
-        Rust::Slice,
-        "&[u8] BLOB false 2 false; taken false true; Blob [1, 2]|Blob [1, 2]|Null BLOB|",
-    ),
-    (
-        Rust::Bytes,
-        "Vec<u8> BLOB false 2 false; taken false true; Blob [1, 2]|Blob [1, 2]|Null BLOB|",
-    ),
-];
+fn bytes<B: AnyConnectionBackend>(alloc: Global, owned: Vec<u8>, line: &mut String) {
+    argument::<B, &[u8]>(alloc, &[1, 2], line);
+    argument::<B, Vec<u8>>(alloc, owned, line);
+}
+
+const TYPES: &str = "bool|BOOLEAN|false|1|false|()|false|true|Bool true|Bool true|Null BOOLEAN||\n\
+    i16|SMALLINT|true|2|false|()|false|true|SmallInt -5|SmallInt -5|Null SMALLINT||\n\
+    i32|INTEGER|true|4|false|()|false|true|Integer 5|Integer 5|Null INTEGER||\n\
+    i64|BIGINT|true|8|false|()|false|true|BigInt 70000|BigInt 70000|Null BIGINT||\n\
+    &str|TEXT|false|4|false|()|false|true|Text milk|Text milk|Null TEXT||\n\
+    String|TEXT|false|1|false|()|false|true|Text x|Text x|Null TEXT||\n\
+    &[u8]|BLOB|false|2|false|()|false|true|Blob [1, 2]|Blob [1, 2]|Null BLOB||\n\
+    Vec<u8>|BLOB|false|2|false|()|false|true|Blob [1, 2]|Blob [1, 2]|Null BLOB||\n\
+    8|false|0|false|false|BigInt 5||\n";
 
 #[test]
 fn rust_types_are_arguments(rt: HostRuntime) -> Result<(), Fail> {
     let alloc = rt.alloc();
-    for (rust, want) in TYPES {
-        tells(&rt, argument_of::<StubBackend>(alloc, *rust), want)?;
-    }
-    let told = of_option::<StubBackend>(alloc);
-    tells(&rt, told, "false BigInt 5|; 8 false; 0 false")
+    let mut told = String::new(alloc);
+    numbers::<StubBackend>(alloc, &mut told);
+    texts::<StubBackend>(alloc, cells::owned(alloc)?, &mut told);
+    bytes::<StubBackend>(alloc, cells::bytes(alloc)?, &mut told);
+    of_option::<StubBackend>(alloc, &mut told);
+    says(&rt, told, TYPES);
+    Ok(())
 }
 
-// An option that is lent: whether it counts as null, the list behind it, and what is told of it and of none.
+// What is told of an option and of none, whether it counts as null where it is lent, and the list behind it.
 fn option<'t, DB: Database<ArgumentBuffer = AnyArgumentBuffer>, T: Encode<'t, DB>>(
     alloc: Global,
     some: &T,
     none: &T,
-) -> Result<String, OutOfMemory> {
+    line: &mut String,
+) {
+    sized::<DB, T>(some, line);
+    sized::<DB, T>(none, line);
     let mut list = AnyArgumentBuffer::new(alloc);
-    let told = match some.encode_by_ref(alloc, &mut list) {
-        Ok(told) => shown(alloc, Ok(told.is_null())),
-        Err(fault) => taken(alloc, Err(fault)),
-    };
-    let listed = listed(alloc, list.as_slice());
+    told_null(line, some.encode_by_ref(alloc, &mut list));
+    text(line, listed(alloc, list.as_slice()));
+    end(line);
     drop(list);
-    let told = joined(alloc, told, " ", listed);
-    let sizes = joined(
-        alloc,
-        sized::<DB, T>(alloc, some),
-        "; ",
-        sized::<DB, T>(alloc, none),
-    );
-    joined(alloc, told, "; ", sizes)
 }
 
-fn of_option<B: AnyConnectionBackend>(alloc: Global) -> Result<String, OutOfMemory> {
-    option::<Any<B>, Option<i64>>(alloc, &Some(5), &None)
+fn of_option<B: AnyConnectionBackend>(alloc: Global, line: &mut String) {
+    option::<Any<B>, Option<i64>>(alloc, &Some(5), &None, line);
 }
 
 // Fills a list with three arguments.
-fn fill<'t, DB: Database>(alloc: Global, args: &mut DB::Arguments) -> Result<(), Fault>
+fn fill<'t, DB: Database>(alloc: Global, args: &mut DB::Arguments, line: &mut String)
 where
     i32: Encode<'t, DB> + SqlType<DB>,
     &'t str: Encode<'t, DB> + SqlType<DB>,
     Option<i64>: Encode<'t, DB> + SqlType<DB>,
 {
-    args.reserve(alloc, 3, 12)?;
-    args.add(alloc, 5i32)?;
-    args.add(alloc, "x")?;
-    args.add(alloc, None::<i64>)
+    given(line, args.reserve(alloc, 3, 12));
+    taken(line, args.add(alloc, 5i32));
+    taken(line, args.add(alloc, "x"));
+    taken(line, args.add(alloc, None::<i64>));
 }
 
-// How many arguments a list has, and their placeholder.
-fn counted<DB: Database>(alloc: Global, args: &DB::Arguments) -> Result<String, OutOfMemory> {
-    let mut text = "a = ".to_string(alloc)?;
-    let put = args.format_placeholder(alloc, &mut text);
-    put_count(alloc, args.len(), put, text)
-}
-
-fn put_count(
+// The first so many arguments of a list, how many there are then, and their placeholder.
+fn cut<DB: Database>(
     alloc: Global,
+    args: DB::Arguments,
     len: usize,
-    put: Result<(), OutOfMemory>,
-    text: String,
-) -> Result<String, OutOfMemory> {
-    put?;
-    Ok(format!(in alloc; "{len} {text}")?)
+    line: &mut String,
+) -> DB::Arguments {
+    let mut args = args;
+    args.truncate(len);
+    let args = ImmutableArguments::<DB>(args).into_arguments();
+    tell(line, &args.len());
+    let put = args.format_placeholder(alloc, line);
+    given(line, put);
+    args
 }
 
-// A list of three arguments, cut to so many; whether they were taken, how many there are then, and their placeholder.
-fn cut<'t, DB: Database>(alloc: Global, len: usize) -> (DB::Arguments, Result<String, OutOfMemory>)
+// Three arguments, cut to so many.
+fn kept<'t, DB: Database>(alloc: Global, len: usize, line: &mut String) -> DB::Arguments
 where
     i32: Encode<'t, DB> + SqlType<DB>,
     &'t str: Encode<'t, DB> + SqlType<DB>,
     Option<i64>: Encode<'t, DB> + SqlType<DB>,
 {
     let mut args = DB::Arguments::new(alloc);
-    let filled = taken(alloc, fill::<DB>(alloc, &mut args));
-    args.truncate(len);
-    let args = ImmutableArguments::<DB>(args).into_arguments();
-    let counted = counted::<DB>(alloc, &args);
-    (args, joined(alloc, filled, "; ", counted))
+    fill::<DB>(alloc, &mut args, line);
+    cut::<DB>(alloc, args, len, line)
 }
 
 // The same, how many the list itself counts, and the values.
-fn kept<B: AnyConnectionBackend>(alloc: Global, len: usize) -> Result<String, OutOfMemory> {
-    let (args, told) = cut::<Any<B>>(alloc, len);
-    let len = shown(alloc, Ok(ArgumentList::len(&args.values)));
+fn kept_values<B: AnyConnectionBackend>(alloc: Global, len: usize) -> String {
+    let mut line = String::new(alloc);
+    let args = kept::<Any<B>>(alloc, len, &mut line);
+    tell(&mut line, &ArgumentList::len(&args.values));
     let values = args.values.into_values();
-    let listed = listed(alloc, values.as_slice());
+    text(&mut line, listed(alloc, values.as_slice()));
     drop(values);
-    joined(alloc, told, "; ", joined(alloc, len, " ", listed))
+    line
 }
 
 #[test]
-fn keeps_the_first_arguments(rt: HostRuntime) -> Result<(), Fail> {
-    let alloc = rt.alloc();
+fn keeps_the_first_arguments(rt: HostRuntime) {
     for (len, want) in &[
-        (9, "taken; 3 a = ?; 3 Integer 5|Text x|Null BIGINT|"),
-        (2, "taken; 2 a = ?; 2 Integer 5|Text x|"),
-        (0, "taken; 0 a = ?; 0 "),
+        (9, "()|()|()|()|3|?()|3|Integer 5|Text x|Null BIGINT||"),
+        (2, "()|()|()|()|2|?()|2|Integer 5|Text x||"),
+        (0, "()|()|()|()|0|?()|0||"),
     ] {
-        tells(&rt, kept::<StubBackend>(alloc, *len), want)?;
+        says(&rt, kept_values::<StubBackend>(rt.alloc(), *len), want);
     }
-    Ok(())
 }
 
 // A copy of a value, with its kind.
-fn copied(alloc: Global, sample: Sample) -> Result<String, OutOfMemory> {
-    let kind = value_of(alloc, sample)?;
+fn copied(alloc: Global, kind: AnyValueKind) -> Result<String, OutOfMemory> {
     let value = AnyValue { kind };
     let copy = value.try_clone(alloc);
     drop(value);
     let copy = copy?;
-    let text = described(alloc, &copy.kind)?;
-    let kind = copy.kind.kind();
+    let mut line = String::new(alloc);
+    text(&mut line, described(alloc, &copy.kind));
+    tell(&mut line, &copy.kind.kind());
     drop(copy);
-    Ok(format!(in alloc; "{text}, {kind}")?)
+    Ok(line)
 }
+
+const VALUES: &[(Sample, &str)] = &[
+    (Sample::Null(AnyTypeInfoKind::Text), "Null TEXT|NULL|"),
+    (Sample::Flag(true), "Bool true|BOOLEAN|"),
+    (Sample::Small(-5), "SmallInt -5|SMALLINT|"),
+    (Sample::Whole(5), "Integer 5|INTEGER|"),
+    (Sample::Large(7), "BigInt 7|BIGINT|"),
+    (Sample::Text("x"), "Text x|TEXT|"),
+    (Sample::Slice("y"), "TextSlice y|TEXT|"),
+    (Sample::Blob, "Blob [1, 2]|BLOB|"),
+];
 
 #[test]
 fn copies_values(rt: HostRuntime) -> Result<(), Fail> {
     let alloc = rt.alloc();
-    for (sample, want) in &[
-        (Sample::Null(AnyTypeInfoKind::Text), "Null TEXT, NULL"),
-        (Sample::Flag(true), "Bool true, BOOLEAN"),
-        (Sample::Small(-5), "SmallInt -5, SMALLINT"),
-        (Sample::Whole(5), "Integer 5, INTEGER"),
-        (Sample::Large(7), "BigInt 7, BIGINT"),
-        (Sample::Text("x"), "Text x, TEXT"),
-        (Sample::Slice("y"), "TextSlice y, TEXT"),
-        (Sample::Blob, "Blob [1, 2], BLOB"),
-    ] {
-        tells(&rt, copied(alloc, *sample), want)?;
+    for (sample, want) in VALUES {
+        says(&rt, copied(alloc, value_of(alloc, *sample)?)?, want);
     }
     Ok(())
 }
 
-#[test]
-fn holds_bytes(rt: HostRuntime) -> Result<(), Fail> {
-    let alloc = rt.alloc();
+// Bytes, and a copy of them.
+fn copied_bytes(alloc: Global) -> Result<String, OutOfMemory> {
     let blob = AnyBlob::new(alloc, &[1, 2])?;
-    assert_eq!(rt; blob.as_slice(), [1, 2].as_slice());
     let copy = blob.try_clone(alloc)?;
-    assert_eq!(rt; copy.into_vec().as_slice(), [1, 2].as_slice());
-    Ok(())
+    let mut line = String::new(alloc);
+    show(&mut line, &blob.as_slice());
+    drop(blob);
+    shown(&mut line, copy.into_vec());
+    Ok(line)
 }
 
 // What a type tells of itself: its kind in two ways, whether it is that of nulls or of nothing, and whether it fits that of nulls.
-fn told_of(ty: &AnyTypeInfo) -> (AnyTypeInfoKind, Option<AnyTypeInfoKind>, [bool; 3]) {
-    let null = AnyTypeInfo {
-        kind: AnyTypeInfoKind::Null,
-    };
-    let flags = [ty.is_null(), ty.is_void(), ty.type_compatible(&null)];
-    (ty.kind(), ty.any_kind(), flags)
+fn told_of(alloc: Global, kind: AnyTypeInfoKind) -> String {
+    let ty = AnyTypeInfo { kind };
+    let kind = AnyTypeInfoKind::Null;
+    let mut line = String::new(alloc);
+    show(&mut line, &ty.kind());
+    show(&mut line, &ty.any_kind());
+    show(&mut line, &ty.is_null());
+    show(&mut line, &ty.is_void());
+    show(&mut line, &ty.type_compatible(&AnyTypeInfo { kind }));
+    line
 }
 
 #[test]
-fn tells_of_types(rt: HostRuntime) -> Result<(), Fail> {
-    for (kind, flags) in &[
-        (AnyTypeInfoKind::BigInt, [false, false, false]),
-        (AnyTypeInfoKind::Null, [true, false, true]),
+fn bytes_and_types_tell_of_themselves(rt: HostRuntime) -> Result<(), Fail> {
+    let alloc = rt.alloc();
+    says(&rt, copied_bytes(alloc)?, "[1, 2]|[1, 2]|");
+    for (kind, want) in &[
+        (
+            AnyTypeInfoKind::BigInt,
+            "BigInt|Some(BigInt)|false|false|false|",
+        ),
+        (AnyTypeInfoKind::Null, "Null|Some(Null)|true|false|true|"),
     ] {
-        let kind = *kind;
-        assert_eq!(rt; told_of(&AnyTypeInfo { kind }), (kind, Some(kind), *flags));
+        says(&rt, told_of(alloc, *kind), want);
     }
     Ok(())
 }

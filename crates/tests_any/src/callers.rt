@@ -3,13 +3,12 @@ ghost use Rattle.std.specs.Prelude.{◌≡◌, true};
 ghost use Rattle.sqlx_traits.specs.Reads.{RowRead};
 ghost use Rattle.sqlx_any.specs.TypedRead.{TypedRead, an_i64};
 
-use crate::says::tells;
-use sqlx_any::{AnyRow, ColumnIndex, Database, Executor, TransactionManager};
+use crate::says::*;
+use sqlx_any::{AnyRow, ColumnIndex, Database, Executor, RowList, TransactionManager};
 use sqlx_text::{Depth, Error};
 use std::alloc::Global;
 use std::test::*;
 use tests_backend::cells;
-use tests_database::answers::shown;
 use tests_database::{Toy, ToyConnection};
 
 /// Opens a level and ends it again, whatever comes.
@@ -26,8 +25,12 @@ pub fn rows<DB: Database, E: Executor<DB>>(
     executor: &mut E,
     sql: &'static str,
 ) -> Result<u8, Error> {
+    count(executor.fetch(alloc, sql))
+}
+
+fn count<Q: Drop, R: Drop>(list: RowList<Q, R>) -> Result<u8, Error> {
     let mut rows = 0u8;
-    for row in executor.fetch(alloc, sql) {
+    for row in list {
         drop(row?);
         rows = rows.saturating_add(1);
     }
@@ -45,31 +48,45 @@ pub fn balance<I: ColumnIndex<AnyRow> + Drop>(
     row.try_get::<i64, I>(alloc, index)
 }
 
-fn touched(alloc: Global) -> Result<usize, Error> {
-    let mut conn = ToyConnection::new(alloc, "")?;
-    touch::<Toy>(alloc, &mut conn)?;
-    Ok(conn.depth())
+fn touched(alloc: Global, conn: ToyConnection) -> String {
+    let mut conn = conn;
+    let mut line = String::new(alloc);
+    answered(&mut line, touch::<Toy>(alloc, &mut conn));
+    tell(&mut line, &conn.depth());
+    drop(conn);
+    line
 }
 
-fn counted(alloc: Global, letters: &str) -> Result<u8, Error> {
-    let mut conn = ToyConnection::new(alloc, letters)?;
-    rows::<Toy, ToyConnection>(alloc, &mut conn, "SELECT")
+fn counted(alloc: Global, conn: ToyConnection) -> String {
+    let mut conn = conn;
+    let mut line = String::new(alloc);
+    let counted = rows::<Toy, ToyConnection>(alloc, &mut conn, "SELECT");
+    drop(conn);
+    answered(&mut line, counted);
+    line
 }
 
-fn paid(alloc: Global) -> Result<i64, Error> {
-    let row = cells::pair(alloc)?;
-    balance::<&str>(alloc, &row, "y")
+fn paid(alloc: Global, row: AnyRow) -> String {
+    let mut line = String::new(alloc);
+    answered(&mut line, balance::<&str>(alloc, &row, "y"));
+    drop(row);
+    line
 }
 
 #[test]
 fn callers_run(rt: HostRuntime) -> Result<(), Fail> {
     let alloc = rt.alloc();
-    assert_eq!(rt; touched(alloc)?, 0);
-    assert_eq!(rt; counted(alloc, "t2t")?, 2);
-    assert_eq!(rt; paid(alloc)?, 7);
-    tells(
-        &rt,
-        shown(alloc, counted(alloc, "t!")),
-        "error communicating with database: other error",
-    )
+    says(&rt, touched(alloc, ToyConnection::new(alloc, "")?), "()|0|");
+    says(&rt, paid(alloc, cells::pair(alloc)?), "7|");
+    for (letters, want) in &[
+        ("t2t", "2|"),
+        ("t!", "error communicating with database: other error|"),
+    ] {
+        says(
+            &rt,
+            counted(alloc, ToyConnection::new(alloc, letters)?),
+            want,
+        );
+    }
+    Ok(())
 }

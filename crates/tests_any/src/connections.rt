@@ -1,12 +1,11 @@
 //! The calls of a connection besides queries, and its levels.
 
-use crate::says::says;
+use crate::says::*;
 use sqlx_any::*;
-use sqlx_text::{Depth, Error, OutOfMemory, SqlStr};
+use sqlx_text::{Depth, Error, SqlStr};
 use std::alloc::Global;
 use std::test::*;
 use tests_backend::{Call, StubBackend};
-use tests_database::answers::shown;
 
 // A call besides queries; one that ends a level is refused where none is open.
 fn perform<DB: Database>(
@@ -46,20 +45,17 @@ fn ends<DB: Database>(alloc: Global, call: Call, conn: &mut DB::Connection) -> R
     }
 }
 
-// What a connection answers to calls in turn, and the depth after each, a bar behind each.
+// What a connection answers to calls in turn, and the depth after each.
 fn answers<B: AnyConnectionBackend>(
     alloc: Global,
     conn: &mut AnyConnection<B>,
     calls: &[Call],
-) -> Result<String, OutOfMemory> {
-    let mut line = String::new(alloc);
+    line: &mut String,
+) {
     for call in calls {
-        let answer = shown(alloc, perform::<Any<B>>(alloc, *call, conn))?;
-        let depth = conn.depth();
-        let text = format!(in alloc; "{answer} {depth}|")?;
-        line.push_str(&text)?;
+        answered(line, perform::<Any<B>>(alloc, *call, conn));
+        tell(line, &conn.depth());
     }
-    Ok(line)
 }
 
 const NEW: &[Call] = &[];
@@ -73,92 +69,93 @@ fn set(conn: AnyConnection<StubBackend>, refuses: bool) -> AnyConnection<StubBac
     AnyConnection::new(backend)
 }
 
-// What came before, the last call of the backend, the answer and the depth.
-fn of_any(alloc: Global, before: &[Call], refuses: bool, call: Call) -> Result<String, Error> {
-    let mut conn = AnyConnection::new(StubBackend::new(alloc, "")?);
-    let before = answers(alloc, &mut conn, before);
+// What came before, the answer and the depth, and the last call of the backend.
+fn of_any(
+    alloc: Global,
+    backend: StubBackend,
+    before: &[Call],
+    refuses: bool,
+    call: Call,
+) -> String {
+    let mut line = String::new(alloc);
+    let mut conn = AnyConnection::new(backend);
+    answers(alloc, &mut conn, before, &mut line);
     let mut conn = set(conn, refuses);
-    let answer = answers(alloc, &mut conn, &[call]);
-    let last = conn.backend().last;
+    answers(alloc, &mut conn, &[call], &mut line);
+    show(&mut line, &conn.backend().last);
     drop(conn);
-    let (before, answer) = (before?, answer?);
-    Ok(format!(in alloc; "{before}{last:?} {answer}")?)
+    line
 }
+
+const ANSWERS: &str = "()|0|Some(Ping)|\n\
+    ()|0|Some(Clear)|\n\
+    ()|0|Some(Shrink)|\n\
+    ()|0|Some(Flush)|\n\
+    ()|1|Some(Begin)|\n\
+    ()|1|Some(BeginWith)|\n\
+    ()|1|()|2|Some(Begin)|\n\
+    ()|1|()|0|Some(Commit)|\n\
+    ()|1|()|0|Some(Rollback)|\n\
+    ()|1|()|0|Some(StartRollback)|\n\
+    ()|1|attempted to call begin_with at non-zero transaction depth|1|Some(Begin)|\n\
+    error communicating with database: other error|0|Some(Ping)|\n\
+    error communicating with database: other error|0|Some(Clear)|\n\
+    error communicating with database: other error|0|Some(Flush)|\n\
+    error communicating with database: other error|0|Some(Begin)|\n\
+    ()|1|error communicating with database: other error|0|Some(Commit)|\n\
+    ()|1|error communicating with database: other error|0|Some(Rollback)|\n";
 
 #[test]
 fn a_connection_asks_its_backend(rt: HostRuntime) -> Result<(), Fail> {
     let alloc = rt.alloc();
-    for (before, call, want) in &[
-        (NEW, Call::Ping, "Some(Ping) () 0|"),
-        (NEW, Call::Clear, "Some(Clear) () 0|"),
-        (NEW, Call::Shrink, "Some(Shrink) () 0|"),
-        (NEW, Call::Flush, "Some(Flush) () 0|"),
-        (NEW, Call::Begin, "Some(Begin) () 1|"),
-        (NEW, Call::BeginWith, "Some(BeginWith) () 1|"),
-        (BEGUN, Call::Begin, "() 1|Some(Begin) () 2|"),
-        (BEGUN, Call::Commit, "() 1|Some(Commit) () 0|"),
-        (BEGUN, Call::Rollback, "() 1|Some(Rollback) () 0|"),
-        (BEGUN, Call::StartRollback, "() 1|Some(StartRollback) () 0|"),
-        (
-            BEGUN,
-            Call::BeginWith,
-            "() 1|Some(Begin) attempted to call begin_with at non-zero transaction depth 1|",
-        ),
+    let mut lines = String::new(alloc);
+    for (before, refuses, call) in &[
+        (NEW, false, Call::Ping),
+        (NEW, false, Call::Clear),
+        (NEW, false, Call::Shrink),
+        (NEW, false, Call::Flush),
+        (NEW, false, Call::Begin),
+        (NEW, false, Call::BeginWith),
+        (BEGUN, false, Call::Begin),
+        (BEGUN, false, Call::Commit),
+        (BEGUN, false, Call::Rollback),
+        (BEGUN, false, Call::StartRollback),
+        (BEGUN, false, Call::BeginWith),
+        (NEW, true, Call::Ping),
+        (NEW, true, Call::Clear),
+        (NEW, true, Call::Flush),
+        (NEW, true, Call::Begin),
+        (BEGUN, true, Call::Commit),
+        (BEGUN, true, Call::Rollback),
     ] {
-        says(&rt, of_any(alloc, before, false, *call), want)?;
+        let backend = StubBackend::new(alloc, "")?;
+        ended(&mut lines, of_any(alloc, backend, before, *refuses, *call));
     }
-    Ok(())
-}
-
-#[test]
-fn a_connection_hands_on_refusals(rt: HostRuntime) -> Result<(), Fail> {
-    let alloc = rt.alloc();
-    let refused = "error communicating with database: other error";
-    for (before, call, last) in &[
-        (NEW, Call::Ping, "Some(Ping)"),
-        (NEW, Call::Clear, "Some(Clear)"),
-        (NEW, Call::Flush, "Some(Flush)"),
-        (NEW, Call::Begin, "Some(Begin)"),
-        (BEGUN, Call::Commit, "() 1|Some(Commit)"),
-        (BEGUN, Call::Rollback, "() 1|Some(Rollback)"),
-    ] {
-        let want = format!(in alloc; "{last} {refused} 0|")?;
-        says(&rt, of_any(alloc, before, true, *call), want.as_str())?;
-    }
+    says(&rt, lines, ANSWERS);
     Ok(())
 }
 
 // What a connection tells of itself: its backend's name, whether a level is open, how many statements are cached,
 // whether something waits to be flushed, its depth, and how it closes.
-fn tells_of<B: AnyConnectionBackend>(
-    alloc: Global,
-    conn: AnyConnection<B>,
-) -> Result<String, OutOfMemory> {
-    let name = conn.backend_name().to_string(alloc);
-    let inside = conn.backend().is_in_transaction();
-    let cached = conn.cached_statements_size();
-    let waits = conn.should_flush();
-    let depth = conn.depth();
-    let closed = shown(alloc, conn.close());
-    let (name, closed) = (name?, closed?);
-    Ok(format!(in alloc; "{name} {inside} {cached} {waits} {depth} {closed}")?)
+fn tells_of<B: AnyConnectionBackend>(conn: AnyConnection<B>, line: &mut String) {
+    tell(line, &conn.backend_name());
+    tell(line, &conn.backend().is_in_transaction());
+    tell(line, &conn.cached_statements_size());
+    tell(line, &conn.should_flush());
+    tell(line, &conn.depth());
+    answered(line, conn.close());
 }
 
-fn closes_hard<B: AnyConnectionBackend>(
-    alloc: Global,
-    conn: AnyConnection<B>,
-) -> Result<String, OutOfMemory> {
-    shown(alloc, conn.close_hard())
+fn closes_hard<B: AnyConnectionBackend>(conn: AnyConnection<B>, line: &mut String) {
+    answered(line, conn.close_hard());
 }
 
 #[test]
 fn connections_tell_of_themselves(rt: HostRuntime) -> Result<(), Fail> {
     let alloc = rt.alloc();
-    let conn = AnyConnection::new(StubBackend::new(alloc, "")?);
-    let told = tells_of(alloc, conn)?;
-    assert_eq!(rt; told.as_str(), "stub false 0 false 0 ()");
-    let conn = AnyConnection::new(StubBackend::new(alloc, "")?);
-    let closed = closes_hard(alloc, conn)?;
-    assert_eq!(rt; closed.as_str(), "()");
+    let mut line = String::new(alloc);
+    tells_of(AnyConnection::new(StubBackend::new(alloc, "")?), &mut line);
+    closes_hard(AnyConnection::new(StubBackend::new(alloc, "")?), &mut line);
+    says(&rt, line, "stub|false|0|false|0|()|()|");
     Ok(())
 }

@@ -1,36 +1,16 @@
 //! Databases by their names and schemes, and which driver is found for a URL.
 
-use crate::says::tells;
+use crate::says::*;
 use sqlx_any::*;
-use sqlx_text::Error;
 use std::alloc::Global;
 use std::test::*;
 use tests_backend::StubBackend;
 use tests_database::Toy;
-use tests_database::answers::shown;
 use url::Url;
 
-const NONE: &str = "error with configuration: no driver found for URL scheme \"pg\"";
-
-fn parsed(alloc: Global, url: &str) -> Result<Url, Error> {
-    match Url::parse(alloc, url) {
-        Ok(url) => Ok(url),
-        Err(refused) => {
-            drop(refused);
-            Err(Error::RowNotFound)
-        }
-    }
-}
-
-// Whether a URL has the scheme `mem`.
-fn expected(alloc: Global, url: &str) -> Result<(), Error> {
-    let url = parsed(alloc, url)?;
-    expect_scheme(alloc, &url, "mem")
-}
-
-// The place of the driver for a URL, of three drivers.
-fn found(alloc: Global, url: &str) -> Result<usize, Error> {
-    let url = parsed(alloc, url)?;
+// The place of the driver for a URL, of three drivers, and whether the URL has the scheme `mem`.
+fn found(alloc: Global, url: &Url) -> String {
+    let mut line = String::new(alloc);
     let list = [
         AnyDriver::without_migrate::<Toy>(),
         AnyDriver {
@@ -42,38 +22,54 @@ fn found(alloc: Global, url: &str) -> Result<usize, Error> {
             url_schemes: &["disk"],
         },
     ];
-    find_driver(alloc, &list, &url)
+    answered(&mut line, find_driver(alloc, &list, url));
+    drop(list);
+    answered(&mut line, expect_scheme(alloc, url, "mem"));
+    line
 }
+
+const FOUND: &str = "0|()|\n\
+    0|error with configuration: no driver found for URL scheme \"toy\"|\n\
+    1|error with configuration: no driver found for URL scheme \"sqlite\"|\n\
+    1|error with configuration: no driver found for URL scheme \"disk\"|\n\
+    error with configuration: no driver found for URL scheme \"pg\"|\
+    error with configuration: no driver found for URL scheme \"pg\"|\n";
 
 #[test]
 fn finds_drivers(rt: HostRuntime) -> Result<(), Fail> {
     let alloc = rt.alloc();
-    for (url, want) in &[
-        ("mem:x", "0"),
-        ("toy:x", "0"),
-        ("sqlite:x", "1"),
-        ("disk:x", "1"),
-        ("pg:x", NONE),
-    ] {
-        tells(&rt, shown(alloc, found(alloc, url)), want)?;
+    let mut lines = String::new(alloc);
+    for url in &["mem:x", "toy:x", "sqlite:x", "disk:x", "pg:x"] {
+        let options = AnyConnectOptions::parse(alloc, url)?;
+        ended(&mut lines, found(alloc, &options.database_url));
+        drop(options);
     }
+    says(&rt, lines, FOUND);
     Ok(())
 }
 
+// A database's name, that of its driver, and its schemes.
+fn named<DB: Database>(alloc: Global) -> String {
+    let driver = AnyDriver::without_migrate::<DB>();
+    told_names(alloc, DB::name(), driver, DB::url_schemes())
+}
+
+fn told_names(alloc: Global, name: &str, driver: AnyDriver, schemes: &[&str]) -> String {
+    let mut line = String::new(alloc);
+    tell(&mut line, &name);
+    tell(&mut line, &driver.name);
+    drop(driver);
+    show(&mut line, &schemes);
+    line
+}
+
+fn named_any<B: AnyConnectionBackend>(alloc: Global) -> String {
+    named::<Any<B>>(alloc)
+}
+
 #[test]
-fn expects_a_scheme(rt: HostRuntime) -> Result<(), Fail> {
+fn databases_have_names(rt: HostRuntime) {
     let alloc = rt.alloc();
-    for (url, want) in &[("mem:x", "()"), ("pg:x", NONE)] {
-        tells(&rt, shown(alloc, expected(alloc, url)), want)?;
-    }
-    Ok(())
-}
-
-#[test]
-fn databases_have_names(rt: HostRuntime) -> Result<(), Fail> {
-    assert_eq!(rt; Toy::name(), "Toy");
-    assert_eq!(rt; AnyDriver::without_migrate::<Toy>().name, "Toy");
-    assert_eq!(rt; <Any<StubBackend> as Database>::name(), "Any");
-    assert!(rt; <Any<StubBackend> as Database>::url_schemes().is_empty());
-    Ok(())
+    says(&rt, named::<Toy>(alloc), "Toy|Toy|[\"toy\", \"mem\"]|");
+    says(&rt, named_any::<StubBackend>(alloc), "Any|Any|[]|");
 }

@@ -1,14 +1,13 @@
 //! What a connection of `Any` hands on: queries, and statements that it prepares. Its backend is named in one place.
 
-use crate::says::{joined, says, tells};
-use crate::texts::asks;
+use crate::says::*;
+use crate::texts::{asked, asks};
 use sqlx_any::*;
 use sqlx_text::{AnyTypeInfoKind, Error, Fault, OutOfMemory, SqlStr};
 use std::alloc::Global;
 use std::fmt::Debug;
 use std::test::*;
 use tests_backend::StubBackend;
-use tests_database::answers::refusal;
 use tests_database::steps::{Call, gives};
 use tests_database::{Toy, ToyConnection};
 
@@ -72,50 +71,52 @@ fn parameters<T>(told: Option<Either<&[T], usize>>) -> usize {
     }
 }
 
-// How many columns and parameters a statement has, and its text.
-fn told_of<DB: Database>(alloc: Global, statement: &DB::Statement) -> Result<String, OutOfMemory> {
-    let columns = statement.columns().len();
-    let parameters = parameters(statement.parameters());
-    Ok(format!(in alloc; "{columns} {parameters} {:?}", statement.sql())?)
+fn told_statement(line: &mut String, columns: usize, parameters: usize, sql: &SqlStr) {
+    tell(line, &columns);
+    tell(line, &parameters);
+    show(line, sql);
 }
 
-// A statement that was prepared.
-fn prepared<DB: Database>(
-    alloc: Global,
-    answer: Result<DB::Statement, Error>,
-) -> Result<String, OutOfMemory> {
+// How many columns and parameters a statement has, and its text.
+fn prepared<DB: Database>(answer: Result<DB::Statement, Error>, line: &mut String) {
     match answer {
         Ok(statement) => {
-            let told = told_of::<DB>(alloc, &statement);
+            let count = parameters(statement.parameters());
+            told_statement(line, statement.columns().len(), count, statement.sql());
             drop(statement);
-            told
         }
-        Err(error) => refusal(alloc, error),
+        Err(error) => refused(line, error),
     }
 }
 
-// What comes of it; the arguments and the types of the parameters are these.
-fn answers<DB: Database, E: Executor<DB>>(
+// What comes of it.
+fn answers<DB: Database<Arguments = AnyArguments, TypeInfo = AnyTypeInfo>, E: Executor<DB>>(
     alloc: Global,
     conn: &mut E,
     ask: Ask,
-    numbers: DB::Arguments,
-    types: &[DB::TypeInfo],
-) -> Result<String, OutOfMemory>
+    line: &mut String,
+)
 where
     DB::QueryResult: Debug,
 {
     match ask {
-        Ask::Text(call) => gives::<DB, E, _>(alloc, call, conn, "SELECT"),
-        Ask::Numbers(call) => gives::<DB, E, _>(alloc, call, conn, ("SELECT", Some(numbers))),
-        Ask::Unbound(call) => gives::<DB, E, _>(alloc, call, conn, Unbound),
+        Ask::Text(call) => text(line, gives::<DB, E, _>(alloc, call, conn, "SELECT")),
+        Ask::Numbers(call) => match numbers(alloc) {
+            Ok(numbers) => {
+                let query = ("SELECT", Some(numbers));
+                text(line, gives::<DB, E, _>(alloc, call, conn, query));
+            }
+            Err(OutOfMemory) => {}
+        },
+        Ask::Unbound(call) => text(line, gives::<DB, E, _>(alloc, call, conn, Unbound)),
         Ask::Prepare => {
             let sql = SqlStr::from_static("SELECT");
-            prepared::<DB>(alloc, conn.prepare(alloc, sql))
+            prepared::<DB>(conn.prepare(alloc, sql), line);
         }
         Ask::PrepareWith => {
+            let kind = AnyTypeInfoKind::Text;
             let sql = SqlStr::from_static("SELECT");
-            prepared::<DB>(alloc, conn.prepare_with(alloc, sql, types))
+            prepared::<DB>(conn.prepare_with(alloc, sql, &[AnyTypeInfo { kind }]), line);
         }
     }
 }
@@ -124,83 +125,62 @@ fn answers_over<B: AnyConnectionBackend>(
     alloc: Global,
     conn: &mut AnyConnection<B>,
     ask: Ask,
-    numbers: AnyArguments,
-) -> Result<String, OutOfMemory> {
-    let kind = AnyTypeInfoKind::Text;
-    answers::<Any<B>, AnyConnection<B>>(alloc, conn, ask, numbers, &[AnyTypeInfo { kind }])
+    line: &mut String,
+) {
+    answers::<Any<B>, AnyConnection<B>>(alloc, conn, ask, line);
 }
 
-// What a backend by letters was handed, and what comes of its steps.
-fn of_backend(alloc: Global, letters: &str, ask: Ask) -> Result<String, Error> {
-    let numbers = numbers(alloc)?;
-    let mut conn = AnyConnection::new(StubBackend::new(alloc, letters)?);
-    let given = answers_over(alloc, &mut conn, ask, numbers);
-    let handed = conn.backend().handed_shown(alloc);
+// What a backend was handed, and what comes of its steps.
+fn of_backend(alloc: Global, backend: StubBackend, ask: Ask) -> String {
+    let mut line = String::new(alloc);
+    let mut conn = AnyConnection::new(backend);
+    answers_over(alloc, &mut conn, ask, &mut line);
+    text(&mut line, conn.backend().handed_shown(alloc));
     drop(conn);
-    Ok(joined(alloc, handed, ", ", given)?)
+    line
 }
+
+const HANDED: &str = "AnyQueryResult { rows_affected: 5, last_insert_id: None }|SELECT kept bare|\n\
+    number|text||SELECT kept bare|\n\
+    error communicating with database: other error|SELECT kept bare|\n\
+    no rows returned by a query that expected to return at least one row|SELECT kept bare|\n\
+    number|text||SELECT kept bare|\n\
+    number|AnyQueryResult { rows_affected: 2, last_insert_id: None }|error communicating with database: other error||SELECT kept bare|\n\
+    number||SELECT kept BigInt 5|Bool true||\n\
+    number||SELECT kept bare|\n\
+    error occurred while encoding a value: out of range integral type conversion attempted||nothing|\n\
+    1|0|SqlStr { text: \"SELECT\" }|nothing|\n\
+    1|1|SqlStr { text: \"SELECT\" }|nothing|\n";
 
 #[test]
 fn a_backend_is_handed_what_is_asked(rt: HostRuntime) -> Result<(), Fail> {
-    for (ask, letters, want) in &[
-        (
-            Ask::Text(Call::Execute),
-            "i2t3",
-            "SELECT kept bare, AnyQueryResult { rows_affected: 5, last_insert_id: None }",
-        ),
-        (
-            Ask::Text(Call::FetchAll),
-            "i2t3",
-            "SELECT kept bare, number|text|",
-        ),
-        (
-            Ask::Text(Call::FetchOptional),
-            "1!",
-            "SELECT kept bare, error communicating with database: other error",
-        ),
-        (
-            Ask::Text(Call::FetchOne),
-            "12",
-            "SELECT kept bare, no rows returned by a query that expected to return at least one row",
-        ),
-        (
-            Ask::Text(Call::Fetch),
-            "it",
-            "SELECT kept bare, number|text|",
-        ),
-        (
-            Ask::Text(Call::FetchMany),
-            "i2!",
-            "SELECT kept bare, number|AnyQueryResult { rows_affected: 2, last_insert_id: None }|error communicating with database: other error|",
-        ),
-        (
-            Ask::Numbers(Call::FetchMany),
-            "i",
-            "SELECT kept BigInt 5|Bool true|, number|",
-        ),
-        (Ask::Text(Call::FetchMany), "i", "SELECT kept bare, number|"),
-        (
-            Ask::Unbound(Call::FetchMany),
-            "i",
-            "nothing, error occurred while encoding a value: out of range integral type conversion attempted|",
-        ),
-        (Ask::Prepare, "", "nothing, 1 0 SqlStr { text: \"SELECT\" }"),
-        (
-            Ask::PrepareWith,
-            "",
-            "nothing, 1 1 SqlStr { text: \"SELECT\" }",
-        ),
+    let alloc = rt.alloc();
+    let mut lines = String::new(alloc);
+    for (ask, letters) in &[
+        (Ask::Text(Call::Execute), "i2t3"),
+        (Ask::Text(Call::FetchAll), "i2t3"),
+        (Ask::Text(Call::FetchOptional), "1!"),
+        (Ask::Text(Call::FetchOne), "12"),
+        (Ask::Text(Call::Fetch), "it"),
+        (Ask::Text(Call::FetchMany), "i2!"),
+        (Ask::Numbers(Call::FetchMany), "i"),
+        (Ask::Text(Call::FetchMany), "i"),
+        (Ask::Unbound(Call::FetchMany), "i"),
+        (Ask::Prepare, ""),
+        (Ask::PrepareWith, ""),
     ] {
-        says(&rt, of_backend(rt.alloc(), letters, *ask), want)?;
+        let backend = StubBackend::new(alloc, letters)?;
+        ended(&mut lines, of_backend(alloc, backend, *ask));
     }
-    tells(&rt, asked_unbound(rt.alloc()), "nothing")
+    says(&rt, lines, HANDED);
+    let conn = ToyConnection::new(alloc, "")?;
+    says(&rt, asked_unbound(alloc, conn), "nothing|");
+    Ok(())
 }
 
-// What the toy database is asked with such a query.
-fn asked_unbound(alloc: Global) -> Result<String, OutOfMemory> {
-    let mut conn = ToyConnection::new(alloc, "")?;
+// What the toy database is asked with a query whose arguments can't be had.
+fn asked_unbound(alloc: Global, conn: ToyConnection) -> String {
+    let mut conn = conn;
     asks::<Toy, ToyConnection, Unbound>(alloc, &mut conn, Unbound);
-    let shown = conn.asked_shown(alloc);
-    drop(conn);
-    shown
+    asked(alloc, conn)
 }

@@ -1,9 +1,11 @@
 //! Values of `Any` by a few words, for tables.
 
-use sqlx_any::AnyValueKind;
-use sqlx_text::{AnyTypeInfoKind, OutOfMemory};
+use sqlx_any::{AnyRow, AnyValueKind};
+use sqlx_text::{AnyTypeInfoKind, Error, OutOfMemory, SqlStr};
 use std::alloc::Global;
 use tests_backend::cells;
+use tests_database::ToyStatement;
+use tests_database::letters::{columns_of, types_of};
 
 /// A value: a number, a truth value, one of two kinds of texts, two bytes, or a null.
 #[derive(Clone, Copy)]
@@ -29,5 +31,19 @@ pub fn value_of(alloc: Global, sample: Sample) -> Result<AnyValueKind, OutOfMemo
         Sample::Text(text) => cells::text(text),
         Sample::Slice(text) => cells::slice(text),
         Sample::Blob => return cells::blob(alloc),
+    })
+}
+
+/// A row of the value.
+pub fn row_of(alloc: Global, sample: Sample) -> Result<AnyRow, Error> {
+    cells::single(alloc, value_of(alloc, sample)?)
+}
+
+/// A statement of the toy database with columns and parameters by letters.
+pub fn toy_statement(alloc: Global, letters: &str) -> Result<ToyStatement, OutOfMemory> {
+    Ok(ToyStatement {
+        sql: SqlStr::from_static("SELECT"),
+        columns: columns_of(alloc, letters)?,
+        types: types_of(alloc, letters)?,
     })
 }

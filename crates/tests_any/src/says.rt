@@ -1,41 +1,98 @@
-//! What stops a test.
+//! The lines that a test tells, a bar behind each word, and what stops a test. Where memory is wanted a word is missing.
 
-use sqlx_text::{Error, OutOfMemory};
+use sqlx_text::{Error, Fault, OutOfMemory};
 use std::alloc::Global;
+use std::fmt::{Debug, Display};
 use std::process::Abort;
-use std::test::*;
-use tests_database::answers::refusal;
 
-// The text, or that of the error in its place.
-fn text_of(alloc: Global, answer: Result<String, Error>) -> Result<String, OutOfMemory> {
-    match answer {
-        Ok(text) => Ok(text),
-        Err(error) => refusal(alloc, error),
+/// A value, as `Display` writes it.
+pub fn tell<T: Display>(line: &mut String, value: &T) {
+    drop(write!(line, "{value}|"));
+}
+
+/// A value, as `Debug` writes it.
+pub fn show<T: Debug>(line: &mut String, value: &T) {
+    drop(write!(line, "{value:?}|"));
+}
+
+/// A value that is let go, as `Debug` writes it.
+pub fn shown<T: Debug + Drop>(line: &mut String, value: T) {
+    show(line, &value);
+    drop(value);
+}
+
+/// A text.
+pub fn text(line: &mut String, told: Result<String, OutOfMemory>) {
+    match told {
+        Ok(text) => {
+            tell(line, &text);
+            drop(text);
+        }
+        Err(OutOfMemory) => {}
     }
 }
 
-/// Stops the test where another text was told, or is the error's.
-pub fn says<R: Alloc<A = Global> + Abort>(
-    rt: &R,
-    answer: Result<String, Error>,
-    want: &str,
-) -> Result<(), Fail> {
-    tells(rt, text_of(rt.alloc(), answer), want)
+/// The text of an error.
+pub fn refused(line: &mut String, error: Error) {
+    tell(line, &error);
+    drop(error);
 }
 
-/// Stops the test where another text was told, or memory was wanted.
-pub fn tells<R: Abort>(rt: &R, told: Result<String, OutOfMemory>, want: &str) -> Result<(), Fail> {
-    assert_eq!(rt; told?.as_str(), want);
-    Ok(())
+/// The text of a fault.
+pub fn faulted(line: &mut String, fault: Fault) {
+    tell(line, &fault);
+    drop(fault);
 }
 
-/// Two texts, and what stands between them.
-pub fn joined(
-    alloc: Global,
-    first: Result<String, OutOfMemory>,
-    between: &str,
-    second: Result<String, OutOfMemory>,
-) -> Result<String, OutOfMemory> {
-    let (first, second) = (first?, second?);
-    Ok(format!(in alloc; "{first}{between}{second}")?)
+/// The value of an answer, or the text of its error.
+pub fn answered<T: Debug + Drop>(line: &mut String, answer: Result<T, Error>) {
+    match answer {
+        Ok(value) => shown(line, value),
+        Err(error) => refused(line, error),
+    }
+}
+
+/// A value that is given but where memory is wanted.
+pub fn given<T: Debug + Drop>(line: &mut String, answer: Result<T, OutOfMemory>) {
+    match answer {
+        Ok(value) => shown(line, value),
+        Err(OutOfMemory) => {}
+    }
+}
+
+/// `()`, or the text of a fault.
+pub fn taken(line: &mut String, answer: Result<(), Fault>) {
+    match answer {
+        Ok(()) => show(line, &()),
+        Err(fault) => faulted(line, fault),
+    }
+}
+
+/// The end of the line.
+pub fn end(line: &mut String) {
+    drop(line.push('\n'));
+}
+
+/// A line and its end.
+pub fn ended(lines: &mut String, line: String) {
+    drop(lines.push_str(&line));
+    drop(line);
+    end(lines);
+}
+
+/// Stops the test where the line isn't the wanted one.
+pub fn says<R: Abort>(rt: &R, line: String, want: &str) {
+    assert_eq!(rt; line.as_str(), want);
+}
+
+/// The line of an answer, or one of its error.
+pub fn line_of(alloc: Global, answer: Result<String, Error>) -> String {
+    match answer {
+        Ok(line) => line,
+        Err(error) => {
+            let mut line = String::new(alloc);
+            refused(&mut line, error);
+            line
+        }
+    }
 }
