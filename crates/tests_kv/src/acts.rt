@@ -6,6 +6,7 @@ use sqlx_any::*;
 use sqlx_from_row::FromColumn;
 use sqlx_text::{Depth, Error, OutOfMemory};
 use std::alloc::Global;
+use tests_database::steps::put;
 
 /// What a connection is asked.
 #[derive(Clone, Copy)]
@@ -22,6 +23,10 @@ pub enum Act<'s> {
     Numbers(&'s str, usize),
     /// The whole number in the first column of the first row, if there is one.
     First(&'s str),
+    /// The rows of `SELECT`, each as a tuple of one whole number.
+    Tuples,
+    /// The steps of `UPDATE` with the bound text `x`, by a statement that isn't kept.
+    Steps,
     /// How many columns the rows of a text have that is prepared.
     Prepare(&'s str),
     /// How many statements are cached.
@@ -59,13 +64,12 @@ where
     DB::Connection: Executor<DB>,
     DB::Arguments: IntoArguments<DB>,
     i64: Encode<'t, DB> + SqlType<DB> + DecodeOwned<DB> + FromColumn<DB>,
+    &'t str: Encode<'t, DB> + SqlType<DB>,
     usize: ColumnIndex<DB::Row>,
 {
     let mut line = String::new(alloc);
     for act in acts {
-        let answer = queried::<DB>(alloc, conn, *act)?;
-        line.push_str(&answer)?;
-        line.push('|')?;
+        put(&mut line, queried::<DB>(alloc, conn, *act)?)?;
     }
     Ok(line)
 }
@@ -80,6 +84,7 @@ where
     DB::Connection: Executor<DB>,
     DB::Arguments: IntoArguments<DB>,
     i64: Encode<'t, DB> + SqlType<DB> + DecodeOwned<DB> + FromColumn<DB>,
+    &'t str: Encode<'t, DB> + SqlType<DB>,
     usize: ColumnIndex<DB::Row>,
 {
     match act {
@@ -89,6 +94,8 @@ where
         Act::GetOne(key) => shown(alloc, gets_one::<DB, _>(alloc, conn, key)),
         Act::Numbers(text, at) => shown(alloc, numbers::<DB, _>(alloc, conn, text, at)),
         Act::First(text) => shown(alloc, first::<DB, _>(alloc, conn, text)),
+        Act::Tuples => shown(alloc, tuples::<DB, _>(alloc, conn)),
+        Act::Steps => steps::<DB, _>(alloc, conn),
         Act::Prepare(text) => shown(alloc, prepares::<DB, _>(alloc, conn, text)),
         Act::Cached => shown(alloc, Ok(conn.cached_statements_size())),
         Act::Depth => shown(alloc, Ok(conn.depth())),

@@ -2,9 +2,10 @@
 
 use sqlx_any::*;
 use sqlx_from_row::FromColumn;
-use sqlx_query::{query, query_scalar, raw_sql};
+use sqlx_query::{query, query_as, query_scalar, raw_sql};
 use sqlx_text::{AssertSqlSafe, Error, OutOfMemory, SqlSafeStr, SqlStr};
 use std::alloc::Global;
+use tests_database::steps::{Call, gives};
 
 // Writes a key's value.
 const PUT: &str = "INSERT INTO kv(k, v) VALUES (?, ?) ON CONFLICT(k) DO UPDATE SET v = excluded.v";
@@ -24,8 +25,16 @@ pub fn runs<DB: Database<QueryResult = AnyQueryResult>, E: Executor<DB>>(
     text: &str,
 ) -> Result<u64, Error> {
     let sql = safe(alloc, text)?;
-    let result = raw_sql::<SqlStr>(alloc, sql)?.execute::<DB, E>(alloc, conn)?;
-    Ok(result.rows_affected)
+    let raw = raw_sql::<SqlStr>(alloc, sql)?;
+    written(raw.execute::<DB, E>(alloc, conn))
+}
+
+// How many rows were written.
+fn written(answer: Result<AnyQueryResult, Error>) -> Result<u64, Error> {
+    match answer {
+        Ok(told) => Ok(told.rows_affected),
+        Err(error) => Err(error),
+    }
 }
 
 /// Writes a key's value, both bound: how many rows it wrote.
@@ -41,8 +50,7 @@ where
 {
     let query = query::<DB, &'static str>(alloc, PUT)?;
     let bound = query.bind(alloc, key).bind(alloc, value);
-    let result = bound.execute(alloc, conn)?;
-    Ok(result.rows_affected)
+    written(bound.execute(alloc, conn))
 }
 
 /// The value of a bound key, if it is there.
@@ -70,10 +78,19 @@ where
     i64: Encode<'t, DB> + SqlType<DB>,
 {
     let query = query::<DB, &'static str>(alloc, GET)?;
-    let row = query.bind(alloc, key).fetch_one(alloc, conn)?;
-    let columns = row.len();
-    drop(row);
-    Ok(columns)
+    columns_of::<DB>(query.bind(alloc, key).fetch_one(alloc, conn))
+}
+
+// How many columns a row has.
+fn columns_of<DB: Database>(row: Result<DB::Row, Error>) -> Result<usize, Error> {
+    match row {
+        Ok(row) => {
+            let columns = row.len();
+            drop(row);
+            Ok(columns)
+        }
+        Err(error) => Err(error),
+    }
 }
 
 /// The whole numbers of a column, row by row.
@@ -128,6 +145,32 @@ where
         }
         None => Ok(None),
     }
+}
+
+/// The rows of `SELECT`, each as a tuple of one whole number.
+pub fn tuples<DB: Database, E: Executor<DB>>(
+    alloc: Global,
+    conn: &mut E,
+) -> Result<Vec<(i64,)>, Error>
+where
+    DB::Arguments: IntoArguments<DB>,
+    i64: FromColumn<DB>,
+{
+    let query = query_as::<DB, (i64,), _>(alloc, "SELECT")?;
+    query.fetch_all(alloc, conn)
+}
+
+/// The steps of `UPDATE` with the bound text `x`, by a statement that isn't kept: a bar behind each.
+pub fn steps<'t, DB, E>(alloc: Global, conn: &mut E) -> Result<String, OutOfMemory>
+where
+    DB: Database<QueryResult = AnyQueryResult> + HasStatementCache,
+    E: Executor<DB>,
+    DB::Arguments: IntoArguments<DB>,
+    &'t str: Encode<'t, DB> + SqlType<DB>,
+{
+    let query = query::<DB, _>(alloc, "UPDATE")?;
+    let bound = query.bind(alloc, "x").persistent(false);
+    gives::<DB, E, _>(alloc, Call::FetchMany, conn, bound)
 }
 
 /// How many columns the rows of a text have that is prepared.
