@@ -3,7 +3,7 @@ ghost use Rattle.std.specs.Prelude.{◌≡◌, ◌⊎◌, Bool, IfErr, OnOk, cod
 ghost use Rattle.sqlx_text.specs.declared.error.Error.{Error};
 ghost use Rattle.tests_queries.specs.Callers.{FirstOfUnkept, RowAppends};
 
-use crate::calls::asked;
+use crate::calls::{asked, one_row};
 use crate::says::says;
 use sqlx_query::{QueryBuilder, query};
 use sqlx_text::{Error, Fault, OutOfMemory};
@@ -12,8 +12,6 @@ use sqlx_traits::{
 };
 use std::alloc::Global;
 use std::test::*;
-use tests_database::answers::told;
-use tests_database::steps::Named;
 use tests_database::{Toy, ToyConnection};
 
 /// The first article of an author, by a statement that isn't kept.
@@ -79,7 +77,7 @@ where
 fn article(alloc: Global) -> Result<String, OutOfMemory> {
     let mut conn = ToyConnection::new(alloc, "t")?;
     let row = first_article::<Toy, ToyConnection, &str>(alloc, &mut conn, "x");
-    let given = told::<_, Named<Toy>>(alloc, row);
+    let given = one_row(alloc, row);
     asked(alloc, conn, given)
 }
 

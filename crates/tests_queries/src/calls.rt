@@ -1,11 +1,12 @@
 //! What each call that runs a query gives of it at the toy database, and what the connection was asked, as a text.
+ghost use Rattle.std.specs.Iterator.{IsFinite};
 
 use sqlx_query::{Map, Mapper, Query, RawSql, ReadQuery, Reader};
-use sqlx_text::{Fault, OutOfMemory};
+use sqlx_text::{Error, Fault, OutOfMemory};
 use sqlx_traits::*;
 use std::alloc::Global;
 use std::fmt::Debug;
-use tests_database::answers::{ByDebug, told};
+use tests_database::answers::{ByDebug, shown, told};
 use tests_database::letters::row_of;
 use tests_database::steps::*;
 use tests_database::{Toy, ToyArguments, ToyConnection, ToyRow};
@@ -15,10 +16,73 @@ pub type ToyQuery<'q> = Query<'q, Toy, ToyArguments>;
 
 // A connection that hands out the steps of letters; letters behind a space are the columns of one row.
 fn by_letters(alloc: Global, letters: &str) -> Result<ToyConnection, OutOfMemory> {
-    match letters.strip_prefix(" ") {
-        Some(letters) => ToyConnection::of_row(alloc, row_of(alloc, letters)?),
-        None => ToyConnection::new(alloc, letters),
+    let mut rest = letters.chars();
+    match rest.next() {
+        Some(' ') => ToyConnection::of_row(alloc, row_of(alloc, rest.as_str())?),
+        _ => ToyConnection::new(alloc, letters),
     }
+}
+
+// The ways in which answers are told, each for all that is told so.
+
+fn results(alloc: Global, all: ExecuteMany<Toy>) -> Result<String, OutOfMemory> {
+    told_each::<_, ByDebug, _>(alloc, all)
+}
+
+fn rows(alloc: Global, all: Fetch<Toy>) -> Result<String, OutOfMemory> {
+    told_each::<_, Named<Toy>, _>(alloc, all)
+}
+
+fn steps(alloc: Global, all: FetchMany<Toy>) -> Result<String, OutOfMemory> {
+    told_each::<_, Step<Named<Toy>>, _>(alloc, all)
+}
+
+fn all_rows(alloc: Global, all: Result<Vec<ToyRow>, Error>) -> Result<String, OutOfMemory> {
+    told::<_, All<Named<Toy>>>(alloc, all)
+}
+
+fn maybe_row(alloc: Global, row: Result<Option<ToyRow>, Error>) -> Result<String, OutOfMemory> {
+    told::<_, Maybe<Named<Toy>>>(alloc, row)
+}
+
+/// A row, by the name of its first column.
+pub fn one_row(alloc: Global, row: Result<ToyRow, Error>) -> Result<String, OutOfMemory> {
+    told::<_, Named<Toy>>(alloc, row)
+}
+
+fn values<T: Debug + Drop, I: Iterator<Item = Result<T, Error>> + Drop>(
+    alloc: Global,
+    items: I,
+) -> Result<String, OutOfMemory>
+    requires can { I.can_next items }
+    requires ends { IsFinite (I.remaining items) }
+{
+    told_each::<_, ByDebug, _>(alloc, items)
+}
+
+fn value_steps<
+    Q: Debug + Drop,
+    T: Debug + Drop,
+    I: Iterator<Item = Result<Either<Q, T>, Error>> + Drop,
+>(alloc: Global, items: I) -> Result<String, OutOfMemory>
+    requires can { I.can_next items }
+    requires ends { IsFinite (I.remaining items) }
+{
+    told_each::<_, Step<ByDebug>, _>(alloc, items)
+}
+
+fn all_values<T: Debug + Drop>(
+    alloc: Global,
+    all: Result<Vec<T>, Error>,
+) -> Result<String, OutOfMemory> {
+    shown(alloc, all)
+}
+
+fn maybe_value<T: Debug + Drop>(
+    alloc: Global,
+    value: Result<Option<T>, Error>,
+) -> Result<String, OutOfMemory> {
+    shown(alloc, value)
 }
 
 // What a call gives of a query.
@@ -29,19 +93,13 @@ fn of_query(
     conn: &mut ToyConnection,
 ) -> Result<String, OutOfMemory> {
     match call {
-        Call::Execute => told::<_, ByDebug>(alloc, query.execute(alloc, conn)),
-        Call::ExecuteMany => told_each::<_, ByDebug, _>(alloc, query.execute_many(alloc, conn)),
-        Call::Fetch => told_each::<_, Named<Toy>, _>(alloc, query.fetch(alloc, conn)),
-        Call::FetchMany => told_each::<_, Step<Named<Toy>>, _>(
-            alloc,
-            query.fetch_many(alloc, conn),
-        ),
-        Call::FetchAll => told::<_, All<Named<Toy>>>(alloc, query.fetch_all(alloc, conn)),
-        Call::FetchOptional => told::<_, Maybe<Named<Toy>>>(
-            alloc,
-            query.fetch_optional(alloc, conn),
-        ),
-        Call::FetchOne => told::<_, Named<Toy>>(alloc, query.fetch_one(alloc, conn)),
+        Call::Execute => shown(alloc, query.execute(alloc, conn)),
+        Call::ExecuteMany => results(alloc, query.execute_many(alloc, conn)),
+        Call::Fetch => rows(alloc, query.fetch(alloc, conn)),
+        Call::FetchMany => steps(alloc, query.fetch_many(alloc, conn)),
+        Call::FetchAll => all_rows(alloc, query.fetch_all(alloc, conn)),
+        Call::FetchOptional => maybe_row(alloc, query.fetch_optional(alloc, conn)),
+        Call::FetchOne => one_row(alloc, query.fetch_one(alloc, conn)),
     }
 }
 
@@ -53,22 +111,13 @@ fn of_raw(
     conn: &mut ToyConnection,
 ) -> Result<String, OutOfMemory> {
     match call {
-        Call::Execute => told::<_, ByDebug>(alloc, raw.execute::<Toy, _>(alloc, conn)),
-        Call::ExecuteMany => told_each::<_, ByDebug, _>(
-            alloc,
-            raw.execute_many::<Toy, _>(alloc, conn),
-        ),
-        Call::Fetch => told_each::<_, Named<Toy>, _>(alloc, raw.fetch::<Toy, _>(alloc, conn)),
-        Call::FetchMany => told_each::<_, Step<Named<Toy>>, _>(
-            alloc,
-            raw.fetch_many::<Toy, _>(alloc, conn),
-        ),
-        Call::FetchAll => told::<_, All<Named<Toy>>>(alloc, raw.fetch_all::<Toy, _>(alloc, conn)),
-        Call::FetchOptional => told::<_, Maybe<Named<Toy>>>(
-            alloc,
-            raw.fetch_optional::<Toy, _>(alloc, conn),
-        ),
-        Call::FetchOne => told::<_, Named<Toy>>(alloc, raw.fetch_one::<Toy, _>(alloc, conn)),
+        Call::Execute => shown(alloc, raw.execute::<Toy, _>(alloc, conn)),
+        Call::ExecuteMany => results(alloc, raw.execute_many::<Toy, _>(alloc, conn)),
+        Call::Fetch => rows(alloc, raw.fetch::<Toy, _>(alloc, conn)),
+        Call::FetchMany => steps(alloc, raw.fetch_many::<Toy, _>(alloc, conn)),
+        Call::FetchAll => all_rows(alloc, raw.fetch_all::<Toy, _>(alloc, conn)),
+        Call::FetchOptional => maybe_row(alloc, raw.fetch_optional::<Toy, _>(alloc, conn)),
+        Call::FetchOne => one_row(alloc, raw.fetch_one::<Toy, _>(alloc, conn)),
     }
 }
 
@@ -83,33 +132,33 @@ where
     M::Out: Debug,
 {
     match call {
-        Call::Fetch => told_each::<_, ByDebug, _>(alloc, query.fetch(alloc, conn)),
-        Call::FetchMany => told_each::<_, Step<ByDebug>, _>(alloc, query.fetch_many(alloc, conn)),
-        Call::FetchAll => told::<_, ByDebug>(alloc, query.fetch_all(alloc, conn)),
-        Call::FetchOptional => told::<_, ByDebug>(alloc, query.fetch_optional(alloc, conn)),
-        Call::FetchOne => told::<_, ByDebug>(alloc, query.fetch_one(alloc, conn)),
-        _ => told::<_, ByDebug>(alloc, conn.execute(alloc, query)),
+        Call::Fetch => values(alloc, query.fetch(alloc, conn)),
+        Call::FetchMany => value_steps(alloc, query.fetch_many(alloc, conn)),
+        Call::FetchAll => all_values(alloc, query.fetch_all(alloc, conn)),
+        Call::FetchOptional => maybe_value(alloc, query.fetch_optional(alloc, conn)),
+        Call::FetchOne => shown(alloc, query.fetch_one(alloc, conn)),
+        _ => shown(alloc, conn.execute(alloc, query)),
     }
 }
 
 // What a call gives of a query whose rows are mapped; `Execute` is the executor's own.
-fn of_map<F: Mapper<ToyRow> + Drop>(
+fn of_map<F: Mapper<ToyRow>>(
     alloc: Global,
     call: Call,
     query: Map<'_, Toy, F, ToyArguments>,
     conn: &mut ToyConnection,
 ) -> Result<String, OutOfMemory>
 where
-    F::Out: Debug + Drop,
+    F::Out: Debug,
     requires { F.ready query.mapper }
 {
     match call {
-        Call::Fetch => told_each::<_, ByDebug, _>(alloc, query.fetch(alloc, conn)),
-        Call::FetchMany => told_each::<_, Step<ByDebug>, _>(alloc, query.fetch_many(alloc, conn)),
-        Call::FetchAll => told::<_, ByDebug>(alloc, query.fetch_all(alloc, conn)),
-        Call::FetchOptional => told::<_, ByDebug>(alloc, query.fetch_optional(alloc, conn)),
-        Call::FetchOne => told::<_, ByDebug>(alloc, query.fetch_one(alloc, conn)),
-        _ => told::<_, ByDebug>(alloc, conn.execute(alloc, query)),
+        Call::Fetch => values(alloc, query.fetch(alloc, conn)),
+        Call::FetchMany => value_steps(alloc, query.fetch_many(alloc, conn)),
+        Call::FetchAll => all_values(alloc, query.fetch_all(alloc, conn)),
+        Call::FetchOptional => maybe_value(alloc, query.fetch_optional(alloc, conn)),
+        Call::FetchOne => shown(alloc, query.fetch_one(alloc, conn)),
+        _ => shown(alloc, conn.execute(alloc, query)),
     }
 }
 
@@ -196,14 +245,14 @@ where
 }
 
 /// The same of a query whose rows are mapped.
-pub fn ran_map<F: Mapper<ToyRow> + Drop>(
+pub fn ran_map<F: Mapper<ToyRow>>(
     alloc: Global,
     letters: &str,
     call: Call,
     query: Map<'_, Toy, F, ToyArguments>,
 ) -> Result<String, OutOfMemory>
 where
-    F::Out: Debug + Drop,
+    F::Out: Debug,
     requires { F.ready query.mapper }
 {
     match by_letters(alloc, letters) {
