@@ -268,10 +268,10 @@ fn texts(alloc: Global, builder: QueryBuilder<Toy>) -> Result<String, OutOfMemor
 }
 
 // A builder without arguments, to which one is bound.
-fn begun(alloc: Global) -> Result<String, Fault> {
+fn begun(alloc: Global) -> Result<QueryBuilder<Toy>, Fault> {
     let mut builder = QueryBuilder::<Toy>::new(alloc, "SELECT".to_string(alloc)?);
     match builder.try_push_bind(alloc, 1i64) {
-        Ok(()) => Ok(built_anew(alloc, builder)?),
+        Ok(()) => Ok(builder),
         Err(fault) => {
             drop(builder);
             Err(fault)
@@ -295,7 +295,7 @@ fn used(alloc: Global, what: Use) -> Result<String, Fault> {
         Use::Scalar => built_scalar(alloc, started(alloc)?),
         Use::Anew => built_anew(alloc, started(alloc)?),
         Use::Texts => texts(alloc, started(alloc)?),
-        Use::Begun => return begun(alloc),
+        Use::Begun => built_anew(alloc, begun(alloc)?),
     };
     Ok(told?)
 }
