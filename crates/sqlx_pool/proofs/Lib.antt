@@ -6,3 +6,6 @@ pub mod RefusalLemmas
 pub mod HandleLemmas
 pub mod SeenLemmas
 pub mod CheckLemmas
+pub mod AskLemmas
+pub mod EndLemmas
+pub mod TallyLemmas

@@ -79,8 +79,6 @@ impl<C: Depth + Drop, O: Drop, H: Ledger, L: Loans> AcquiringOf<C, O, H, L> {
     {
         let begun = self
             .pool
-            .shared
-            .locked
             .lock(rt)
             .begin(self.client, self.ticket, now, tally);
         self.go_on::<R, X>(rt, alloc, now, begun, out, tally)
@@ -143,7 +141,7 @@ impl<C: Depth + Drop, O: Drop, H: Ledger, L: Loans> AcquiringOf<C, O, H, L> {
             client,
             ticket,
         } = self;
-        let mut guard = pool.shared.locked.lock(rt);
+        let mut guard = pool.lock(rt);
         let ended = guard.seen_cancel(client, ticket);
         pool.unlock(guard);
         ended

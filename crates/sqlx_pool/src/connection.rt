@@ -84,7 +84,7 @@ impl<C: Depth + Drop, O: Drop, H: Ledger, L: Loans> PoolConnectionOf<C, O, H, L>
         } = self;
         let check = pool.check::<R, X>(rt, closes, created, now, &mut raw, out);
         let lent = Lent { id, created, raw };
-        let mut guard = pool.shared.locked.lock(rt);
+        let mut guard = pool.lock(rt);
         let gave = guard.give(client, lent, now, passes(check), held);
         pool.unlock(guard);
         let (given, left) = gave;
@@ -124,7 +124,7 @@ impl<C: Depth + Drop, O: Drop, H: Ledger, L: Loans> PoolConnectionOf<C, O, H, L>
             held,
             closes: _,
         } = self;
-        let mut guard = pool.shared.locked.lock(rt);
+        let mut guard = pool.lock(rt);
         let (ended, left) = guard.end(client, id, held);
         pool.unlock(guard);
         drop(left);
@@ -157,7 +157,7 @@ impl<C: Depth + Drop, O: Drop, H: Ledger, L: Loans> PoolConnectionOf<C, O, H, L>
             held,
             closes: _,
         } = self;
-        let mut guard = pool.shared.locked.lock(rt);
+        let mut guard = pool.lock(rt);
         let (left_pool, share) = guard.detach(client, id, held);
         pool.unlock(guard);
         drop(share);
@@ -185,7 +185,7 @@ impl<C: Depth + Drop, O: Drop, H: Ledger, L: Loans> PoolConnectionOf<C, O, H, L>
             held,
             closes: _,
         } = self;
-        let (left_pool, share) = pool.shared.locked.lock(rt).leak(client, id, held);
+        let (left_pool, share) = pool.lock(rt).leak(client, id, held);
         drop(share);
         let opened = pool.keep_minimum_if::<R, X>(left_pool, rt, alloc, now, out);
         (raw, opened)

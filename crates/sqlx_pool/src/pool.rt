@@ -81,9 +81,14 @@ impl<C: Depth + Drop, O: Drop, H: Ledger, L: Loans> PoolOf<C, O, H, L> {
         }
     }
 
+    // Takes the lock.
+    pub(crate) fn lock<R: Wait>(&self, rt: &R) -> Guard<'_, C, O, H, L> {
+        self.shared.locked.lock(rt)
+    }
+
     // Takes the lock, and cuts the log where it is long: before each step that reserves room for marks.
     pub(crate) fn lock_and_cut<R: Wait>(&self, rt: &R) -> Guard<'_, C, O, H, L> {
-        let mut guard = self.shared.locked.lock(rt);
+        let mut guard = self.lock(rt);
         guard.cut_if_long();
         guard
     }
@@ -177,7 +182,7 @@ impl<C: Depth + Drop, O: Drop, H: Ledger, L: Loans> PoolOf<C, O, H, L> {
         ensures most { result ≤ L.max }
         ensures saw { Saw C.levels L.max L.cuts (λ state. result ≡ size_at state.core.places state.marks) }
     {
-        self.shared.locked.lock(rt).seen_size()
+        self.lock(rt).seen_size()
     }
 
     /// How many connections are idle: at most the maximum.
@@ -185,21 +190,21 @@ impl<C: Depth + Drop, O: Drop, H: Ledger, L: Loans> PoolOf<C, O, H, L> {
         ensures most { result ≤ L.max }
         ensures saw { Saw C.levels L.max L.cuts (λ state. result ≡ length (idle_of state.marks)) }
     {
-        self.shared.locked.lock(rt).seen_idle()
+        self.lock(rt).seen_idle()
     }
 
     /// Whether the pool is closed.
     pub fn is_closed<R: Wait>(&self, rt: &R) -> bool
         ensures { Saw C.levels L.max L.cuts (λ state. is_open state.marks ≡ not result) }
     {
-        self.shared.locked.lock(rt).seen_closed()
+        self.lock(rt).seen_closed()
     }
 
     /// How far the pool is closed.
     pub fn closing<R: Wait>(&self, rt: &R) -> CloseState
         ensures { Saw C.levels L.max L.cuts (λ state. result ≡ close_state_of state.marks) }
     {
-        self.shared.locked.lock(rt).seen_closing()
+        self.lock(rt).seen_closing()
     }
 
     /// What tells that the pool is closed.
@@ -221,7 +226,7 @@ impl<C: Depth + Drop, O: Drop, H: Ledger, L: Loans> PoolOf<C, O, H, L> {
 
     /// The options by which connections are opened.
     pub fn connect_options<R: Wait>(&self, rt: &R) -> Result<Arc<O, Global>, OutOfMemory> {
-        let guard = self.shared.locked.lock(rt);
+        let guard = self.lock(rt);
         match Arc::try_clone(guard.connect_options()) {
             Ok(connect) => Ok(connect),
             Err(_) => Err(OutOfMemory),
@@ -238,7 +243,7 @@ impl<C: Depth + Drop, O: Drop, H: Ledger, L: Loans> PoolOf<C, O, H, L> {
         let Ok(options) = Arc::new(alloc, options) else {
             return Err(OutOfMemory);
         };
-        let former = self.shared.locked.lock(rt).set_connect_options(options);
+        let former = self.lock(rt).set_connect_options(options);
         drop(former);
         Ok(())
     }
@@ -247,7 +252,7 @@ impl<C: Depth + Drop, O: Drop, H: Ledger, L: Loans> PoolOf<C, O, H, L> {
     pub fn log_len<R: Wait>(&self, rt: &R) -> usize
         ensures { Saw C.levels L.max L.cuts (λ state. result ≡ length (since_start state)) }
     {
-        self.shared.locked.lock(rt).seen_len()
+        self.lock(rt).seen_len()
     }
 
     /// Cuts the log: the marks that later ones still look at become its start, and the others are forgotten. It takes no
@@ -255,7 +260,7 @@ impl<C: Depth + Drop, O: Drop, H: Ledger, L: Loans> PoolOf<C, O, H, L> {
     pub fn cut_log<R: Wait>(&self, rt: &R)
         requires { L.cuts ≡ true }
     {
-        self.shared.locked.lock(rt).cut();
+        self.lock(rt).cut();
     }
 
     /// Sets that the pool cuts its log by itself, before a step that reserves room for marks, where behind the start there
@@ -263,7 +268,7 @@ impl<C: Depth + Drop, O: Drop, H: Ledger, L: Loans> PoolOf<C, O, H, L> {
     pub fn set_log_limit<R: Wait>(&self, rt: &R, limit: Option<usize>)
         requires { L.cuts ≡ true }
     {
-        self.shared.locked.lock(rt).set_log_limit(limit);
+        self.lock(rt).set_log_limit(limit);
     }
 
     /// A copy of the log: fair behind its start, for a pool of this maximum. The start is empty where the log may not be
@@ -273,7 +278,7 @@ impl<C: Depth + Drop, O: Drop, H: Ledger, L: Loans> PoolOf<C, O, H, L> {
         ensures start { IfOk result (λ log. L.cuts ≡ false → IsUncut log) }
         ensures fair { IfOk result (λ log. IsFair L.max log.start.items log.marks.items) }
     {
-        self.shared.locked.lock(rt).seen_log(alloc)
+        self.lock(rt).seen_log(alloc)
     }
 
     /// As `read_log`, by the tally with every part: the log has as many `Lent` marks as that has counted loans, however
@@ -290,7 +295,7 @@ impl<C: Depth + Drop, O: Drop, H: Ledger, L: Loans> PoolOf<C, O, H, L> {
         ensures counted { IfOk result (λ log. log.lent_before + lents (log.start.items ++ log.marks.items) ≡ all.old.loans) }
         ensures same { all.new ≡ all.old }
     {
-        let mut guard = self.shared.locked.lock(rt);
+        let mut guard = self.lock(rt);
         guard.audit(all);
         guard.facts();
         guard.read_log(alloc)

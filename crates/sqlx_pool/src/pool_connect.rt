@@ -36,7 +36,7 @@ pub trait PoolConnect: Drop + Sized {
         ensures tally { IfOk result (λ made. made.1 ≡ record { parts = L.parts; loans = 0 }) };
 
     /// As `connect_lazy_with`, by the options of a URL.
-    fn connect_lazy<C: Depth + Drop, O: ConnectOptions + Drop, H: Ledger, L: Loans>(
+    final fn connect_lazy<C: Depth + Drop, O: ConnectOptions + Drop, H: Ledger, L: Loans>(
         self,
         alloc: Global,
         url: &str,
@@ -56,7 +56,7 @@ pub trait PoolConnect: Drop + Sized {
 
     /// A pool that opens as many connections as its minimum, at least one and at most its maximum, one try each, and
     /// puts them among the idle. The first refusal is answered, and what was opened is closed hard.
-    fn connect_with<C: Depth + Drop, O: Drop, H: Ledger, L: Loans, R: Wait, X: Outside<C, O>>(
+    final fn connect_with<C: Depth + Drop, O: Drop, H: Ledger, L: Loans, R: Wait, X: Outside<C, O>>(
         self,
         rt: &R,
         alloc: Global,
@@ -85,7 +85,7 @@ pub trait PoolConnect: Drop + Sized {
     }
 
     /// As `connect_with`, by the options of a URL.
-    fn connect<
+    final fn connect<
         C: Depth + Drop,
         O: ConnectOptions + Drop,
         H: Ledger,

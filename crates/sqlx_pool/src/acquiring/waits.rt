@@ -216,7 +216,7 @@ impl<C: Depth + Drop, O: Drop, H: Ledger, L: Loans> AcquiringOf<C, O, H, L> {
         ensures counts { (X.faults out.old ≤ X.faults out.new) × (X.refusals out.old ≤ X.refusals out.new) }
     {
         let now = clock.now();
-        let mut guard = self.pool.shared.locked.lock(rt);
+        let mut guard = self.pool.lock(rt);
         let begun = guard.begin(self.client, self.ticket, now, tally);
         self.pool.sleep_if_waiting(rt, guard, self.ticket, &begun);
         self.go_on::<R, X>(rt, alloc, now, begun, out, tally)

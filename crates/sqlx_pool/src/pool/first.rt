@@ -54,7 +54,7 @@ impl<C: Depth + Drop, O: Drop, H: Ledger, L: Loans> PoolOf<C, O, H, L> {
     {
         let opened = self.open_first::<R, X>(rt, alloc, now, out);
         if opened.is_err() {
-            let idle = self.shared.locked.lock(rt).close();
+            let idle = self.lock(rt).close();
             self.notify();
             close_all::<C, O, X>(Check::CloseHard, idle, out);
         }
@@ -95,7 +95,7 @@ impl<C: Depth + Drop, O: Drop, H: Ledger, L: Loans> PoolOf<C, O, H, L> {
         ensures counts { (X.faults out.old ≤ X.faults out.new) × (X.refusals out.old ≤ X.refusals out.new) }
         ensures refused { IfErr result (IsOpenRefusal X.depth C.levels (X.faults out.old) (X.refusals out.old) (X.faults out.new) (X.refusals out.new)) }
     {
-        let place = self.shared.locked.lock(rt).first_place(alloc);
+        let place = self.lock(rt).first_place(alloc);
         match place {
             Ok(true) => match self.connect_first::<R, X>(rt, alloc, out) {
                 Ok(raw) => Ok(self.keep_new::<R, X>(rt, now, raw, out)),

@@ -74,7 +74,7 @@ impl<C: Depth + Drop, O: Drop, H: Ledger, L: Loans> PoolOf<C, O, H, L> {
     fn tests_at<R: Wait>(&self, rt: &R, created: Moment, now: Moment) -> Option<Moment> {
         let options = &self.shared.options;
         if options.get_after_release() {
-            return self.shared.locked.lock(rt).tests_at(created, now);
+            return self.lock(rt).tests_at(created, now);
         }
         if self.shared.closed.load(Ordering::SeqCst) || is_too_old(options, created, now) {
             None
@@ -89,7 +89,7 @@ impl<C: Depth + Drop, O: Drop, H: Ledger, L: Loans> PoolOf<C, O, H, L> {
         ensures saw { Saw C.levels L.max L.cuts (λ state. result ≡ length (closed_at state.marks)) }
         ensures counts { (X.faults out.old ≤ X.faults out.new) × (X.refusals out.old ≤ X.refusals out.new) }
     {
-        let mut guard = self.shared.locked.lock(rt);
+        let mut guard = self.lock(rt);
         let idle = guard.seen_close();
         self.shared.closed.store(true, Ordering::SeqCst);
         drop(guard);
@@ -123,7 +123,7 @@ impl<C: Depth + Drop, O: Drop, H: Ledger, L: Loans> PoolOf<C, O, H, L> {
     {
         let max = self.shared.options.get_max_connections();
         for reaped in 0..max {
-            let idle = self.shared.locked.lock(rt).seen_reap(now);
+            let idle = self.lock(rt).seen_reap(now);
             match idle {
                 Some(idle) => checks::close_by::<C, O, X>(Check::Close, idle.lent.raw, out),
                 None => return reaped,
@@ -252,7 +252,7 @@ impl<C: Depth + Drop, O: Drop, H: Ledger, L: Loans> PoolOf<C, O, H, L> {
         ensures unfilled { IfUnfilled result (Saw C.levels L.max L.cuts IsFilled) (IsCounted X.faults X.refusals out.old out.new) }
         ensures counts { (X.faults out.old ≤ X.faults out.new) × (X.refusals out.old ≤ X.refusals out.new) }
     {
-        let back = self.shared.locked.lock(rt).seen_done(now, raw);
+        let back = self.lock(rt).seen_done(now, raw);
         self.notify();
         match back {
             None => Filled::Opened,
@@ -265,7 +265,7 @@ impl<C: Depth + Drop, O: Drop, H: Ledger, L: Loans> PoolOf<C, O, H, L> {
 
     // Gives a place back for which nothing was opened.
     pub(super) fn let_go<R: Wait>(&self, rt: &R, now: Moment) {
-        let back = self.shared.locked.lock(rt).minimum_done(now, None);
+        let back = self.lock(rt).minimum_done(now, None);
         self.notify();
         drop(back);
     }

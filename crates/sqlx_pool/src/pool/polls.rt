@@ -74,11 +74,7 @@ impl<C: Depth + Drop, O: Drop, H: Ledger, L: Loans> PoolOf<C, O, H, L> {
         ensures counts { (X.faults out.old ≤ X.faults out.new) × (X.refusals out.old ≤ X.refusals out.new) }
     {
         let verdict = checks::judge::<C, O, X>(&self.shared.options, idle, moment, out);
-        let finished = self
-            .shared
-            .locked
-            .lock(rt)
-            .finish_test(client, ticket, verdict, tally);
+        let finished = self.lock(rt).finish_test(client, ticket, verdict, tally);
         let (after, held) = finished;
         after_test(after, held, moment)
     }
@@ -123,8 +119,6 @@ impl<C: Depth + Drop, O: Drop, H: Ledger, L: Loans> PoolOf<C, O, H, L> {
         ensures connected { wants_connect result ≡ false }
     {
         let finished = self
-            .shared
-            .locked
             .lock(rt)
             .finish_connect(client, ticket, now, tried, tally);
         let (after, held) = finished;
@@ -149,8 +143,6 @@ impl<C: Depth + Drop, O: Drop, H: Ledger, L: Loans> PoolOf<C, O, H, L> {
         ensures connected { wants_connect result ≡ false }
     {
         let finished = self
-            .shared
-            .locked
             .lock(rt)
             .finish_connect(client, ticket, now, Tried::Fatal, tally);
         let (after, held) = finished;
