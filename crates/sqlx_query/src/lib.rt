@@ -25,7 +25,7 @@ pub use statements::{
 };
 pub use tuple_row::TupleRow;
 pub use types::map::Map;
-pub use types::map_stream::{MapManyStream, MapStream};
+pub use types::map_stream::{MapManyStream, MapStream, MappedRowList, MappedStepList};
 pub use types::mapper::{Each, Mapped, Mapper, TryEach};
 pub use types::query::Query;
 pub use types::raw_sql::RawSql;

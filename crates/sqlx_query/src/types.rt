@@ -7,3 +7,4 @@ pub(crate) mod raw_sql;
 pub(crate) mod read_query;
 pub(crate) mod read_stream;
 pub(crate) mod reader;
+pub(crate) mod request;

@@ -6,7 +6,9 @@ ghost use Rattle.sqlx_traits.specs.StepList.{Ran, RunsNothing, StepCause, StepCa
 ghost use Rattle.sqlx_query.specs.Query.{handed_over, turned};
 ghost use Rattle.sqlx_query.specs.Mapping.{MapsAll, ReadsOne, ReadsOptional, RefusedBy, made_by};
 
-use crate::{Each, MapManyStream, MapStream, Mapped, Mapper, Query, TryEach};
+use crate::{
+    Each, MapManyStream, MapStream, Mapped, MappedRowList, MappedStepList, Mapper, Query, TryEach,
+};
 use sqlx_text::{Error, Fault, OutOfMemory, SqlStr};
 use sqlx_traits::{Database, Execute, Executor, IntoArguments, Row};
 use std::alloc::Global;
@@ -96,9 +98,9 @@ impl<'q, DB: Database, F: Mapper<DB::Row>, A: IntoArguments<DB> + Drop> Map<'q, 
         ensures rises { E.faults executor.old ≤ E.faults executor.new }
         ensures causes { StepCauses (E.faults executor.old) (E.faults executor.new) (turned A.becomes self.entry.query.arguments) result.rows }
     {
-        MapStream {
+        MappedRowList {
             alloc,
-            rows: executor.fetch(alloc, self.query),
+            rows: self.query.fetch(alloc, executor),
             mapper: self.mapper,
         }
     }
@@ -115,9 +117,9 @@ impl<'q, DB: Database, F: Mapper<DB::Row>, A: IntoArguments<DB> + Drop> Map<'q, 
         ensures rises { E.faults executor.old ≤ E.faults executor.new }
         ensures causes { StepCauses (E.faults executor.old) (E.faults executor.new) (turned A.becomes self.entry.query.arguments) result.list }
     {
-        MapManyStream {
+        MappedStepList {
             alloc,
-            list: executor.fetch_many(alloc, self.query),
+            list: self.query.fetch_many(alloc, executor),
             mapper: self.mapper,
         }
     }
@@ -150,7 +152,7 @@ impl<'q, DB: Database, F: Mapper<DB::Row>, A: IntoArguments<DB> + Drop> Map<'q, 
         ensures rises { E.faults executor.old ≤ E.faults executor.new }
         ensures cause { IfErr result (λ e. RefusedBy F.maps e ⊎ ((e ≡ Error.RowNotFound) ⊎ StepCause (E.faults executor.old) (E.faults executor.new) (turned A.becomes self.entry.query.arguments) e)) }
     {
-        map_one(self.mapper, executor.fetch_one(alloc, self.query))
+        map_one(self.mapper, self.query.fetch_one(alloc, executor))
     }
 
     /// Runs it and gives its first mapped row, or the error or refusal in its place, or `None` where it has none.
@@ -166,7 +168,7 @@ impl<'q, DB: Database, F: Mapper<DB::Row>, A: IntoArguments<DB> + Drop> Map<'q, 
         ensures rises { E.faults executor.old ≤ E.faults executor.new }
         ensures cause { IfErr result (λ e. RefusedBy F.maps e ⊎ StepCause (E.faults executor.old) (E.faults executor.new) (turned A.becomes self.entry.query.arguments) e) }
     {
-        map_optional(self.mapper, executor.fetch_optional(alloc, self.query))
+        map_optional(self.mapper, self.query.fetch_optional(alloc, executor))
     }
 }
 

@@ -3,22 +3,26 @@ ghost use Rattle.std.specs.Prelude.{◌≡◌, [], length};
 ghost use Rattle.sqlx_query.specs.Mapping.{MapsAll, NextRow, NextStep, left_after};
 
 use crate::Mapper;
+use either::Either;
 use sqlx_text::Error;
-use sqlx_traits::{Database, Either, Fetch, FetchMany, StepList};
+use sqlx_traits::{Database, RowList, StepList};
 use std::alloc::Global;
 use std::collections::VecDeque;
 use std::mem;
 
-/// The mapped rows that are still to be handed out. What `Map::fetch` gives.
+/// The mapped rows that are still to be handed out.
 #[derive(Drop)]
-pub struct MapStream<DB: Database, F> {
+pub struct MappedRowList<Q, R, F> {
     pub(crate) alloc: Global,
-    pub(crate) rows: Fetch<DB>,
+    pub(crate) rows: RowList<Q, R>,
     pub(crate) mapper: F,
 }
 
+/// What `Map::fetch` gives.
+pub type MapStream<DB, F> = MappedRowList<<DB as Database>::QueryResult, <DB as Database>::Row, F>;
+
 /// Hands out the next row as the mapper makes it, or its refusal, or the error behind the rows.
-impl<DB: Database, F: Mapper<DB::Row>> Iterator for MapStream<DB, F> {
+impl<Q: Drop, R: Drop, F: Mapper<R>> Iterator for MappedRowList<Q, R, F> {
     type Item = Result<F::Out, Error>;
 
     ghost use Rattle.std.specs.Iterator.{at_most};
@@ -36,9 +40,13 @@ impl<DB: Database, F: Mapper<DB::Row>> Iterator for MapStream<DB, F> {
             None => None,
         }
     }
+
+    fn size_hint(&self) -> (usize, Option<usize>) {
+        (0, None)
+    }
 }
 
-impl<DB: Database, F: Mapper<DB::Row>> MapStream<DB, F> {
+impl<Q: Drop, R: Drop, F: Mapper<R>> MappedRowList<Q, R, F> {
     /// All mapped rows, or the first error or refusal, or want of memory.
     #[tactic(auto, using(crate::proofs::MappingLemmas::after_none, crate::proofs::MappingLemmas::after_next))]
     pub(crate) fn all_rows(self) -> Result<Vec<F::Out>, Error>
@@ -68,7 +76,7 @@ impl<DB: Database, F: Mapper<DB::Row>> MapStream<DB, F> {
     }
 
     // What the mapper makes of a row. After a refusal there are no rows any more.
-    fn map_row(&mut self, row: DB::Row) -> Result<F::Out, Error>
+    fn map_row(&mut self, row: R) -> Result<F::Out, Error>
         requires { F.ready self.old.mapper }
         ensures again { F.ready self.new.mapper }
         ensures maps { F.maps self.old.mapper row result self.new.mapper }
@@ -76,23 +84,30 @@ impl<DB: Database, F: Mapper<DB::Row>> MapStream<DB, F> {
     {
         let answer = self.mapper.call(row);
         if answer.is_err() {
-            drop(mem::replace(&mut self.rows, Fetch::<DB>::new(nothing(self.alloc))));
+            drop(mem::replace(&mut self.rows, RowList::new(nothing(self.alloc))));
         }
         answer
     }
 }
 
-/// The results and mapped rows that are still to be handed out. What `Map::fetch_many` gives.
+/// The results and mapped rows that are still to be handed out.
 #[derive(Drop)]
-pub struct MapManyStream<DB: Database, F> {
+pub struct MappedStepList<Q, R, F> {
     pub(crate) alloc: Global,
-    pub(crate) list: FetchMany<DB>,
+    pub(crate) list: StepList<Q, R>,
     pub(crate) mapper: F,
 }
 
+/// What `Map::fetch_many` gives.
+pub type MapManyStream<DB, F> = MappedStepList<
+    <DB as Database>::QueryResult,
+    <DB as Database>::Row,
+    F,
+>;
+
 /// Hands out the next result, or the next row as the mapper makes it, or a refusal.
-impl<DB: Database, F: Mapper<DB::Row>> Iterator for MapManyStream<DB, F> {
-    type Item = Result<Either<DB::QueryResult, F::Out>, Error>;
+impl<Q: Drop, R: Drop, F: Mapper<R>> Iterator for MappedStepList<Q, R, F> {
+    type Item = Result<Either<Q, F::Out>, Error>;
 
     ghost use Rattle.std.specs.Iterator.{at_most};
 
@@ -102,7 +117,7 @@ impl<DB: Database, F: Mapper<DB::Row>> Iterator for MapManyStream<DB, F> {
 
     ghost remaining = { λ s. at_most (length s.list) };
 
-    fn next(&mut self) -> Option<Result<Either<DB::QueryResult, F::Out>, Error>> {
+    fn next(&mut self) -> Option<Result<Either<Q, F::Out>, Error>> {
         match self.list.next() {
             Some(Ok(Either::Right(row))) => match self.map_row(row) {
                 Ok(made) => Some(Ok(Either::Right(made))),
@@ -113,11 +128,15 @@ impl<DB: Database, F: Mapper<DB::Row>> Iterator for MapManyStream<DB, F> {
             None => None,
         }
     }
+
+    fn size_hint(&self) -> (usize, Option<usize>) {
+        (0, None)
+    }
 }
 
-impl<DB: Database, F: Mapper<DB::Row>> MapManyStream<DB, F> {
+impl<Q: Drop, R: Drop, F: Mapper<R>> MappedStepList<Q, R, F> {
     // What the mapper makes of a row. After a refusal there are no items any more.
-    fn map_row(&mut self, row: DB::Row) -> Result<F::Out, Error>
+    fn map_row(&mut self, row: R) -> Result<F::Out, Error>
         requires { F.ready self.old.mapper }
         ensures again { F.ready self.new.mapper }
         ensures maps { F.maps self.old.mapper row result self.new.mapper }

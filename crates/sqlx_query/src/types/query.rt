@@ -6,6 +6,7 @@ ghost use Rattle.sqlx_traits.specs.StepList.{Ran, RunsNothing, StepCause, StepCa
 ghost use Rattle.sqlx_query.specs.Binding.{AddsOrFails, Binds, Bound, CanBind, IsUnencoded, fault_after_a_fault};
 ghost use Rattle.sqlx_query.specs.Query.{fresh_query, given_arguments, handed_over, statement_of, text_of, turned};
 
+use crate::types::request::Request;
 use either::Either;
 use sqlx_text::{Error, Fault, OutOfMemory, SqlStr, UStr};
 use sqlx_traits::{
@@ -229,6 +230,19 @@ fn turn<DB: Database, A: IntoArguments<DB>>(
 }
 
 impl<'q, DB: Database, A: IntoArguments<DB> + Drop> Query<'q, DB, A> {
+    // The query with its arguments as the driver takes them.
+    fn request(self) -> Request<'q, DB::Statement, DB::Arguments>
+        ensures text { text_of DB.Statement.text result.statement ≡ self.entry.text }
+        ensures arguments { result.arguments ≡ turned A.becomes self.entry.arguments }
+        ensures kept { result.persistent ≡ self.entry.kept }
+    {
+        Request {
+            statement: self.statement,
+            arguments: turn::<DB, A>(self.arguments),
+            persistent: self.persistent,
+        }
+    }
+
     /// Runs it and gives the results of its statements as one, or the first error.
     pub fn execute<E: Executor<DB>>(
         self,
@@ -240,7 +254,7 @@ impl<'q, DB: Database, A: IntoArguments<DB> + Drop> Query<'q, DB, A> {
         ensures rises { E.faults executor.old ≤ E.faults executor.new }
         ensures cause { IfErr result (StepCause (E.faults executor.old) (E.faults executor.new) (turned A.becomes self.entry.arguments)) }
     {
-        executor.execute(alloc, self)
+        executor.execute(alloc, self.request())
     }
 
     /// Runs it and gives the results of its statements, one by one, and the error behind them if there is one.
@@ -250,7 +264,7 @@ impl<'q, DB: Database, A: IntoArguments<DB> + Drop> Query<'q, DB, A> {
         ensures rises { E.faults executor.old ≤ E.faults executor.new }
         ensures causes { StepCauses (E.faults executor.old) (E.faults executor.new) (turned A.becomes self.entry.arguments) result }
     {
-        executor.execute_many(alloc, self)
+        executor.execute_many(alloc, self.request())
     }
 
     /// Runs it and gives its rows, one by one, and the error behind them if there is one.
@@ -260,7 +274,7 @@ impl<'q, DB: Database, A: IntoArguments<DB> + Drop> Query<'q, DB, A> {
         ensures rises { E.faults executor.old ≤ E.faults executor.new }
         ensures causes { StepCauses (E.faults executor.old) (E.faults executor.new) (turned A.becomes self.entry.arguments) result }
     {
-        executor.fetch(alloc, self)
+        executor.fetch(alloc, self.request())
     }
 
     /// Runs it and gives its rows and the results of its statements, one by one.
@@ -270,7 +284,7 @@ impl<'q, DB: Database, A: IntoArguments<DB> + Drop> Query<'q, DB, A> {
         ensures rises { E.faults executor.old ≤ E.faults executor.new }
         ensures causes { StepCauses (E.faults executor.old) (E.faults executor.new) (turned A.becomes self.entry.arguments) result }
     {
-        executor.fetch_many(alloc, self)
+        executor.fetch_many(alloc, self.request())
     }
 
     /// Runs it and gives all of its rows, or the first error, or want of memory.
@@ -284,7 +298,7 @@ impl<'q, DB: Database, A: IntoArguments<DB> + Drop> Query<'q, DB, A> {
         ensures rises { E.faults executor.old ≤ E.faults executor.new }
         ensures cause { IfErr result (StepCause (E.faults executor.old) (E.faults executor.new) (turned A.becomes self.entry.arguments)) }
     {
-        executor.fetch_all(alloc, self)
+        executor.fetch_all(alloc, self.request())
     }
 
     /// Runs it and gives its first row or error, and `RowNotFound` where it has neither.
@@ -298,7 +312,7 @@ impl<'q, DB: Database, A: IntoArguments<DB> + Drop> Query<'q, DB, A> {
         ensures rises { E.faults executor.old ≤ E.faults executor.new }
         ensures cause { IfErr result (λ e. (e ≡ Error.RowNotFound) ⊎ StepCause (E.faults executor.old) (E.faults executor.new) (turned A.becomes self.entry.arguments) e) }
     {
-        executor.fetch_one(alloc, self)
+        executor.fetch_one(alloc, self.request())
     }
 
     /// Runs it and gives its first row or error, or `None` where it has neither.
@@ -312,6 +326,6 @@ impl<'q, DB: Database, A: IntoArguments<DB> + Drop> Query<'q, DB, A> {
         ensures rises { E.faults executor.old ≤ E.faults executor.new }
         ensures cause { IfErr result (StepCause (E.faults executor.old) (E.faults executor.new) (turned A.becomes self.entry.arguments)) }
     {
-        executor.fetch_optional(alloc, self)
+        executor.fetch_optional(alloc, self.request())
     }
 }

@@ -7,8 +7,8 @@ ghost use Rattle.sqlx_query.specs.Binding.{Binds};
 ghost use Rattle.sqlx_query.specs.Mapping.{ReadsAll, ReadsOne, ReadsOptional, Refused};
 ghost use Rattle.sqlx_query.specs.Query.{handed_over, turned};
 
-use crate::types::read_stream::{ReadEach, read_one, read_optional};
-use crate::{AsRows, AsScalars, MapStream, Query, ReadManyStream, ReadStream, Reader};
+use crate::types::read_stream::{read_all, read_one, read_optional};
+use crate::{AsRows, AsScalars, Query, ReadManyStream, ReadStream, Reader};
 use sqlx_text::{Error, Fault, OutOfMemory, SqlStr};
 use sqlx_traits::{
     ArgumentList, Arguments, Database, Encode, Execute, Executor, HasStatementCache, IntoArguments,
@@ -71,7 +71,7 @@ impl<'q, DB: Database, M: Reader<DB>, A: IntoArguments<DB> + Drop> ReadQuery<'q,
     {
         ReadStream {
             alloc,
-            rows: executor.fetch(alloc, self.query),
+            rows: self.query.fetch(alloc, executor),
             by: PhantomData,
         }
     }
@@ -89,7 +89,7 @@ impl<'q, DB: Database, M: Reader<DB>, A: IntoArguments<DB> + Drop> ReadQuery<'q,
     {
         ReadManyStream {
             alloc,
-            list: executor.fetch_many(alloc, self.query),
+            list: self.query.fetch_many(alloc, executor),
             by: PhantomData,
         }
     }
@@ -105,15 +105,7 @@ impl<'q, DB: Database, M: Reader<DB>, A: IntoArguments<DB> + Drop> ReadQuery<'q,
         ensures rises { E.faults executor.old ≤ E.faults executor.new }
         ensures cause { IfErr result (λ e. Refused M.reads e ⊎ StepCause (E.faults executor.old) (E.faults executor.new) (turned A.becomes self.entry.query.arguments) e) }
     {
-        let stream: MapStream<DB, ReadEach<DB, M>> = MapStream {
-            alloc,
-            rows: executor.fetch(alloc, self.query),
-            mapper: ReadEach {
-                alloc,
-                by: PhantomData,
-            },
-        };
-        stream.all_rows()
+        read_all::<DB, M>(alloc, self.query.fetch(alloc, executor))
     }
 
     /// Runs it and gives its first row's value, or the error or refusal in its place, and `RowNotFound` where there is no row.
@@ -128,7 +120,7 @@ impl<'q, DB: Database, M: Reader<DB>, A: IntoArguments<DB> + Drop> ReadQuery<'q,
         ensures rises { E.faults executor.old ≤ E.faults executor.new }
         ensures cause { IfErr result (λ e. Refused M.reads e ⊎ ((e ≡ Error.RowNotFound) ⊎ StepCause (E.faults executor.old) (E.faults executor.new) (turned A.becomes self.entry.query.arguments) e)) }
     {
-        read_one::<DB, M>(alloc, executor.fetch_one(alloc, self.query))
+        read_one::<DB, M>(alloc, self.query.fetch_one(alloc, executor))
     }
 
     /// Runs it and gives its first row's value, or the error or refusal in its place, or `None` where there is no row.
@@ -143,7 +135,7 @@ impl<'q, DB: Database, M: Reader<DB>, A: IntoArguments<DB> + Drop> ReadQuery<'q,
         ensures rises { E.faults executor.old ≤ E.faults executor.new }
         ensures cause { IfErr result (λ e. Refused M.reads e ⊎ StepCause (E.faults executor.old) (E.faults executor.new) (turned A.becomes self.entry.query.arguments) e) }
     {
-        read_optional::<DB, M>(alloc, executor.fetch_optional(alloc, self.query))
+        read_optional::<DB, M>(alloc, self.query.fetch_optional(alloc, executor))
     }
 }
 

@@ -1,8 +1,8 @@
 //! The rows of a query, each read as it is handed out. A refusal stands in its row's place.
 ghost use Rattle.std.specs.Prelude.{length};
-ghost use Rattle.sqlx_query.specs.Mapping.{ReadsNext, ReadsNextStep, ReadsOne, ReadsOptional, ReadsStep};
+ghost use Rattle.sqlx_query.specs.Mapping.{ReadsAll, ReadsNext, ReadsNextStep, ReadsOne, ReadsOptional, ReadsStep};
 
-use crate::{AsRows, AsScalars, Mapper, Reader};
+use crate::{AsRows, AsScalars, MappedRowList, Mapper, Reader};
 use sqlx_text::Error;
 use sqlx_traits::{Database, Either, Fetch, FetchMany};
 use std::alloc::Global;
@@ -38,6 +38,10 @@ impl<DB: Database, M: Reader<DB>> Iterator for ReadStream<DB, M> {
             None => None,
         }
     }
+
+    fn size_hint(&self) -> (usize, Option<usize>) {
+        (0, None)
+    }
 }
 
 /// The results and the rows that are still to be handed out.
@@ -69,6 +73,10 @@ impl<DB: Database, M: Reader<DB>> Iterator for ReadManyStream<DB, M> {
             Some(step) => Some(read_step::<DB, M>(self.alloc, step)),
             None => None,
         }
+    }
+
+    fn size_hint(&self) -> (usize, Option<usize>) {
+        (0, None)
     }
 }
 
@@ -111,6 +119,25 @@ pub(crate) fn read_optional<DB: Database, M: Reader<DB>>(
     }
 }
 
+// All rows, each read, or the first error or refusal, or want of memory.
+pub(crate) fn read_all<DB: Database, M: Reader<DB>>(
+    alloc: Global,
+    rows: Fetch<DB>,
+) -> Result<Vec<M::Out>, Error>
+    ensures { ReadsAll (λ all. all.items) M.reads rows result }
+{
+    let mapper: ReadEach<DB, M> = ReadEach {
+        alloc,
+        by: PhantomData,
+    };
+    MappedRowList {
+        alloc,
+        rows,
+        mapper,
+    }
+    .all_rows()
+}
+
 // A step of which the row is read.
 fn read_step<DB: Database, M: Reader<DB>>(
     alloc: Global,
@@ -130,9 +157,9 @@ fn read_step<DB: Database, M: Reader<DB>>(
 
 // What reads each row, as a mapper.
 #[derive(Drop)]
-pub(crate) struct ReadEach<DB: Database, M> {
-    pub(crate) alloc: Global,
-    pub(crate) by: PhantomData<(DB, M)>,
+struct ReadEach<DB, M> {
+    alloc: Global,
+    by: PhantomData<(DB, M)>,
 }
 
 impl<DB: Database, M: Reader<DB>> Mapper<DB::Row> for ReadEach<DB, M> {

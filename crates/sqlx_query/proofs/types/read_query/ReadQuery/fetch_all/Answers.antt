@@ -1,14 +1,11 @@
 use Rattle.std.specs.Prelude.{⊤}
 use Rattle.sqlx_query.specs.Mapping.{alike}
-use Rattle.sqlx_query.proofs.ReadLemmas.{cause_of_reads, reads_all}
+use Rattle.sqlx_query.proofs.ReadLemmas.{cause_of_reads}
 use Rattle.sqlx_query.proofs.UnencodedLemmas.{unencoded_all}
 use Rattle.sqlx_query.proofs.types.read_query.ReadQuery.fetch_all.Goals as goal
 
-pub returns-clause-rows : goal.returns-clause-rows
-returns-clause-rows g c = (c.fetch.ensures.rows.0, c.fetch.ensures.rows.1, reads_all (λ all. all.items) g.M.Reader.reads _ _ _ (rw c.fetch.ensures.rows.2 at c.all_rows.ensures))
-
 pub returns-clause-cause : goal.returns-clause-cause
-returns-clause-cause g c = cause_of_reads _ _ _ (λ all. all.items) g.M.Reader.reads _ _ c.fetch.ensures.causes (reads_all (λ all. all.items) g.M.Reader.reads _ _ _ c.all_rows.ensures)
+returns-clause-cause g c = cause_of_reads _ _ _ (λ all. all.items) g.M.Reader.reads _ _ c.fetch.ensures.causes c.read_all.ensures
 
 pub returns-clause-unencoded : goal.returns-clause-unencoded
-returns-clause-unencoded g c = unencoded_all _ _ _ (λ all. all.items) (alike {M = ⊤} g.M.Reader.reads) _ tt _ c.fetch.ensures.unencoded (reads_all (λ all. all.items) g.M.Reader.reads _ _ _ c.all_rows.ensures)
+returns-clause-unencoded g c = unencoded_all _ _ _ (λ all. all.items) (alike {M = ⊤} g.M.Reader.reads) _ tt _ c.fetch.ensures.unencoded c.read_all.ensures
