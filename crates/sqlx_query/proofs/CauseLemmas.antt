@@ -4,7 +4,7 @@ use Rattle.sqlx_text.specs.declared.error.Error.{Error}
 use Rattle.sqlx_text.specs.declared.error.Error.TheVariants as error
 use Rattle.sqlx_text.specs.declared.fault.Fault.{Fault}
 use Rattle.sqlx_traits.specs.StepList.{StepCause, StepCauses, first_error, or_error, values_of}
-use Rattle.sqlx_query.specs.Mapping.{MapsAll, MappedRows, ReadsOne, RefusedBy}
+use Rattle.sqlx_query_parts.specs.Mapping.{MapsAll, MappedRows, ReadsAll, ReadsOne, Refused, RefusedBy, alike}
 
 -- want of memory is no fault that is counted
 memory : {A : Type 0} (n now : ℕ) (arguments : Result A Fault) → StepCause n now arguments error.OutOfMemory
@@ -47,3 +47,16 @@ cause_of_one read Refuses C told (Ok row) (Ok x) cause is = tt
 cause_of_one read Refuses C told (Ok row) (Err e) cause is = inl (told row e is)
 cause_of_one read Refuses C told (Err f) (Ok x) cause is = tt
 cause_of_one read Refuses C told (Err f) (Err e) cause is = let same : f ≡ e = cc is in inr (subst C same cause)
+
+-- the cause of an error where each row is read alike
+cause_of_read : {R B A : Type 0} (n now : ℕ) (arguments : Result A Fault) (read : R → Result B Error → Type 0) (e : Error)
+    → RefusedBy (alike {M = Unit {0}} read) e ⊎ StepCause n now arguments e → Refused read e ⊎ StepCause n now arguments e
+cause_of_read n now arguments read e (inl (before, row, after, refused)) = inl (row, refused)
+cause_of_read n now arguments read e (inr cause) = inr cause
+
+-- the error in place of all rows that are read
+pub cause_of_reads : {R B V A : Type 0} (n now : ℕ) (arguments : Result A Fault) (seen : V → List B) (read : R → Result B Error → Type 0)
+    (rows : List (Result R Error)) (r : Result V Error)
+    → StepCauses n now arguments rows → ReadsAll seen read rows r → IfErr r (λ e. Refused read e ⊎ StepCause n now arguments e)
+cause_of_reads n now arguments seen read rows (Ok v) causes all = search rules
+cause_of_reads n now arguments seen read rows (Err e) causes all = cause_of_read n now arguments read e (cause_of_all n now arguments seen (alike read) rows tt (Err e) causes all)

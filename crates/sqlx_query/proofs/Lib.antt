@@ -1,4 +1,3 @@
-pub mod MappingLemmas
 pub mod CauseLemmas
 pub mod DraftLemmas
 pub mod PlaceholderLemmas

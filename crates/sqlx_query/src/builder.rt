@@ -1,51 +1,35 @@
 //! Statements that are built piece by piece: texts, and values that are bound to placeholders.
-ghost use Rattle.std.specs.Prelude.{◌≡◌, ◌≤◌, ◌∷◌, ◌++◌, [], Bool, IfErr, IfOk, IfSome, List, OnErr, OnOk, codes, length, string_bytes, take, None, Ok};
-ghost use Rattle.std.specs.Iterator.{Drains, IsFinite};
+ghost use Rattle.std.specs.Prelude.{◌≡◌, ◌≤◌, ◌∷◌, [], Bool, IfErr, IfOk, IfSome, OnErr, OnOk, length, string_bytes, take, None, Ok};
 ghost use Rattle.std.specs.Str.{IsUtf8};
 ghost use Rattle.sqlx_text.specs.declared.fault.Fault.{Fault};
 ghost use Rattle.sqlx_traits.specs.Arguments.{AddsOne};
-ghost use Rattle.sqlx_query.specs.Query as asked;
-ghost use Rattle.sqlx_query.specs.Binding.{OrWantOfMemory};
-ghost use Rattle.sqlx_query.specs.Builder.{Gains, GainsBound, Piece, alone, fresh_draft, cut_to, with_piece};
+ghost use Rattle.sqlx_query_parts.specs.Query as asked;
+ghost use Rattle.sqlx_query_parts.specs.Binding.{OrWantOfMemory};
+ghost use Rattle.sqlx_query_parts.specs.Builder.{Gains, GainsBound, Piece, alone, cut_to, fresh_draft, with_piece};
 
-use crate::growing_text::GrowingText;
 use crate::{Query, QueryAs, QueryScalar, ReadQuery, Separated};
 use either::Either;
+use sqlx_query_parts::{Mark, StatementDraft};
 use sqlx_text::{AssertSqlSafe, Fault, OutOfMemory, SqlSafeStr, SqlStr};
 use sqlx_traits::{ArgumentList, Arguments, Database, Encode, IntoArguments, SqlType};
 use std::alloc::Global;
 use std::fmt::Display;
 use std::marker::Model;
-use std::mem;
 
 /// A statement that is built piece by piece.
 ///
 /// Once a query was made of it, only `reset`, `sql`, `into_string` and `into_sql` may be called.
 #[derive(Drop)]
 pub struct QueryBuilder<DB: Database> {
-    pub(crate) text: GrowingText,
-    pub(crate) arguments: DB::Arguments,
-    pub(crate) built: bool,
+    pub(crate) draft: StatementDraft<DB>,
 }
 
 impl<DB: Database> Model for QueryBuilder<DB> {
-    ghost use Rattle.sqlx_query.specs.Builder.{Draft};
+    ghost use Rattle.sqlx_query_parts.specs.Builder.{Draft};
 
     ghost Value = { Draft DB.ArgumentBuffer };
 
-    ghost view = { λ b. record {
-      initial = b.text.initial;
-      text = b.text.text;
-      arguments = DB.Arguments.buffered b.arguments;
-      built = b.built;
-    } };
-}
-
-/// How far a statement went: the bytes of its text, and its arguments.
-#[derive(Clone, Copy)]
-pub(crate) struct Mark {
-    pub(crate) text: usize,
-    pub(crate) arguments: usize,
+    ghost view = { λ b. b.draft };
 }
 
 impl<DB: Database> QueryBuilder<DB> {
@@ -55,9 +39,7 @@ impl<DB: Database> QueryBuilder<DB> {
         ensures begun { result ≡ fresh_draft (string_bytes init) result.arguments }
     {
         QueryBuilder {
-            text: GrowingText::new(init),
-            arguments: DB::Arguments::new(alloc),
-            built: false,
+            draft: StatementDraft::new(init, DB::Arguments::new(alloc)),
         }
     }
 
@@ -66,9 +48,7 @@ impl<DB: Database> QueryBuilder<DB> {
         ensures { result ≡ fresh_draft (string_bytes init) (DB.Arguments.buffered (A.becomes arguments)) }
     {
         QueryBuilder {
-            text: GrowingText::new(init),
-            arguments: arguments.into_arguments(),
-            built: false,
+            draft: StatementDraft::new(init, arguments.into_arguments()),
         }
     }
 
@@ -198,11 +178,7 @@ impl<DB: Database> QueryBuilder<DB> {
         ensures err { OnErr result (self.new ≡ self.old) }
     {
         match self.sql(alloc) {
-            Ok(sql) => {
-                let arguments = mem::replace(&mut self.arguments, DB::Arguments::new(alloc));
-                self.built = true;
-                Ok(Query::new(Either::Left(sql), Ok(arguments)))
-            }
+            Ok(sql) => Ok(Query::new(Either::Left(sql), Ok(self.draft.finish(alloc)))),
             Err(want) => Err(want),
         }
     }
@@ -251,9 +227,7 @@ impl<DB: Database> QueryBuilder<DB> {
         ensures none { DB.ArgumentBuffer.count result.now.arguments ≡ 0 }
         ensures begun { result.now ≡ fresh_draft self.old.initial result.now.arguments }
     {
-        self.text.reset();
-        self.arguments = DB::Arguments::new(alloc);
-        self.built = false;
+        self.draft.reset(alloc);
         self
     }
 
@@ -261,20 +235,15 @@ impl<DB: Database> QueryBuilder<DB> {
     pub fn sql(&self, alloc: Global) -> Result<SqlStr, OutOfMemory>
         ensures { IfOk result (λ sql. sql ≡ self.now.text) }
     {
-        AssertSqlSafe(self.text.as_str()).into_sql_str(alloc)
+        AssertSqlSafe(self.draft.as_str()).into_sql_str(alloc)
     }
 
     /// The text, without its arguments.
     pub fn into_string(self) -> String
         ensures { string_bytes result ≡ self.text }
     {
-        let QueryBuilder {
-            text,
-            arguments,
-            built: _,
-        } = self;
-        drop(arguments);
-        text.into_string()
+        let QueryBuilder { draft } = self;
+        draft.into_string()
     }
 
     /// The text as a statement, without its arguments.
@@ -290,14 +259,14 @@ impl<DB: Database> QueryBuilder<DB> {
     pub fn is_built(&self) -> bool
         ensures { result ≡ self.now.built }
     {
-        self.built
+        self.draft.is_built()
     }
 
     pub(crate) fn append(&mut self, sql: &str) -> Result<(), OutOfMemory>
         ensures ok { OnOk result (self.new ≡ with_piece self.old (Piece.Text sql.now)) }
         ensures err { OnErr result (self.new ≡ self.old) }
     {
-        self.text.push_str(sql)
+        self.draft.append(sql)
     }
 
     pub(crate) fn bind<'t, T: Encode<'t, DB> + SqlType<DB>>(
@@ -311,32 +280,7 @@ impl<DB: Database> QueryBuilder<DB> {
         ensures err { OnErr result (self.new ≡ self.old) }
         ensures refused { IfErr result (OrWantOfMemory (T.refuses value)) }
     {
-        let before = self.arguments.len();
-        match self.arguments.add(alloc, value) {
-            Ok(()) => match self.append_placeholder(alloc) {
-                Ok(()) => Ok(()),
-                Err(_want) => {
-                    self.arguments.truncate(before);
-                    Err(Fault::OutOfMemory)
-                }
-            },
-            Err(fault) => Err(fault),
-        }
-    }
-
-    // The placeholder of the last argument that was added.
-    fn append_placeholder(&mut self, alloc: Global) -> Result<(), OutOfMemory>
-        ensures ok { OnOk result (self.new ≡ with_piece self.old
-            (Piece.Text (DB.Arguments.placeholder (DB.ArgumentBuffer.count self.old.arguments)))) }
-        ensures err { OnErr result (self.new ≡ self.old) }
-    {
-        let mut placeholder = String::new(alloc);
-        let appended = match self.arguments.format_placeholder(alloc, &mut placeholder) {
-            Ok(()) => self.text.push_str(placeholder.as_str()),
-            Err(want) => Err(want),
-        };
-        drop(placeholder);
-        appended
+        self.draft.bind(alloc, value)
     }
 
     pub(crate) fn mark(&self) -> Mark
@@ -345,10 +289,7 @@ impl<DB: Database> QueryBuilder<DB> {
         ensures initial { length self.now.initial ≤ length self.now.text }
         ensures valid { IsUtf8 self.now.text }
     {
-        Mark {
-            text: self.text.len(),
-            arguments: self.arguments.len(),
-        }
+        self.draft.mark()
     }
 
     pub(crate) fn cut_back(&mut self, mark: Mark)
@@ -357,7 +298,6 @@ impl<DB: Database> QueryBuilder<DB> {
         requires valid { IsUtf8 (take mark.text self.old.text) }
         ensures { self.new ≡ cut_to DB.ArgumentBuffer.first self.old mark.text mark.arguments }
     {
-        self.text.truncate(mark.text);
-        self.arguments.truncate(mark.arguments);
+        self.draft.cut_back(mark)
     }
 }

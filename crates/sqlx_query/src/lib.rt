@@ -3,7 +3,7 @@
 
 mod builder;
 mod calls;
-mod growing_text;
+mod entries;
 mod placeholders;
 mod separated;
 mod statements;
@@ -19,14 +19,16 @@ pub use calls::{
 pub use placeholders::placeholders_are_arguments;
 pub use separated::Separated;
 pub use sqlx_from_row::{FromColumn, FromRow};
+pub use sqlx_query_parts::{
+    AsRows, AsScalars, Each, MapManyStream, MapStream, Mapped, MappedRowList, MappedStepList,
+    Mapper, Reader, TryEach,
+};
 pub use statements::{
     StatementQuery, query_statement, query_statement_as, query_statement_as_with,
     query_statement_scalar, query_statement_scalar_with, query_statement_with,
 };
 pub use tuple_row::TupleRow;
 pub use types::map::Map;
-pub use types::map_stream::{MapManyStream, MapStream, MappedRowList, MappedStepList};
-pub use types::mapper::{Each, Mapped, Mapper, TryEach};
 pub use types::query::Query;
 pub use types::raw_sql::RawSql;
 pub use types::read_query::{QueryAs, QueryScalar, ReadQuery};
@@ -34,4 +36,3 @@ pub use types::read_stream::{
     QueryAsManyStream, QueryAsStream, QueryScalarManyStream, QueryScalarStream, ReadManyStream,
     ReadStream,
 };
-pub use types::reader::{AsRows, AsScalars, Reader};

@@ -1,8 +1,8 @@
 //! Lists whose entries are appended to a statement with a separator between them.
 ghost use Rattle.std.specs.Prelude.{◌≡◌, ◌∷◌, [], Bool, IfErr, OnErr, OnOk};
 ghost use Rattle.sqlx_text.specs.declared.fault.Fault.{Fault};
-ghost use Rattle.sqlx_query.specs.Binding.{OrWantOfMemory};
-ghost use Rattle.sqlx_query.specs.Builder.{Gains, GainsBound, GainsEntry, Piece, alone, entry, with_piece};
+ghost use Rattle.sqlx_query_parts.specs.Binding.{OrWantOfMemory};
+ghost use Rattle.sqlx_query_parts.specs.Builder.{Gains, GainsBound, GainsEntry, Piece, alone, entry};
 
 use crate::QueryBuilder;
 use sqlx_text::{Fault, OutOfMemory};
@@ -26,18 +26,11 @@ impl<'qb, DB: Database> Separated<'qb, DB> {
             (entry self.old.has_piece self.old.separator.now (Piece.Text sql.now)) self.new.builder.now) }
         ensures err { OnErr result ((self.new.has_piece ≡ self.old.has_piece) × (self.new.builder.now ≡ self.old.builder.now)) }
     {
-        let mark = self.builder.mark();
-        match self.begin_entry() {
-            Ok(()) => match self.builder.append(sql) {
-                Ok(()) => {
-                    self.has_piece = true;
-                    Ok(())
-                }
-                Err(want) => {
-                    self.builder.cut_back(mark);
-                    Err(want)
-                }
-            },
+        match self.builder.push_entry(self.has_piece, self.separator, sql) {
+            Ok(()) => {
+                self.has_piece = true;
+                Ok(())
+            }
             Err(want) => Err(want),
         }
     }
@@ -65,22 +58,15 @@ impl<'qb, DB: Database> Separated<'qb, DB> {
         ensures err { OnErr result ((self.new.has_piece ≡ self.old.has_piece) × (self.new.builder.now ≡ self.old.builder.now)) }
         ensures refused { IfErr result (OrWantOfMemory (T.refuses value)) }
     {
-        let mark = self.builder.mark();
-        match self.begin_entry() {
-            Ok(()) => match self.builder.bind(alloc, value) {
-                Ok(()) => {
-                    self.has_piece = true;
-                    Ok(())
-                }
-                Err(fault) => {
-                    self.builder.cut_back(mark);
-                    Err(fault)
-                }
-            },
-            Err(_want) => {
-                drop(value);
-                Err(Fault::OutOfMemory)
+        match self
+            .builder
+            .bind_entry(alloc, self.has_piece, self.separator, value)
+        {
+            Ok(()) => {
+                self.has_piece = true;
+                Ok(())
             }
+            Err(fault) => Err(fault),
         }
     }
 
@@ -98,20 +84,5 @@ impl<'qb, DB: Database> Separated<'qb, DB> {
         ensures refused { IfErr result (OrWantOfMemory (T.refuses value)) }
     {
         self.builder.bind(alloc, value)
-    }
-
-    // The separator, where there is an entry already.
-    fn begin_entry(&mut self) -> Result<(), OutOfMemory>
-        ensures same { (self.new.builder.ghost_name ≡ self.old.builder.ghost_name) × (self.new.separator ≡ self.old.separator) }
-        ensures list { self.new.has_piece ≡ self.old.has_piece }
-        ensures none { OnOk result (self.old.has_piece ≡ Bool.false → self.new.builder.now ≡ self.old.builder.now) }
-        ensures some { OnOk result (self.old.has_piece ≡ Bool.true → self.new.builder.now ≡ with_piece self.old.builder.now (Piece.Text self.old.separator.now)) }
-        ensures err { OnErr result (self.new.builder.now ≡ self.old.builder.now) }
-    {
-        if self.has_piece {
-            self.builder.append(self.separator)
-        } else {
-            Ok(())
-        }
     }
 }

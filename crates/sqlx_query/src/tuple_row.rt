@@ -1,25 +1,15 @@
 //! The row that a closure writes a tuple of values into.
 ghost use Rattle.std.specs.Prelude.{◌≡◌, ◌∷◌, [], Bool, IfErr, OnErr, OnOk};
 ghost use Rattle.sqlx_text.specs.declared.fault.Fault.{Fault};
-ghost use Rattle.sqlx_query.specs.Binding.{OrWantOfMemory};
-ghost use Rattle.sqlx_query.specs.Builder.{Appends, Piece, alone};
-ghost use Rattle.sqlx_query.specs.Tuples.{RowGains, RowGainsBound, behind, comma};
+ghost use Rattle.sqlx_query_parts.specs.Binding.{OrWantOfMemory};
+ghost use Rattle.sqlx_query_parts.specs.Builder.{Appends, Piece, alone};
+ghost use Rattle.sqlx_query_parts.specs.Tuples.{RowGains, RowGainsBound, behind, comma};
 
 use crate::QueryBuilder;
-use crate::growing_text::GrowingText;
+use sqlx_query_parts::{RowParts, StatementDraft};
 use sqlx_text::{Fault, OutOfMemory};
 use sqlx_traits::{ArgumentList, Arguments, Database, Encode, SqlType};
 use std::alloc::Global;
-use std::mem;
-
-/// The text and the arguments of the builder that a row continues, and whether the row has an entry.
-#[derive(Drop)]
-pub struct RowParts<A> {
-    pub(crate) text: GrowingText,
-    pub(crate) arguments: A,
-    pub(crate) built: bool,
-    pub(crate) has_piece: bool,
-}
 
 /// The row of a tuple, whose entries are appended with `, ` between them. In sqlx: the `Separated` that the closure of
 /// `push_values` is handed.
@@ -39,7 +29,7 @@ impl<DB: Database> TupleRow<DB> {
         ensures list { OnErr result (self.new.parts.has_piece ≡ self.old.parts.has_piece) }
     {
         let mut builder = self.take(alloc);
-        let answer = builder.push_entry(alloc, self.parts.has_piece, sql);
+        let answer = builder.push_entry(self.parts.has_piece, ", ", sql);
         self.put(builder);
         match answer {
             Ok(()) => {
@@ -83,7 +73,7 @@ impl<DB: Database> TupleRow<DB> {
         ensures refused { IfErr result (OrWantOfMemory (T.refuses value)) }
     {
         let mut builder = self.take(alloc);
-        let answer = builder.bind_entry(alloc, self.parts.has_piece, value);
+        let answer = builder.bind_entry(alloc, self.parts.has_piece, ", ", value);
         self.put(builder);
         match answer {
             Ok(()) => {
@@ -123,9 +113,7 @@ impl<DB: Database> TupleRow<DB> {
         ensures list { self.new.parts.has_piece ≡ self.old.parts.has_piece }
     {
         QueryBuilder {
-            text: mem::replace(&mut self.parts.text, GrowingText::new(String::new(alloc))),
-            arguments: mem::replace(&mut self.parts.arguments, DB::Arguments::new(alloc)),
-            built: self.parts.built,
+            draft: StatementDraft::take_of(alloc, &mut self.parts),
         }
     }
 
@@ -133,13 +121,6 @@ impl<DB: Database> TupleRow<DB> {
         ensures put { behind DB.Arguments.buffered self.new.parts ≡ builder }
         ensures list { self.new.parts.has_piece ≡ self.old.parts.has_piece }
     {
-        let QueryBuilder {
-            text,
-            arguments,
-            built,
-        } = builder;
-        self.parts.text = text;
-        self.parts.arguments = arguments;
-        self.parts.built = built;
+        builder.draft.put_into(&mut self.parts)
     }
 }

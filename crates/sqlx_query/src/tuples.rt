@@ -1,17 +1,14 @@
 //! Lists of tuples in parentheses, for `VALUES` and `IN`, each written by a closure.
 ghost use Rattle.std.specs.Prelude.{◌≡◌, [], Bool, IfErr, IfOk, OnErr, OnOk, codes};
 ghost use Rattle.std.specs.Iterator.{Drains, IsFinite};
-ghost use Rattle.sqlx_query.specs.Binding.{OrWantOfMemory};
-ghost use Rattle.sqlx_query.specs.Builder.{Appends, Extends, Gains, GainsBound, Piece, entry, opening, with_pieces};
-ghost use Rattle.sqlx_query.specs.Tuples.{GainsRows, OnlyAppends, RefusesTuple, WritesRow, WritesTuple, WritesTuples, behind};
+ghost use Rattle.sqlx_query_parts.specs.Binding.{OrWantOfMemory};
+ghost use Rattle.sqlx_query_parts.specs.Builder.{Appends, Extends, opening, with_pieces};
+ghost use Rattle.sqlx_query_parts.specs.Tuples.{GainsRows, OnlyAppends, RefusesTuple, WritesRow, WritesTuple, WritesTuples, behind};
 
-use crate::growing_text::GrowingText;
-use crate::tuple_row::RowParts;
-use crate::{QueryBuilder, Separated, TupleRow};
+use crate::{QueryBuilder, TupleRow};
 use sqlx_text::{Fault, OutOfMemory};
-use sqlx_traits::{ArgumentList, Arguments, Database, Encode, SqlType};
+use sqlx_traits::{ArgumentList, Arguments, Database};
 use std::alloc::Global;
-use std::mem;
 
 impl<DB: Database> QueryBuilder<DB> {
     /// Appends `VALUES ` and the tuples in parentheses, with `, ` between them, and gives the builder back.
@@ -201,55 +198,17 @@ impl<DB: Database> QueryBuilder<DB> {
             later push_tuple.old item push_tuple.new self.old self.new) }
         ensures refused { IfErr result (OrWantOfMemory (RefusesTuple F.step)) }
     {
-        self.open_tuple(alloc, later)?;
+        self.open_tuple(later)?;
         self.fill_tuple(alloc, push_tuple, item)?;
         self.append(")")?;
         Ok(())
     }
 
-    // A text as an entry of a list, which has entries already or none.
-    pub(crate) fn push_entry(
-        &mut self,
-        alloc: Global,
-        has_piece: bool,
-        sql: &str,
-    ) -> Result<(), OutOfMemory>
-        ensures ok { OnOk result (Gains DB.ArgumentBuffer.count DB.ArgumentBuffer.first self.old (entry has_piece (codes ", ") (Piece.Text sql.now)) self.new) }
-        ensures err { OnErr result (self.new ≡ self.old) }
-    {
-        let mut entries = Separated {
-            builder: self,
-            separator: ", ",
-            has_piece,
-        };
-        entries.push(alloc, sql)
-    }
-
-    // A bound value as an entry of a list.
-    pub(crate) fn bind_entry<'t, T: Encode<'t, DB> + SqlType<DB> + Drop>(
-        &mut self,
-        alloc: Global,
-        has_piece: bool,
-        value: T,
-    ) -> Result<(), Fault>
-        ensures ok { OnOk result (GainsBound DB.Arguments.placeholder DB.ArgumentBuffer.count DB.ArgumentBuffer.first
-            (entry has_piece (codes ", ")) (T.encoded value) self.old self.new) }
-        ensures err { OnErr result (self.new ≡ self.old) }
-        ensures refused { IfErr result (OrWantOfMemory (T.refuses value)) }
-    {
-        let mut entries = Separated {
-            builder: self,
-            separator: ", ",
-            has_piece,
-        };
-        entries.push_bind(alloc, value)
-    }
-
-    fn open_tuple(&mut self, alloc: Global, later: bool) -> Result<(), OutOfMemory>
+    fn open_tuple(&mut self, later: bool) -> Result<(), OutOfMemory>
         ensures ok { OnOk result (self.new ≡ with_pieces self.old (opening later)) }
         ensures err { OnErr result (self.new ≡ self.old) }
     {
-        self.push_entry(alloc, later, "(")
+        self.push_entry(later, ", ", "(")
     }
 
     // What stands between the parentheses.
@@ -283,26 +242,13 @@ impl<DB: Database> QueryBuilder<DB> {
         ensures list { result.parts.has_piece ≡ Bool.false }
     {
         TupleRow {
-            parts: RowParts {
-                text: mem::replace(&mut self.text, GrowingText::new(String::new(alloc))),
-                arguments: mem::replace(&mut self.arguments, DB::Arguments::new(alloc)),
-                built: self.built,
-                has_piece: false,
-            },
+            parts: self.draft.take_row(alloc),
         }
     }
 
     fn put_row(&mut self, row: TupleRow<DB>)
         ensures put { self.new ≡ behind DB.Arguments.buffered row.parts }
     {
-        let RowParts {
-            text,
-            arguments,
-            built,
-            has_piece: _,
-        } = row.parts;
-        self.text = text;
-        self.arguments = arguments;
-        self.built = built;
+        self.draft.put_row(row.parts)
     }
 }

@@ -3,12 +3,13 @@ ghost use Rattle.std.specs.Prelude.{◌≡◌, ◌≤◌, ◌⊎◌, ◌∷◌, 
 ghost use Rattle.sqlx_text.specs.declared.error.Error.{Error};
 ghost use Rattle.sqlx_traits.specs.Reads.{Answers};
 ghost use Rattle.sqlx_traits.specs.StepList.{Ran, RunsNothing, StepCause, StepCauses, first_of, one_or, rows_of};
-ghost use Rattle.sqlx_query.specs.Query.{handed_over, turned};
-ghost use Rattle.sqlx_query.specs.Mapping.{MapsAll, ReadsOne, ReadsOptional, RefusedBy, made_by};
+ghost use Rattle.sqlx_query_parts.specs.Query.{handed_over, turned};
+ghost use Rattle.sqlx_query_parts.specs.Mapping.{MapsAll, ReadsOne, ReadsOptional, RefusedBy, made_by};
 
 use crate::{
     Each, MapManyStream, MapStream, Mapped, MappedRowList, MappedStepList, Mapper, Query, TryEach,
 };
+use sqlx_query_parts::{map_one, map_optional};
 use sqlx_text::{Error, Fault, OutOfMemory, SqlStr};
 use sqlx_traits::{Database, Execute, Executor, IntoArguments, Row};
 use std::alloc::Global;
@@ -98,11 +99,7 @@ impl<'q, DB: Database, F: Mapper<DB::Row>, A: IntoArguments<DB> + Drop> Map<'q, 
         ensures rises { E.faults executor.old ≤ E.faults executor.new }
         ensures causes { StepCauses (E.faults executor.old) (E.faults executor.new) (turned A.becomes self.entry.query.arguments) result.rows }
     {
-        MappedRowList {
-            alloc,
-            rows: self.query.fetch(alloc, executor),
-            mapper: self.mapper,
-        }
+        MappedRowList::new(alloc, self.query.fetch(alloc, executor), self.mapper)
     }
 
     /// Runs it and gives its mapped rows and the results of its statements, one by one.
@@ -117,11 +114,7 @@ impl<'q, DB: Database, F: Mapper<DB::Row>, A: IntoArguments<DB> + Drop> Map<'q, 
         ensures rises { E.faults executor.old ≤ E.faults executor.new }
         ensures causes { StepCauses (E.faults executor.old) (E.faults executor.new) (turned A.becomes self.entry.query.arguments) result.list }
     {
-        MappedStepList {
-            alloc,
-            list: self.query.fetch_many(alloc, executor),
-            mapper: self.mapper,
-        }
+        MappedStepList::new(alloc, self.query.fetch_many(alloc, executor), self.mapper)
     }
 
     /// Runs it and gives all of its mapped rows, or the first error or refusal, or want of memory.
@@ -169,35 +162,6 @@ impl<'q, DB: Database, F: Mapper<DB::Row>, A: IntoArguments<DB> + Drop> Map<'q, 
         ensures cause { IfErr result (λ e. RefusedBy F.maps e ⊎ StepCause (E.faults executor.old) (E.faults executor.new) (turned A.becomes self.entry.query.arguments) e) }
     {
         map_optional(self.mapper, self.query.fetch_optional(alloc, executor))
-    }
-}
-
-// A row that is mapped, or the error in its place.
-fn map_one<R, F: Mapper<R>>(mut mapper: F, row: Result<R, Error>) -> Result<F::Out, Error>
-    requires { F.ready mapper }
-    ensures { ReadsOne (made_by F.maps mapper) row result }
-{
-    match row {
-        Ok(row) => mapper.call(row),
-        Err(error) => Err(error),
-    }
-}
-
-// A row that is mapped if it is there, or the error in its place.
-fn map_optional<R, F: Mapper<R>>(
-    mut mapper: F,
-    row: Result<Option<R>, Error>,
-) -> Result<Option<F::Out>, Error>
-    requires { F.ready mapper }
-    ensures { ReadsOptional (made_by F.maps mapper) row result }
-{
-    match row {
-        Ok(Some(row)) => match mapper.call(row) {
-            Ok(made) => Ok(Some(made)),
-            Err(error) => Err(error),
-        },
-        Ok(None) => Ok(None),
-        Err(error) => Err(error),
     }
 }
 

@@ -1,14 +1,15 @@
 //! A text or a prepared statement with arguments, and what runs it.
-ghost use Rattle.std.specs.Prelude.{◌≡◌, ◌≤◌, ◌⊎◌, ◌++◌, ◌∷◌, [], Err, IfErr, ℕ, IfOk, List, OnErr, OnOk, codes, decimal, string_bytes};
+ghost use Rattle.std.specs.Prelude.{◌≡◌, ◌≤◌, ◌⊎◌, ◌∷◌, [], Err, IfErr, IfOk, OnErr, OnOk};
 ghost use Rattle.sqlx_text.specs.declared.error.Error.{Error};
 ghost use Rattle.sqlx_traits.specs.Reads.{Answers};
 ghost use Rattle.sqlx_traits.specs.StepList.{Ran, RunsNothing, StepCause, StepCauses, all_of, combined, first_of, one_or, results_of, rows_of};
-ghost use Rattle.sqlx_query.specs.Binding.{AddsOrFails, Binds, Bound, CanBind, IsUnencoded, fault_after_a_fault};
-ghost use Rattle.sqlx_query.specs.Query.{fresh_query, given_arguments, handed_over, statement_of, text_of, turned};
+ghost use Rattle.sqlx_query_parts.specs.Binding.{Binds, Bound, CanBind, fault_after_a_fault};
+ghost use Rattle.sqlx_query_parts.specs.Query.{fresh_query, given_arguments, handed_over, statement_of, text_of, turned};
 
 use crate::types::request::Request;
 use either::Either;
-use sqlx_text::{Error, Fault, OutOfMemory, SqlStr, UStr};
+use sqlx_query_parts::{after_a_fault, bound, turn};
+use sqlx_text::{Error, Fault, OutOfMemory, SqlStr};
 use sqlx_traits::{
     ArgumentList, Arguments, Database, Encode, Execute, ExecuteMany, Executor, Fetch, FetchMany,
     HasStatementCache, IntoArguments, QueryResult, SqlType, Statement,
@@ -26,7 +27,7 @@ pub struct Query<'q, DB: Database, A> {
 }
 
 impl<'q, DB: Database, A> Model for Query<'q, DB, A> {
-    ghost use Rattle.sqlx_query.specs.Query.{Asked, statement_of, text_of};
+    ghost use Rattle.sqlx_query_parts.specs.Query.{Asked, statement_of, text_of};
 
     ghost Value = { Asked DB.Statement A };
 
@@ -112,72 +113,6 @@ impl<'q, DB: Database> Query<'q, DB, DB::Arguments> {
     }
 }
 
-// The fault of a value that comes after one that couldn't be bound.
-fn after_a_fault() -> Fault
-    ensures { result ≡ fault_after_a_fault }
-{
-    Fault::Text(UStr::from_static("A previous call to Query::bind produced an error"))
-}
-
-// The arguments with a value, or why it can't be encoded.
-fn bound<'t, DB: Database, T: Encode<'t, DB> + SqlType<DB> + Drop>(
-    alloc: Global,
-    arguments: Result<Option<DB::Arguments>, Fault>,
-    value: T,
-) -> Result<Option<DB::Arguments>, Fault>
-    ensures { Binds DB.ArgumentBuffer.count DB.ArgumentBuffer.first DB.Arguments.buffered (T.encoded value) (T.refuses value) arguments result }
-{
-    match arguments {
-        Ok(Some(arguments)) => added::<DB, T>(alloc, arguments, value),
-        other => other,
-    }
-}
-
-// The same, of arguments that are there.
-fn added<'t, DB: Database, T: Encode<'t, DB> + SqlType<DB>>(
-    alloc: Global,
-    arguments: DB::Arguments,
-    value: T,
-) -> Result<Option<DB::Arguments>, Fault>
-    ensures { AddsOrFails DB.ArgumentBuffer.count DB.ArgumentBuffer.first DB.Arguments.buffered (T.encoded value) (T.refuses value) arguments result }
-{
-    let mut arguments = arguments;
-    let number = arguments.len() as u128 + 1;
-    match arguments.add(alloc, value) {
-        Ok(()) => Ok(Some(arguments)),
-        Err(fault) => {
-            drop(arguments);
-            Err(unencoded(alloc, number, fault))
-        }
-    }
-}
-
-// The fault of an argument that can't be encoded, with its number.
-fn unencoded(alloc: Global, number: u128, fault: Fault) -> Fault
-    ensures { IsUnencoded (λ why. why ≡ fault) number result }
-{
-    match fault {
-        Fault::OutOfMemory => Fault::OutOfMemory,
-        fault => {
-            let text = numbered(alloc, number, &fault);
-            drop(fault);
-            match text {
-                Ok(text) => Fault::Text(UStr::from_string(text)),
-                Err(failed) => Fault::from(failed),
-            }
-        }
-    }
-}
-
-fn numbered(alloc: Global, number: u128, fault: &Fault) -> Result<String, OutOfMemory>
-    ensures { IfOk result (λ text. (words : List ℕ) × (string_bytes text ≡ codes "Encoding argument $" ++ decimal number ++ codes " failed: " ++ words)) }
-{
-    let mut text = format!(in alloc; "Encoding argument ${number} failed: ")?;
-    let words = fault.to_string(alloc)?;
-    text.push_str(words.as_str())?;
-    Ok(text)
-}
-
 impl<'q, DB: Database, A: IntoArguments<DB> + Drop> Execute<DB> for Query<'q, DB, A> {
     ghost text = { λ query. query.text };
 
@@ -213,19 +148,6 @@ impl<'q, DB: Database, A: IntoArguments<DB> + Drop> Execute<DB> for Query<'q, DB
 
     fn persistent(&self) -> bool {
         self.persistent
-    }
-}
-
-// The arguments as the driver takes them, or why they can't be had.
-fn turn<DB: Database, A: IntoArguments<DB>>(
-    arguments: Result<Option<A>, Fault>,
-) -> Result<Option<DB::Arguments>, Fault>
-    ensures { result ≡ turned A.becomes arguments }
-{
-    match arguments {
-        Ok(Some(arguments)) => Ok(Some(arguments.into_arguments())),
-        Ok(None) => Ok(None),
-        Err(fault) => Err(fault),
     }
 }
 

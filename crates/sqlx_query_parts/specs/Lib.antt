@@ -1,0 +1,6 @@
+pub mod Query
+pub mod Binding
+pub mod Mapping
+pub mod Growing
+pub mod Builder
+pub mod Tuples
