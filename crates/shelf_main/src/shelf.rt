@@ -1,88 +1,169 @@
 //! Books in a database with a table of them.
 
 use crate::book::Book;
-use sqlite_driver::{Sqlite, SqliteConnection};
-use sqlx_any::{
-    Any, AnyConnectOptions, AnyConnection, AnyConnectionBackend, Connect, ConnectOptions, Executor,
-};
+use crate::opening::{closed, opened};
+use sqlx_any::{Any, AnyOpen, Database, Encode, Executor, IntoArguments, SqlType};
+use sqlx_from_row::FromRow;
 use sqlx_query::{query, query_as};
 use sqlx_text::Error;
-use sqlx_tx::{Borrowed, Hold, calls};
+use sqlx_tx::{Borrowed, Hold, Transaction, calls};
 use std::alloc::Global;
 
-/// A new shelf, in memory.
-pub fn opened(alloc: Global) -> Result<AnyConnection<SqliteConnection>, Error> {
-    let options = AnyConnectOptions::parse(alloc, "sqlite::memory:")?;
-    let mut conn = Connect::<Sqlite>::connect(&options, alloc)?;
-    create(alloc, &mut conn)?;
-    Ok(conn)
+/// A book that is added: its title and its pages.
+pub type Title<'t> = (&'t str, i64);
+
+/// What is seen of a shelf: whether a title that was there was refused, and the books of more than 200 pages.
+pub type Seen = (bool, Vec<Book>);
+
+/// A shelf in a new database, which is opened by its URL and closed.
+pub fn seen<B: AnyOpen>(alloc: Global, url: &str) -> Result<Seen, Error> {
+    let mut conn = opened::<B>(alloc, url)?;
+    let seen = filled::<Any<B>>(alloc, &mut conn);
+    closed(conn, seen)
 }
 
-// Makes the table.
-fn create<B: AnyConnectionBackend>(
+const TABLE: &str = "CREATE TABLE books(title TEXT PRIMARY KEY, pages INTEGER NOT NULL)";
+
+const TWO: &[Title] = &[("Dune", 604), ("The Hobbit", 310)];
+
+const ONE_AGAIN: &[Title] = &[("Emma", 474), ("Dune", 604)];
+
+// Adds two books, and then one of them again beside a new one.
+fn filled<'t, DB: Database>(alloc: Global, conn: &mut DB::Connection) -> Result<Seen, Error>
+where
+    DB::Connection: Executor<DB>,
+    DB::Arguments: IntoArguments<DB>,
+    &'t str: Encode<'t, DB> + SqlType<DB>,
+    i64: Encode<'t, DB> + SqlType<DB>,
+    Book: FromRow<DB>,
+{
+    runs::<DB, DB::Connection>(alloc, conn, TABLE)?;
+    adds::<DB>(alloc, conn, TWO)?;
+    let is_refused = refuses(adds::<DB>(alloc, conn, ONE_AGAIN));
+    match longer_than::<DB, DB::Connection>(alloc, conn, 200) {
+        Ok(books) => Ok((is_refused, books)),
+        Err(error) => Err(error),
+    }
+}
+
+fn refuses(answer: Result<(), Error>) -> bool {
+    let is_refused = answer.is_err();
+    drop(answer);
+    is_refused
+}
+
+/// Runs a text.
+pub fn runs<DB: Database, E: Executor<DB>>(
     alloc: Global,
-    conn: &mut AnyConnection<B>,
+    conn: &mut E,
+    text: &'static str,
 ) -> Result<(), Error> {
-    let text = "CREATE TABLE books(title TEXT PRIMARY KEY, pages INTEGER NOT NULL)";
-    conn.execute(alloc, text)?;
-    Ok(())
+    match conn.execute(alloc, text) {
+        Ok(written) => {
+            drop(written);
+            Ok(())
+        }
+        Err(error) => Err(error),
+    }
 }
 
 // Adds a book.
-fn add<B: AnyConnectionBackend>(
+fn add<'t, DB: Database, E: Executor<DB>>(
     alloc: Global,
-    conn: &mut AnyConnection<B>,
-    title: &str,
+    conn: &mut E,
+    title: &'t str,
     pages: i64,
-) -> Result<(), Error> {
-    let query = query::<Any<B>, _>(alloc, "INSERT INTO books(title, pages) VALUES (?, ?)")?;
-    query
+) -> Result<(), Error>
+where
+    DB::Arguments: IntoArguments<DB>,
+    &'t str: Encode<'t, DB> + SqlType<DB>,
+    i64: Encode<'t, DB> + SqlType<DB>,
+{
+    let text = "INSERT INTO books(title, pages) VALUES (?, ?)";
+    let query = query::<DB, &'static str>(alloc, text)?;
+    let added = query
         .bind(alloc, title)
         .bind(alloc, pages)
         .execute(alloc, conn)?;
+    drop(added);
     Ok(())
 }
 
 // Adds each book.
-fn add_all<B: AnyConnectionBackend>(
+fn add_all<'t, DB: Database, E: Executor<DB>>(
     alloc: Global,
-    conn: &mut AnyConnection<B>,
-    titles: [&str; 2],
-    pages: [i64; 2],
-) -> Result<(), Error> {
-    add(alloc, conn, titles[0], pages[0])?;
-    add(alloc, conn, titles[1], pages[1])
+    conn: &mut E,
+    books: &[Title<'t>],
+) -> Result<(), Error>
+where
+    DB::Arguments: IntoArguments<DB>,
+    &'t str: Encode<'t, DB> + SqlType<DB>,
+    i64: Encode<'t, DB> + SqlType<DB>,
+{
+    for (title, pages) in books {
+        add::<DB, E>(alloc, conn, title, *pages)?;
+    }
+    Ok(())
 }
 
-/// Adds both books in a transaction, or none where one is refused.
-pub fn adds<B: AnyConnectionBackend>(
+// Adds the books in a transaction, or none where one is refused.
+fn adds<'t, DB: Database>(
     alloc: Global,
-    conn: &mut AnyConnection<B>,
-    titles: [&str; 2],
-    pages: [i64; 2],
-) -> Result<(), Error> {
-    let mut tx = calls::begin::<Any<B>>(alloc, conn)?;
-    let added = add_all(alloc, tx.as_mut(), titles, pages);
-    if !calls::is_in_transaction::<Any<B>>(tx.as_ref()) {
-        let Borrowed(_conn) = tx.into_holder();
-        return added;
-    }
-    if let Err(error) = added {
-        let Borrowed(_conn) = tx.give_up();
-        return Err(error);
-    }
-    let (Borrowed(_conn), kept) = tx.commit(alloc);
-    kept
+    conn: &mut DB::Connection,
+    books: &[Title<'t>],
+) -> Result<(), Error>
+where
+    DB::Connection: Executor<DB>,
+    DB::Arguments: IntoArguments<DB>,
+    &'t str: Encode<'t, DB> + SqlType<DB>,
+    i64: Encode<'t, DB> + SqlType<DB>,
+{
+    let mut tx = calls::begin::<DB>(alloc, conn)?;
+    let added = add_all::<DB, DB::Connection>(alloc, tx.as_mut(), books);
+    let (holder, kept) = ends::<DB, Borrowed<'_, DB>>(alloc, tx, added.is_ok());
+    let Borrowed(_conn) = holder;
+    both(added, kept)
 }
 
-/// The books of more pages than this, by their titles.
-pub fn longer_than<B: AnyConnectionBackend>(
+// Ends a transaction, if what ran in it left it open: it is committed, or given up.
+fn ends<DB: Database, H: Hold<DB>>(
     alloc: Global,
-    conn: &mut AnyConnection<B>,
+    tx: Transaction<DB, H>,
+    is_kept: bool,
+) -> (H, Result<(), Error>) {
+    if !calls::is_in_transaction::<DB>(tx.as_ref()) {
+        (tx.into_holder(), Ok(()))
+    } else if is_kept {
+        tx.commit(alloc)
+    } else {
+        (tx.give_up(), Ok(()))
+    }
+}
+
+// The first refusal of two answers.
+fn both(first: Result<(), Error>, second: Result<(), Error>) -> Result<(), Error> {
+    match first {
+        Ok(()) => second,
+        Err(error) => {
+            drop(second);
+            Err(error)
+        }
+    }
+}
+
+// The books of more pages than this, by their titles.
+fn longer_than<'t, DB: Database, E: Executor<DB>>(
+    alloc: Global,
+    conn: &mut E,
     pages: i64,
-) -> Result<Vec<Book>, Error> {
+) -> Result<Vec<Book>, Error>
+where
+    DB::Arguments: IntoArguments<DB>,
+    i64: Encode<'t, DB> + SqlType<DB>,
+    Book: FromRow<DB>,
+{
     let text = "SELECT title, pages FROM books WHERE pages > ? ORDER BY title";
-    query_as::<Any<B>, Book, _>(alloc, text)?
+    query_as::<DB, Book, &'static str>(alloc, text)?
         .bind(alloc, pages)
         .fetch_all(alloc, conn)
 }
