@@ -2,7 +2,6 @@
 ghost use Rattle.std.specs.Prelude.{◌≡◌, ◌+◌, ◌-◌, ◌<◌, Ok, None, OnOk};
 ghost use Rattle.sqlx_traits.specs.Calls as call;
 
-use crate::levels::{End, both, ended};
 use sqlx_any::{Connection, Database, Executor};
 use sqlx_text::{Error, SqlStr};
 use sqlx_tx::{Borrowed, Hold, Transaction, calls};
@@ -20,62 +19,20 @@ pub fn writes<DB: Database>(
 where
     DB::Connection: Executor<DB>,
 {
-    match calls::begin::<DB>(alloc, conn) {
-        Ok(level) => {
-            let text = SqlStr::from_static(text);
-            let (holder, answer) = written::<DB, Borrowed<'_, DB>>(alloc, level, text);
-            let Borrowed(_conn) = holder;
-            answer
-        }
-        Err(error) => Err(error),
+    let mut level = calls::begin::<DB>(alloc, conn)?;
+    let written = level.as_mut().execute(alloc, text);
+    if !calls::is_in_transaction::<DB>(level.as_ref()) {
+        drop(written);
+        let Borrowed(_conn) = level.into_holder();
+        return Err(Error::BeginFailed);
     }
-}
-
-// The same in a level that was begun.
-fn written<DB: Database, H: Hold<DB>>(
-    alloc: Global,
-    level: Transaction<DB, H>,
-    text: SqlStr,
-) -> (H, Result<(), Error>)
-where
-    DB::Connection: Executor<DB>,
-{
-    let mut level = level;
-    let written = runs::<DB, DB::Connection>(alloc, level.as_mut(), text);
-    let end = if written.is_ok() {
-        End::Commit
-    } else {
-        End::GiveUp
-    };
-    let (holder, answer) = ends(alloc, level, end);
-    (holder, both(written, answer))
-}
-
-fn runs<DB: Database, E: Executor<DB>>(
-    alloc: Global,
-    conn: &mut E,
-    text: SqlStr,
-) -> Result<(), Error> {
-    match conn.execute(alloc, text) {
-        Ok(written) => {
-            drop(written);
-            Ok(())
-        }
-        Err(error) => Err(error),
+    if let Err(error) = written {
+        let Borrowed(_conn) = level.give_up();
+        return Err(error);
     }
-}
-
-// Ends a level, if what ran in it left it open.
-fn ends<DB: Database, H: Hold<DB>>(
-    alloc: Global,
-    level: Transaction<DB, H>,
-    end: End,
-) -> (H, Result<(), Error>) {
-    if calls::is_in_transaction::<DB>(level.as_ref()) {
-        ended(alloc, level, end)
-    } else {
-        (level.into_holder(), Err(Error::BeginFailed))
-    }
+    let (holder, answer) = level.commit(alloc);
+    let Borrowed(_conn) = holder;
+    answer
 }
 
 /// Asks for a sign of life in a level that is kept where it comes. It leaves the levels in every case.
