@@ -293,4 +293,7 @@ fn results_add_up(rt: HostRuntime) {
     ] {
         says(&rt, sum(alloc, *first, *next), want);
     }
+    let mut all = three;
+    all.extend(result(2, None));
+    assert_eq!(rt; all, result(5, None));
 }

@@ -7,7 +7,7 @@ use std::alloc::Global;
 use tests_database::{Toy, ToyType, ToyValue};
 
 /// What each value can be read as.
-#[derive(Clone, Copy, Debug, PartialEq, Eq)]
+#[derive(Clone, Copy, Debug)]
 pub struct Present;
 
 impl<'r> Decode<'r, Toy> for Present {
