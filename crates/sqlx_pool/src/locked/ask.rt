@@ -1,20 +1,25 @@
 //! Asking, and lending past the line.
 
-ghost use Rattle.std.specs.Prelude.{◌≡◌, ℕ, ◌+◌, ◌^◌, ◌<◌, ◌≤◌, ◌↔◌, ◌⊎◌, [], ◌∷◌, ◌++◌, Some, true, false, is_some, option_map, IfSome, IfOk, IfErr, OnOk, OnErr};
+ghost use Rattle.std.specs.Prelude.{◌≡◌, ℕ, ◌+◌, ◌^◌, ◌<◌, ◌≤◌, ◌↔◌, ◌⊎◌, List, [], ◌∷◌, ◌++◌, length, vec_capacity, None, Some, true, false, is_some, option_map, IfSome, IfOk, IfErr, OnOk, OnErr};
 ghost use Rattle.sqlx_text.specs.declared.error.Error.{Error};
 ghost use Rattle.sqlx_log.specs.declared.mark.Mark.{Mark};
 ghost use Rattle.sqlx_log.specs.Marks.{is_open, next_ticket};
 ghost use Rattle.sqlx_log.specs.Answers.{lent_past_at};
+ghost use Rattle.sqlx_log.specs.EventTable.{may_pass};
 ghost use Rattle.sqlx_pool_core.specs.Answers.{lent_conn};
+ghost use Rattle.sqlx_pool_core.specs.Balance.{Balance, ask_room, marks_due};
+ghost use Rattle.sqlx_pool_core.specs.Core.{free, waiting};
 ghost use Rattle.sqlx_pool_core.specs.Edits.{at_moment, asked};
 ghost use Rattle.sqlx_pool_core.specs.Logs.{moment_of};
-ghost use Rattle.sqlx_pool_core.specs.PollSteps.{try_lent, try_marks, after_try, serve_marks, after_serve};
+ghost use Rattle.sqlx_pool_core.specs.Makes.{Makes};
+ghost use Rattle.sqlx_pool_core.specs.PollSteps.{asked_marks, try_lent, try_marks, after_try, serve_marks, after_serve};
+ghost use Rattle.sqlx_pool_core.specs.StandsFor.{StandsFor};
 ghost use Rattle.sqlx_pool.specs.Answers.{lent_alone};
 ghost use Rattle.sqlx_pool.specs.Booked.{CountsIf};
 
 use super::Locked;
 use crate::{Held, Loans, Tally, record};
-use sqlx_pool_core::{Lent, Mark};
+use sqlx_pool_core::{Lent, Mark, PoolCore};
 use sqlx_text::{Depth, Error, Moment};
 use std::alloc::Global;
 use std::sync::ledger::Ledger;
@@ -30,6 +35,120 @@ const NUMBERS: u64 = 1 << 63;
 
 // A loan past the line is made only while fewer loans than these were made.
 const LOANS: u64 = 1 << 62;
+
+// When a ticket that is asked for now has no time left.
+fn deadline<C>(core: &PoolCore<C>, now: Moment) -> u128
+    ensures { result ≡ moment_of core.now now + core.now.options.acquire_timeout }
+{
+    let moment = core.moment(now);
+    u128::from(moment.0) + u128::from(core.options().get_acquire_timeout())
+}
+
+// Asks where the pool is open and has numbers left, and writes the mark. None where there is no memory.
+fn ask_open<C>(
+    core: &mut PoolCore<C>,
+    log: &mut Vec<Mark>,
+    alloc: Global,
+    now: Moment,
+    client: u32,
+) -> Option<u64>
+    requires open { core.old.shut ≡ false }
+    requires few { core.old.next_ticket ≤ 2 ^ 63 }
+    requires room { length log.old.items + marks_due core.old ≤ vec_capacity log.old }
+    ensures numbered { IfSome result (λ ticket. ticket ≡ core.old.next_ticket) }
+    ensures makes { (marks : List Mark) → StandsFor core.old marks → IfSome result (λ ticket. Makes core.old.options.max_connections marks (asked_marks core.old client (moment_of core.old now) ticket) core.new) }
+    ensures balance { IfSome result (λ ticket. Balance core.old core.new (asked_marks core.old client (moment_of core.old now) ticket) 0 (ask_room core.old.options.idle_tries)) }
+    ensures becomes { IfSome result (λ ticket. core.new ≡ at_moment (moment_of core.old now) (asked client (moment_of core.old now + core.old.options.acquire_timeout) core.old)) }
+    ensures marks { IfSome result (λ ticket. log.new.items ≡ log.old.items ++ asked_marks core.old client (moment_of core.old now) ticket) }
+    ensures room { IfSome result (λ ticket. length log.old.items + marks_due core.old + ask_room core.old.options.idle_tries ≤ vec_capacity log.new) }
+    ensures none { result ≡ None → (core.new ≡ core.old) × (log.new.items ≡ log.old.items) }
+    ensures capacity { vec_capacity log.old ≤ vec_capacity log.new }
+{
+    // A whole loan with all its tests, and the end of the connection that it keeps.
+    let room = 7 + 2 * core.options().get_idle_tries() as usize;
+    if !record::reserve(log, core, room) {
+        return None;
+    }
+    let deadline = deadline(core, now);
+    match core.ask(alloc, now, client) {
+        Ok(ticket) => {
+            log.push_reserved(Mark::Asked {
+                ticket,
+                client,
+                deadline,
+            });
+            Some(ticket)
+        }
+        Err(error) => {
+            drop(error);
+            None
+        }
+    }
+}
+
+// Asks and lends the first idle connection at once, and writes the marks. None where nobody is served so, or there is
+// no memory.
+fn serve_first<C>(
+    core: &mut PoolCore<C>,
+    log: &mut Vec<Mark>,
+    now: Moment,
+    client: u32,
+) -> Option<Lent<C>>
+    requires { length log.old.items + marks_due core.old ≤ vec_capacity log.old }
+    ensures first { IfSome result (λ lent. Some lent ≡ try_lent true core.old.idle) }
+    ensures makes { (marks : List Mark) → StandsFor core.old marks → IfSome result (λ lent. Makes core.old.options.max_connections marks (serve_marks client core.old.next_ticket (moment_of core.old now + core.old.options.acquire_timeout) (Some lent)) core.new) }
+    ensures balance { IfSome result (λ lent. Balance core.old core.new (serve_marks client core.old.next_ticket (moment_of core.old now + core.old.options.acquire_timeout) (Some lent)) 0 6) }
+    ensures becomes { core.new ≡ after_serve client (moment_of core.old now) result core.old }
+    ensures marks { log.new.items ≡ log.old.items ++ serve_marks client core.old.next_ticket (moment_of core.old now + core.old.options.acquire_timeout) result }
+    ensures room { IfSome result (λ lent. length log.old.items + marks_due core.old + 6 ≤ vec_capacity log.new) }
+    ensures capacity { vec_capacity log.old ≤ vec_capacity log.new }
+{
+    if core.num_tickets() != 0 || core.num_idle() == 0 {
+        return None;
+    }
+    if !record::reserve(log, core, SERVE_ROOM) {
+        return None;
+    }
+    let ticket = core.numbers().next_ticket;
+    let deadline = deadline(core, now);
+    match core.serve_new(now, client) {
+        Some(lent) => {
+            record::serve(log, client, ticket, deadline, lent.id);
+            Some(lent)
+        }
+        None => None,
+    }
+}
+
+// Lends past the line where that may be, and writes the marks. None where there is no memory.
+fn lend_past<C>(
+    core: &mut PoolCore<C>,
+    log: &mut Vec<Mark>,
+    now: Moment,
+    client: u32,
+) -> Option<Lent<C>>
+    requires may { is_some (try_lent (may_pass core.old.shut (waiting core.old.tickets) (free core.old)) core.old.idle) ≡ true }
+    requires room { length log.old.items + marks_due core.old ≤ vec_capacity log.old }
+    ensures first { IfSome result (λ lent. Some lent ≡ try_lent (may_pass core.old.shut (waiting core.old.tickets) (free core.old)) core.old.idle) }
+    ensures answer { (marks : List Mark) → StandsFor core.old marks → IfSome result (λ lent. Some (lent_conn lent) ≡ lent_past_at core.old.options.max_connections core.old.places marks) }
+    ensures makes { (marks : List Mark) → StandsFor core.old marks → IfSome result (λ lent. Makes core.old.options.max_connections marks (try_marks client (Some lent)) core.new) }
+    ensures balance { IfSome result (λ lent. Balance core.old core.new (try_marks client (Some lent)) 0 4) }
+    ensures becomes { core.new ≡ after_try client (moment_of core.old now) result core.old }
+    ensures marks { log.new.items ≡ log.old.items ++ try_marks client result }
+    ensures room { IfSome result (λ lent. length log.old.items + marks_due core.old + 4 ≤ vec_capacity log.new) }
+    ensures capacity { vec_capacity log.old ≤ vec_capacity log.new }
+{
+    if !record::reserve(log, core, TRY_ROOM) {
+        return None;
+    }
+    match core.try_acquire(now, client) {
+        Some(lent) => {
+            record::lend_past(log, client, lent.id);
+            Some(lent)
+        }
+        None => unreachable!(),
+    }
+}
 
 impl<C: Depth, O, H: Ledger, L: Loans> Locked<C, O, H, L> {
     /// Asks for a connection: the client gets a ticket, which stands in the line until it is served, ends or is
@@ -50,19 +169,9 @@ impl<C: Depth, O, H: Ledger, L: Loans> Locked<C, O, H, L> {
         if self.core.numbers().next_ticket > NUMBERS {
             return Err(Error::Exhausted);
         }
-        // A whole loan with all its tests, and the end of the connection that it keeps.
-        let room = 7 + 2 * self.core.options().get_idle_tries() as usize;
-        let Ok(()) = self.log.reserve(self.core.due() + room) else {
+        let Some(ticket) = ask_open(&mut self.core, &mut self.log, alloc, now, client) else {
             return Err(Error::OutOfMemory);
         };
-        let moment = self.core.moment(now);
-        let timeout = self.core.options().get_acquire_timeout();
-        let ticket = self.core.ask(alloc, now, client)?;
-        self.log.push_reserved(Mark::Asked {
-            ticket,
-            client,
-            deadline: u128::from(moment.0) + u128::from(timeout),
-        });
         Ok(ticket)
     }
 
@@ -84,21 +193,14 @@ impl<C: Depth, O, H: Ledger, L: Loans> Locked<C, O, H, L> {
         ensures flat { IfSome (lent_alone result) (λ l. C.levels l.raw ≡ 0) }
         ensures connect { self.new.connect ≡ self.old.connect }
     {
-        if self.core.num_tickets() != 0 || self.core.num_idle() == 0 {
-            return None;
-        }
-        let Ok(()) = self.log.reserve(self.core.due() + SERVE_ROOM) else {
-            return None;
-        };
         self.core.bounds();
-        let ticket = self.core.numbers().next_ticket;
-        let moment = self.core.moment(now);
-        let timeout = self.core.options().get_acquire_timeout();
-        let lent = self.core.serve_new(now, client)?;
-        let deadline = u128::from(moment.0) + u128::from(timeout);
-        record::serve(&mut self.log, client, ticket, deadline, lent.id);
-        let held = self.books.lend(tally);
-        Some((lent, held))
+        match serve_first(&mut self.core, &mut self.log, now, client) {
+            Some(lent) => {
+                let held = self.books.lend(tally);
+                Some((lent, held))
+            }
+            None => None,
+        }
     }
 
     /// Lends the first idle connection past the line, without a test: where the pool is open, a connection is idle,
@@ -127,15 +229,13 @@ impl<C: Depth, O, H: Ledger, L: Loans> Locked<C, O, H, L> {
         if self.books.made() >= LOANS {
             return Err(Error::Exhausted);
         }
-        let Ok(()) = self.log.reserve(self.core.due() + TRY_ROOM) else {
-            return Err(Error::OutOfMemory);
-        };
         self.core.bounds();
-        let Some(lent) = self.core.try_acquire(now, client) else {
-            unreachable!()
-        };
-        record::lend_past(&mut self.log, client, lent.id);
-        let held = self.books.lend(tally);
-        Ok(Some((lent, held)))
+        match lend_past(&mut self.core, &mut self.log, now, client) {
+            Some(lent) => {
+                let held = self.books.lend(tally);
+                Ok(Some((lent, held)))
+            }
+            None => Err(Error::OutOfMemory),
+        }
     }
 }
