@@ -1,11 +1,13 @@
 -- What is asked of the answers of steps.
-use Rattle.std.specs.Prelude.{◌≡◌, ℕ, ⊤, Bool, true, false, Option, Some, None}
+use Rattle.std.specs.Prelude.{◌≡◌, ℕ, ◌+◌, ⊤, Bool, true, false, List, Option, Some, None}
 use Rattle.std.specs.List.{list_any}
+use Rattle.sqlx_log.specs.declared.mark.Mark.{Mark}
 use Rattle.sqlx_log.specs.Marks.{is_open, is_shut, next_ticket}
+use Rattle.sqlx_pool_core.specs.Core.{Core}
 use Rattle.sqlx_pool_core.specs.declared.steps.Lent.{Lent}
 use Rattle.sqlx_pool_core.specs.declared.steps.Verdict.{Verdict}
 use Rattle.sqlx_pool_core.specs.declared.ticket.Phase.{Phase}
-use Rattle.sqlx_pool_core.specs.PollSteps.{judged, may_test_next, test_answer, tested_at}
+use Rattle.sqlx_pool_core.specs.PollSteps.{judged, may_test_next, serve_marks, test_answer, tested_at}
 use Rattle.sqlx_pool.specs.State.{PoolState}
 use Rattle.sqlx_pool_core.specs.declared.steps.AfterTest.{AfterTest}
 use Rattle.sqlx_pool_core.specs.declared.steps.AfterTest.TheVariants as tested
@@ -17,6 +19,10 @@ use Rattle.sqlx_pool_core.specs.declared.steps.AfterConnect.TheVariants as conne
 -- the ticket of an ask: it is the one that comes next, and the pool is open
 abbrev pub IsNextTicket : {C O : Type 0} → ℕ → PoolState C O → Type 0
 IsNextTicket ticket state = (is_open state.marks ≡ true) × (ticket ≡ next_ticket state.marks)
+
+-- the marks of an ask at a moment that is served at once with a connection, and none where there is none
+abbrev pub marks_served : {C : Type 0} → ℕ → ℕ → Core C → Option (Lent C) → List Mark
+marks_served client moment core lent = serve_marks client core.next_ticket (moment + core.options.acquire_timeout) lent
 
 -- what a test of a connection answers in a pool, to a ticket in this phase
 abbrev pub test_answer_in : {C O : Type 0} → PoolState C O → Verdict C → Option Phase → AfterTest C

@@ -14,7 +14,7 @@ ghost use Rattle.sqlx_pool_core.specs.Logs.{moment_of};
 ghost use Rattle.sqlx_pool_core.specs.Makes.{Makes};
 ghost use Rattle.sqlx_pool_core.specs.PollSteps.{asked_marks, try_lent, try_marks, after_try, serve_marks, after_serve};
 ghost use Rattle.sqlx_pool_core.specs.StandsFor.{StandsFor};
-ghost use Rattle.sqlx_pool.specs.Answers.{lent_alone};
+ghost use Rattle.sqlx_pool.specs.Answers.{lent_alone, marks_served};
 ghost use Rattle.sqlx_pool.specs.Booked.{CountsIf};
 
 use super::Locked;
@@ -96,10 +96,10 @@ fn serve_first<C>(
 ) -> Option<Lent<C>>
     requires { length log.old.items + marks_due core.old ≤ vec_capacity log.old }
     ensures first { IfSome result (λ lent. Some lent ≡ try_lent true core.old.idle) }
-    ensures makes { (marks : List Mark) → StandsFor core.old marks → IfSome result (λ lent. Makes core.old.options.max_connections marks (serve_marks client core.old.next_ticket (moment_of core.old now + core.old.options.acquire_timeout) (Some lent)) core.new) }
-    ensures balance { IfSome result (λ lent. Balance core.old core.new (serve_marks client core.old.next_ticket (moment_of core.old now + core.old.options.acquire_timeout) (Some lent)) 0 6) }
+    ensures makes { (marks : List Mark) → StandsFor core.old marks → IfSome result (λ lent. Makes core.old.options.max_connections marks (marks_served client (moment_of core.old now) core.old (Some lent)) core.new) }
+    ensures balance { IfSome result (λ lent. Balance core.old core.new (marks_served client (moment_of core.old now) core.old (Some lent)) 0 6) }
     ensures becomes { core.new ≡ after_serve client (moment_of core.old now) result core.old }
-    ensures marks { log.new.items ≡ log.old.items ++ serve_marks client core.old.next_ticket (moment_of core.old now + core.old.options.acquire_timeout) result }
+    ensures marks { log.new.items ≡ log.old.items ++ marks_served client (moment_of core.old now) core.old result }
     ensures room { IfSome result (λ lent. length log.old.items + marks_due core.old + 6 ≤ vec_capacity log.new) }
     ensures capacity { vec_capacity log.old ≤ vec_capacity log.new }
 {
