@@ -1,8 +1,9 @@
--- The call by which a transaction ends a level.
+-- How a level ends.
 use Rattle.sqlx_traits.specs.Calls.{Call, commit, rollback, start_rollback}
 use Rattle.mem_client.specs.declared.levels.End.{End}
 use Rattle.mem_client.specs.declared.levels.End.TheVariants.{Commit, Rollback, GiveUp}
 
+-- the call by which a transaction ends a level so
 abbrev pub call_of : End → Call
 call_of Commit = commit
 call_of Rollback = rollback
