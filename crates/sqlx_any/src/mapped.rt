@@ -1,18 +1,16 @@
 //! The form in `Any` of a row that a database has of its own.
-ghost use Rattle.std.specs.Prelude.{◌≡◌, ◌⊎◌, ◌++◌, ◌∷◌, [], OnOk, Result, decimal, length};
+ghost use Rattle.std.specs.Prelude.{◌≡◌, ◌⊎◌, Result, decimal, length};
 ghost use Rattle.sqlx_text.specs.declared.fault.Fault.{Fault};
 ghost use Rattle.sqlx_text.specs.declared.kind.AnyTypeInfoKind.{AnyTypeInfoKind};
 ghost use Rattle.sqlx_any.specs.Mapped.{NativeCell, NativeRow, NativeValue, OrNoMemory};
 ghost use Rattle.sqlx_any.specs.Names.{AreBelow};
-ghost use Rattle.sqlx_any.specs.Rows.{Fits};
 ghost use Rattle.sqlx_any.specs.declared.value.AnyValueKind.{AnyValueKind};
 
 use crate::native::keep;
 use crate::{AnyBlob, AnyColumn, AnyRow, AnyValue, AnyValueKind, ColumnNames};
-use sqlx_text::{AnyTypeInfoKind, Error, Fault, OutOfMemory, UStr};
+use sqlx_text::{AnyTypeInfoKind, Error, Fault, UStr};
 use sqlx_traits::{Column, Database, DecodeOwned, Row, TypeInfo, Value, label_of_position};
 use std::alloc::Global;
-use std::marker::Model;
 
 /// A database whose values can be read by each kind: one for which the six Rust types can be read. Nothing else has to be written for it.
 pub trait ReadsAnyKinds: Database {
@@ -95,70 +93,18 @@ impl AnyRow {
         requires { AreBelow names (length (DB.Row.described row.now)) }
         ensures { NativeRow DB.TypeInfo.kind DB.TypeInfo.named DB.Value.type_of DB.Value.null DB.kind_reads DB.Column.at DB.Column.named DB.Column.typed (DB.Row.described row.now) (DB.Row.values row.now) names result }
     {
-        let mut cells = Cells::under(alloc, names);
+        let mut columns = Vec::new(alloc);
+        let mut values = Vec::new(alloc);
         for column in row.columns() {
             match cell::<DB>(alloc, row, column) {
-                Ok((form, value)) => match cells.push(form, value) {
-                    Ok(()) => {}
-                    Err(OutOfMemory) => {
-                        drop(cells);
-                        return Err(Error::OutOfMemory);
-                    }
-                },
-                Err(error) => {
-                    drop(cells);
-                    return Err(error);
+                Ok((form, value)) => {
+                    keep(&mut columns, form)?;
+                    keep(&mut values, value)?;
                 }
+                Err(error) => return Err(error),
             }
         }
-        Ok(cells.into_row())
-    }
-}
-
-// A row under construction.
-#[derive(Drop)]
-struct Cells {
-    names: ColumnNames,
-    columns: Vec<AnyColumn>,
-    values: Vec<AnyValue>,
-}
-
-impl Model for Cells {
-    ghost use Rattle.sqlx_any.specs.Rows.{RowParts};
-
-    ghost Value = { RowParts };
-
-    ghost view = { λ cells. record { names = cells.names; columns = cells.columns.items; values = cells.values.items } };
-}
-
-impl Cells {
-    fn under(alloc: Global, names: ColumnNames) -> Cells
-        ensures { result ≡ record { names = names; columns = []; values = [] } }
-    {
-        Cells {
-            names,
-            columns: Vec::new(alloc),
-            values: Vec::new(alloc),
-        }
-    }
-
-    fn push(&mut self, column: AnyColumn, value: AnyValue) -> Result<(), OutOfMemory>
-        ensures { OnOk result (self.new ≡ record { names = self.old.names; columns = self.old.columns ++ column ∷ []; values = self.old.values ++ value ∷ [] }) }
-    {
-        keep(&mut self.columns, column)?;
-        keep(&mut self.values, value)
-    }
-
-    fn into_row(self) -> AnyRow
-        requires { Fits self.names (length self.columns) (length self.values) }
-        ensures { result ≡ self }
-    {
-        let Cells {
-            names,
-            columns,
-            values,
-        } = self;
-        AnyRow::of(names, columns, values)
+        Ok(AnyRow::of(names, columns, values))
     }
 }
 

@@ -13,7 +13,6 @@ Gives g row =
 
 abbrev pub invariant-loop-column : goal.invariant-loop-column
 invariant-loop-column g l =
-    (l.cells.names ≡ l.fn.names)
-    × AllGive (Gives g l.row) (take l.column-index l.column-items) l.cells.columns l.cells.values
-    × (length l.cells.columns ≡ l.column-index)
-    × (length l.cells.values ≡ l.column-index)
+    AllGive (Gives g l.row) (take l.column-index l.column-items) l.columns.items l.values.items
+    × (length l.columns.items ≡ l.column-index)
+    × (length l.values.items ≡ l.column-index)
