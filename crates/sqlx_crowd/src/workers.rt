@@ -2,7 +2,7 @@
 
 ghost use Rattle.std.specs.Prelude.{◌≡◌, ℕ, ◌+◌, ◌<◌, ◌≤◌, IfOk, OnOk, true};
 ghost use Rattle.sqlx_pool_core.specs.Balance.{one_if};
-ghost use Rattle.sqlx_pool.specs.Booked.{CountsIf};
+ghost use Rattle.sqlx_pool_parts.specs.Booked.{CountsIf};
 
 use sqlx_pool::{Clock, Loans, Pool, PoolConnection, Tally};
 use sqlx_pool_core::Outside;

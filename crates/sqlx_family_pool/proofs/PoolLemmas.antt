@@ -20,8 +20,8 @@ use Rattle.sqlx_family.specs.Pools.{Pools, entry_of, root_of, counts_as_closed, 
 use Rattle.sqlx_family.specs.IsFamily.{IsFamily}
 use Rattle.sqlx_family.specs.FamilyLogs.{FamilyLogs}
 use Rattle.sqlx_family.proofs.LogLemmas.{stand-stepped}
-use Rattle.sqlx_pool.specs.Booked.{Booked}
-use Rattle.sqlx_pool.specs.State.{RestFlat}
+use Rattle.sqlx_pool_parts.specs.Booked.{Booked}
+use Rattle.sqlx_pool_parts.specs.State.{RestFlat}
 use Rattle.sqlx_family_pool.specs.FamilyState.{family_state, held_in, tickets_in, IsKept}
 use Rattle.sqlx_pool.proofs.StepLemmas.{kept-books}
 use Rattle.sqlx_family_pool.proofs.Replaces.{Replaces, replaces-with}

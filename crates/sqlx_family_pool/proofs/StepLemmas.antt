@@ -22,16 +22,16 @@ use Rattle.sqlx_pool_core.specs.Balance.{Balance, is_lent, lents, ends, marks_du
 use Rattle.sqlx_pool_core.specs.PollSteps.{test_answer, after_refusal}
 use Rattle.sqlx_pool_core.specs.PollParts.{IfAccepted}
 use Rattle.sqlx_pool_core.specs.MaintenanceSteps.{done_marks}
-use Rattle.sqlx_pool.specs.Answers.{IfTestLends}
+use Rattle.sqlx_pool_parts.specs.Answers.{IfTestLends}
 use Rattle.sqlx_family.specs.declared.family.FamilyPool.{FamilyPool}
 use Rattle.sqlx_family.specs.NoPool.{no_pool}
 use Rattle.sqlx_family.specs.Pools.{Pools, entry_of, pool_in}
 use Rattle.sqlx_family.specs.IsFamily.{permits_of, Joins, IsFamily, maximum_of}
 use Rattle.sqlx_family.specs.FamilyLogs.{with_marks, MakesTogether, FamilyLogs}
 use Rattle.sqlx_family.proofs.LogLemmas.{same, other}
-use Rattle.sqlx_pool.specs.Booked.{Booked}
+use Rattle.sqlx_pool_parts.specs.Booked.{Booked}
 use Rattle.sqlx_pool.specs.Places.{done_if_marks}
-use Rattle.sqlx_pool.specs.State.{RestFlat}
+use Rattle.sqlx_pool_parts.specs.State.{RestFlat}
 use Rattle.sqlx_pool.proofs.LeavesLemmas.{Leaves}
 use Rattle.sqlx_pool.proofs.StepLemmas.{Books}
 use Rattle.sqlx_family_pool.specs.FamilyState.{family_state, with_made, held_in, tickets_in, IsKept}

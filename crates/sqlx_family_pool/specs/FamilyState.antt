@@ -7,8 +7,8 @@ use Rattle.sqlx_family.specs.declared.family.FamilyPool.{FamilyPool}
 use Rattle.sqlx_family.specs.Pools.{Pools, pool_in}
 use Rattle.sqlx_family.specs.IsFamily.{maximum_of}
 use Rattle.sqlx_family.specs.FamilyLogs.{StandTogether}
-use Rattle.sqlx_pool.specs.Booked.{Booked}
-use Rattle.sqlx_pool.specs.State.{RestFlat}
+use Rattle.sqlx_pool_parts.specs.Booked.{Booked}
+use Rattle.sqlx_pool_parts.specs.State.{RestFlat}
 
 -- A family, a log for each of its pools by the pool's name, the options by which connections are opened, and the books, which count all pools.
 pub record FamilyState (C O : Type 0) : Type 0 where

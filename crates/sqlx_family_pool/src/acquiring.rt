@@ -4,7 +4,7 @@ ghost use Rattle.std.specs.Prelude.{◌≡◌, ℕ, ◌+◌, ◌<◌, ◌≤◌}
 ghost use Rattle.sqlx_pool_core.specs.Balance.{one_if};
 ghost use Rattle.sqlx_pool_core.specs.PollSteps.{phase_for, may_cancel};
 ghost use Rattle.sqlx_family.specs.Pools.{pool_in};
-ghost use Rattle.sqlx_pool.specs.Booked.{CountsIf};
+ghost use Rattle.sqlx_pool_parts.specs.Booked.{CountsIf};
 ghost use Rattle.sqlx_pool.specs.Polling.{is_ready, IfReady, IfFailed, IfPending};
 ghost use Rattle.sqlx_pool.specs.Refusals.{IsEnd, IsPollRefusal};
 ghost use Rattle.sqlx_pool.specs.Stage.{has_lent, IfLent, IfEnded};
@@ -13,10 +13,10 @@ ghost use Rattle.sqlx_family_pool.specs.Seen.{SawFamily};
 mod waits;
 
 use crate::{FamilyConnectionOf, FamilyPollOf, FamilyPoolOf};
-use sqlx_pool::checks::close_left;
 use sqlx_pool::stage::Stage;
 use sqlx_pool::{Held, Loans, Polling, Tally};
 use sqlx_pool_core::Outside;
+use sqlx_pool_parts::checks::close_left;
 use sqlx_text::{Depth, Moment};
 use std::alloc::Global;
 use std::sync::Wait;

@@ -4,7 +4,7 @@ ghost use Rattle.std.specs.Prelude.{◌≡◌, ℕ, ◌+◌, ◌-◌, ◌^◌, �
 ghost use Rattle.sqlx_text.specs.declared.error.Error.{Error};
 ghost use Rattle.sqlx_log.specs.declared.mark.Mark.{Mark};
 ghost use Rattle.sqlx_family.specs.Pools.{new_family, with_child};
-ghost use Rattle.sqlx_pool.specs.Booked.{Booked, Tallied};
+ghost use Rattle.sqlx_pool_parts.specs.Booked.{Booked, Tallied};
 ghost use Rattle.sqlx_family_pool.specs.FamilyState.{FamilyState};
 
 mod ask;
@@ -15,9 +15,9 @@ mod questions;
 mod returns;
 
 use sqlx_family::Family;
-use sqlx_pool::books::Books;
 use sqlx_pool::{Loans, Tally};
 use sqlx_pool_core::{Mark, PoolOptions};
+use sqlx_pool_parts::books::Books;
 use sqlx_text::{Depth, Error, OutOfMemory};
 use std::alloc::Global;
 use std::marker::Model;

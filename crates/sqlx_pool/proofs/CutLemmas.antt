@@ -17,7 +17,7 @@ use Rattle.sqlx_pool_core.specs.declared.ticket.Phase.TheVariants as phase
 use Rattle.sqlx_pool_core.specs.Core.{Core}
 use Rattle.sqlx_pool_core.specs.StandsFor.{StandsFor, IsTestedBorn}
 use Rattle.sqlx_pool_core.specs.Balance.{is_lent, lents}
-use Rattle.sqlx_pool.specs.State.{PoolState, state_of, IsKept}
+use Rattle.sqlx_pool_parts.specs.State.{PoolState, state_of, IsKept}
 
 -- a core stands for its log where that is cut
 stands-cut : {C : Type 0} (core : Core C) (marks : List Mark) → StandsFor core marks → StandsFor core (cut_of marks)

@@ -7,7 +7,7 @@ use Rattle.sqlx_pool_core.specs.Outside.{HasRisen}
 use Rattle.sqlx_traits.specs.Faults.{FaultCause}
 use Rattle.sqlx_traits.specs.StepList.{StepCause, StepCauses}
 use Rattle.sqlx_traits.specs.Handed.{Handed}
-use Rattle.sqlx_pool.specs.Booked.{Tallied}
+use Rattle.sqlx_pool_parts.specs.Booked.{Tallied}
 use Rattle.sqlx_pool.specs.Handle.{told, WasRefused, WorkedOn}
 
 -- a cause by one count is a cause by another that has risen

@@ -21,7 +21,7 @@ use Rattle.sqlx_pool_core.specs.Edits.{is_another_idle, at_moment, asked}
 use Rattle.sqlx_pool_core.specs.MaintenanceSteps.{placed, reaped, done, done_at, placed_back, closed_from}
 use Rattle.sqlx_pool_core.specs.ReturnSteps.{give_answer, core_after_give, released, leaked}
 use Rattle.sqlx_pool_core.specs.PollSteps.{started, after_test, after_connect, cancelled, after_try, after_serve, try_lent, lent_since}
-use Rattle.sqlx_pool.specs.State.{RestFlat}
+use Rattle.sqlx_pool_parts.specs.State.{RestFlat}
 
 -- The options are as they were, and idle connections still have no level open.
 pub record Leaves {C : Type 0} (levels : C → ℕ) (old new : Core C) : Type 0 where

@@ -2,7 +2,7 @@
 use Rattle.std.proofs.Common.{ℕ, ◌≡◌, ◌==◌, ◌≤◌, false, inl, inr, arith}
 use Rattle.sqlx_text.specs.declared.error.Error.{Error}
 use Rattle.sqlx_pool_core.specs.Outside.{HasRisen}
-use Rattle.sqlx_pool.specs.Opened.{IsOpenRefusal, TellsLevels}
+use Rattle.sqlx_pool_parts.specs.Opened.{IsOpenRefusal, TellsLevels}
 use Rattle.sqlx_pool.specs.Refusals.{IsPollRefusal}
 
 risen_sooner : (a b c : ℕ) → a ≤ b → HasRisen b c → HasRisen a c

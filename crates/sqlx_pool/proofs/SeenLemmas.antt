@@ -9,13 +9,13 @@ use Rattle.sqlx_log.specs.Counts.{waiting_in}
 use Rattle.sqlx_log.specs.Marks.{is_shut, next_conn, tickets_of}
 use Rattle.sqlx_pool_core.specs.Limits.{limits_of}
 use Rattle.sqlx_pool_core.specs.declared.steps.Lent.{Lent}
-use Rattle.sqlx_pool.specs.Answers.{lent_alone}
-use Rattle.sqlx_pool.specs.declared.mark_log.MarkLog.{MarkLog}
-use Rattle.sqlx_pool.specs.MarkLog.{IsCopyOf}
+use Rattle.sqlx_pool_parts.specs.Answers.{lent_alone}
+use Rattle.sqlx_pool_parts.specs.declared.mark_log.MarkLog.{MarkLog}
+use Rattle.sqlx_pool_parts.specs.MarkLog.{IsCopyOf}
 use Rattle.sqlx_pool.specs.Places.{back_if, holds_place}
 use Rattle.sqlx_pool.specs.Seen.{bare, Saw}
 use Rattle.sqlx_pool.specs.Refusals.{IsAskRefusal, IsTryRefusal}
-use Rattle.sqlx_pool.specs.State.{PoolState, IsStanding, start_of, since_start}
+use Rattle.sqlx_pool_parts.specs.State.{PoolState, IsStanding, start_of, since_start}
 use Rattle.sqlx_pool.specs.Upkeep.{has_room, IsFilled}
 
 pub standing-bare : {C O : Type 0} (levels : C → ℕ) (max : ℕ) (cuts : Bool) (state : PoolState C O) → IsStanding levels max cuts state → IsStanding levels max cuts (bare state)

@@ -32,9 +32,9 @@ use Rattle.sqlx_pool_core.specs.StandsFor.{StandsFor}
 use Rattle.sqlx_pool_core.specs.Logs.{Logs}
 use Rattle.sqlx_pool_core.specs.Balance.{Balance, is_lent, lents, ends, marks_due, one_if, given_back}
 use Rattle.sqlx_pool_core.specs.PollSteps.{is_in_line, start_marks, test_marks, connect_marks, cancel_marks, try_answer, try_answer_at, connect_answer}
-use Rattle.sqlx_pool.specs.Answers.{lends_tested, lends_new, is_fatal, is_ended}
-use Rattle.sqlx_pool.specs.Booked.{Booked}
-use Rattle.sqlx_pool.specs.State.{PoolState, state_of, no_start, RestFlat, IsKept}
+use Rattle.sqlx_pool_parts.specs.Answers.{lends_tested, lends_new, is_fatal, is_ended}
+use Rattle.sqlx_pool_parts.specs.Booked.{Booked}
+use Rattle.sqlx_pool_parts.specs.State.{PoolState, state_of, no_start, RestFlat, IsKept}
 use Rattle.sqlx_pool.proofs.LeavesLemmas.{Leaves}
 
 -- The books behind a step that ends so many loans and makes these marks; it lends no more than it ends tickets, but where few loans were made.

@@ -1,7 +1,7 @@
 -- What a tally comes to over several calls.
 use Rattle.std.proofs.Common.{◌≡◌, ℕ, ◌≤◌, true, false, sym, ap, ◌∙◌, subst, arith}
 use Rattle.sqlx_pool_core.specs.Outside.{HasRisen}
-use Rattle.sqlx_pool.specs.Booked.{Tallied, CountsIf}
+use Rattle.sqlx_pool_parts.specs.Booked.{Tallied, CountsIf}
 
 same_tally : (old new : Tallied) → new.parts ≡ old.parts → new.loans ≡ old.loans → new ≡ old
 same_tally old new parts loans =

@@ -1,9 +1,4 @@
-pub mod Booked
-pub mod LogStart
-pub mod State
-pub mod Answers
 pub mod Places
-pub mod Checks
 pub mod Stage
 pub mod Polling
 pub mod Refusals
@@ -11,8 +6,6 @@ pub mod Returned
 pub mod Begun
 pub mod Maybe
 pub mod Acquired
-pub mod Opened
-pub mod MarkLog
 pub mod Handle
 pub mod Seen
 pub mod Upkeep

@@ -4,7 +4,7 @@ use Rattle.sqlx_text.specs.declared.error.Error.{Error}
 use Rattle.sqlx_text.specs.declared.error.Error.TheVariants as error
 use Rattle.sqlx_log.specs.Marks.{is_open, next_ticket}
 use Rattle.sqlx_pool_core.specs.PollParts.{IsForGood}
-use Rattle.sqlx_pool.specs.State.{PoolState}
+use Rattle.sqlx_pool_parts.specs.State.{PoolState}
 
 -- a ticket ends by the pool's rules: the pool is closed, its time is over, or the numbers are used up; or there is no such ticket
 abbrev pub IsEnd : Error → Type 0

@@ -2,7 +2,7 @@
 use Rattle.std.specs.Prelude.{◌≡◌, ℕ, Bool, true, false, ⊤, Option, Some, None, Result, Ok, Err}
 use Rattle.sqlx_text.specs.declared.error.Error.{Error}
 use Rattle.sqlx_text.specs.declared.error.Error.TheVariants.{PoolClosed}
-use Rattle.sqlx_pool.specs.State.{PoolState, IsStanding, state_of}
+use Rattle.sqlx_pool_parts.specs.State.{PoolState, IsStanding, state_of}
 
 -- a state without its connect options
 abbrev pub bare : {C O : Type 0} → PoolState C O → PoolState C (⊤)

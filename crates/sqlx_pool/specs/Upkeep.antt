@@ -7,9 +7,9 @@ use Rattle.sqlx_pool_core.specs.declared.steps.Openings.{Openings}
 use Rattle.sqlx_pool_core.specs.Limits.{limits_of}
 use Rattle.sqlx_pool_core.specs.Logs.{moment_of}
 use Rattle.sqlx_pool.specs.Places.{holds_place}
-use Rattle.sqlx_pool.specs.State.{PoolState}
-use Rattle.sqlx_pool.specs.declared.filled.Filled.{Filled}
-use Rattle.sqlx_pool.specs.declared.filled.Filled.TheVariants as filled
+use Rattle.sqlx_pool_parts.specs.State.{PoolState}
+use Rattle.sqlx_pool_parts.specs.declared.filled.Filled.{Filled}
+use Rattle.sqlx_pool_parts.specs.declared.filled.Filled.TheVariants as filled
 
 module _ {C O : Type 0} where
   -- the idle connection that is reaped first at this moment, if one is

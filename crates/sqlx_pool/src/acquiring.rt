@@ -3,7 +3,7 @@
 ghost use Rattle.std.specs.Prelude.{◌≡◌, ℕ, ◌+◌, ◌<◌, ◌≤◌, false};
 ghost use Rattle.sqlx_pool_core.specs.Balance.{one_if};
 ghost use Rattle.sqlx_pool_core.specs.PollSteps.{phase_for, may_cancel};
-ghost use Rattle.sqlx_pool.specs.Booked.{CountsIf};
+ghost use Rattle.sqlx_pool_parts.specs.Booked.{CountsIf};
 ghost use Rattle.sqlx_pool.specs.Polling.{is_ready, IfReady, IfFailed, IfPending};
 ghost use Rattle.sqlx_pool.specs.Refusals.{IsEnd, IsPollRefusal};
 ghost use Rattle.sqlx_pool.specs.Seen.{Saw};
@@ -11,10 +11,10 @@ ghost use Rattle.sqlx_pool.specs.Stage.{has_lent, IfLent, IfEnded};
 
 mod waits;
 
-use crate::checks::close_left;
 use crate::stage::{Stage, Why};
 use crate::{Held, Loans, PoolConnectionOf, PoolOf, Tally};
 use sqlx_pool_core::Outside;
+use sqlx_pool_parts::checks::close_left;
 use sqlx_text::{Depth, Error, Moment};
 use std::alloc::Global;
 use std::sync::Wait;

@@ -2,7 +2,7 @@
 
 ghost use Rattle.std.specs.Prelude.{◌≡◌, ◌<◌, ◌≤◌, ℕ, None, Some};
 ghost use Rattle.sqlx_pool.specs.Begun.{Begins, BeginsLent, BegunOnLent, has_lent, was_lent};
-ghost use Rattle.sqlx_pool.specs.Booked.{CountsIf};
+ghost use Rattle.sqlx_pool_parts.specs.Booked.{CountsIf};
 ghost use Rattle.sqlx_pool.specs.Refusals.{AreLoansUsed, IsPollRefusal, IsTryRefusal};
 ghost use Rattle.sqlx_pool.specs.Seen.{Saw};
 

@@ -1,7 +1,7 @@
 //! A tally that counts loans: it has a part of the ledger for as long as it does.
 
 ghost use Rattle.std.specs.Prelude.{◌≡◌, ℕ, ◌<◌, ◌≤◌, true, IfOk, IfErr, OnOk, OnErr};
-ghost use Rattle.sqlx_pool.specs.Booked.{CountsIf};
+ghost use Rattle.sqlx_pool_parts.specs.Booked.{CountsIf};
 ghost use Rattle.sqlx_pool.specs.Refusals.{IsPollRefusal};
 
 use crate::{Clock, Loans, PoolConnectionOf, PoolOf, Tally};
@@ -20,7 +20,7 @@ pub struct Counting<L: Loans> {
 
 impl<L: Loans> Model for Counting<L> {
     ghost use Rattle.std.specs.Prelude.{◌<◌};
-    ghost use Rattle.sqlx_pool.specs.Booked.{Tallied};
+    ghost use Rattle.sqlx_pool_parts.specs.Booked.{Tallied};
 
     ghost Value = { Tallied };
 

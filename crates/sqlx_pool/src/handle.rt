@@ -2,7 +2,7 @@
 
 ghost use Rattle.std.specs.Prelude.{◌≡◌, ℕ, ◌<◌, ◌≤◌, true, IfOk, IfErr, OnOk, OnErr};
 ghost use Rattle.sqlx_pool_core.specs.Outside.{HasRisen};
-ghost use Rattle.sqlx_pool.specs.Booked.{CountsIf};
+ghost use Rattle.sqlx_pool_parts.specs.Booked.{CountsIf};
 ghost use Rattle.sqlx_pool.specs.Refusals.{IsPollRefusal};
 
 mod executor;

@@ -6,54 +6,37 @@
 
 mod acquire;
 mod acquiring;
-pub mod answers;
 mod begins;
-pub mod books;
-pub mod checks;
-mod clock;
 mod close_event;
 mod connection;
 mod counting;
-pub mod filled;
 mod handle;
 mod hold;
-mod hooks;
 mod locked;
-mod log_start;
-mod mark_log;
 mod maybe;
-mod options_connector;
-mod parts;
 mod pool;
 mod pool_connect;
-pub mod record;
 mod seen;
-pub mod sleepers;
 pub mod stage;
-mod taken;
-mod tally;
 
 pub use acquire::Acquire;
 pub use acquiring::{AcquiringOf, Polling, PoolPollOf};
 pub use begins::{BeginRefusedOf, PoolBegin};
-pub use clock::{Clock, FixedClock};
 pub use close_event::{CloseEventOf, Step};
 pub use connection::{PoolConnectionOf, Returned};
 pub use handle::PoolHandle;
-pub use hooks::{Hooks, NoHooks};
 pub use locked::Locked;
-pub use log_start::LogStart;
-pub use mark_log::MarkLog;
 pub use maybe::{MaybePoolConnection, MaybePoolConnectionOf};
-pub use options_connector::OptionsConnector;
-pub use parts::Parts;
 pub use pool::PoolOf;
 pub use pool_connect::PoolConnect;
 pub use sqlx_pool_core::{CloseState, Mark, Openings, PoolConnectionMetadata, PoolOptions};
+pub use sqlx_pool_parts::{
+    Clock, FixedClock, Held, Hooks, Loans, LogStart, MarkLog, NoHooks, OptionsConnector, Parts,
+    Tally,
+};
 pub use sqlx_traits::Connector;
 use sqlx_traits::Database;
 pub use stage::Why;
-pub use tally::{Held, Loans, Tally};
 
 /// The pool of a database.
 pub type Pool<DB, H, L> = PoolOf<<DB as Database>::Connection, <DB as Database>::Options, H, L>;

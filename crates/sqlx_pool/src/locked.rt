@@ -2,8 +2,8 @@
 
 ghost use Rattle.std.specs.Prelude.{◌≡◌, ℕ, ◌+◌, ◌^◌, ◌<◌, ◌≤◌, List, [], ◌∷◌, ◌++◌, IfOk, IfErr, OnOk, OnErr, length};
 ghost use Rattle.sqlx_log.specs.declared.mark.Mark.{Mark};
-ghost use Rattle.sqlx_pool.specs.Booked.{Booked, Tallied};
-ghost use Rattle.sqlx_pool.specs.State.{PoolState, no_start};
+ghost use Rattle.sqlx_pool_parts.specs.Booked.{Booked, Tallied};
+ghost use Rattle.sqlx_pool_parts.specs.State.{PoolState, no_start};
 
 mod ask;
 mod cut;
@@ -13,9 +13,9 @@ mod questions;
 mod returns;
 mod turns;
 
-use crate::books::Books;
 use crate::{Loans, LogStart, Tally};
 use sqlx_pool_core::{Mark, PoolCore, PoolOptions};
+use sqlx_pool_parts::books::Books;
 use sqlx_text::{Depth, OutOfMemory};
 use std::alloc::Global;
 use std::marker::Model;
@@ -36,7 +36,7 @@ pub struct Locked<C: Depth, O, H: Ledger, L: Loans> {
 
 impl<C: Depth, O, H: Ledger, L: Loans> Model for Locked<C, O, H, L> {
     ghost use Rattle.std.specs.Prelude.{vec_capacity};
-    ghost use Rattle.sqlx_pool.specs.State.{PoolState, state_of, IsKept};
+    ghost use Rattle.sqlx_pool_parts.specs.State.{PoolState, state_of, IsKept};
 
     ghost Value = { PoolState C O };
 

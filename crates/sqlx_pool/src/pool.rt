@@ -7,21 +7,21 @@ ghost use Rattle.sqlx_log.specs.FairLog.{IsFair};
 ghost use Rattle.sqlx_log.specs.Marks.{is_open, idle_of};
 ghost use Rattle.sqlx_pool_core.specs.Balance.{lents};
 ghost use Rattle.sqlx_pool_core.specs.MaintenanceSteps.{close_state_of};
-ghost use Rattle.sqlx_pool.specs.Answers.{IsNextTicket};
-ghost use Rattle.sqlx_pool.specs.Booked.{CountsIf};
-ghost use Rattle.sqlx_pool.specs.Opened.{IsOpenable};
-ghost use Rattle.sqlx_pool.specs.MarkLog.{IsCopyOf, IsUncut};
+ghost use Rattle.sqlx_pool_parts.specs.Answers.{IsNextTicket};
+ghost use Rattle.sqlx_pool_parts.specs.Booked.{CountsIf};
+ghost use Rattle.sqlx_pool_parts.specs.Opened.{IsOpenable};
+ghost use Rattle.sqlx_pool_parts.specs.MarkLog.{IsCopyOf, IsUncut};
 ghost use Rattle.sqlx_pool.specs.Refusals.{AreLoansUsed, AreTicketsUsed, IsAskRefusal, IsClosed, IsTryRefusal};
 ghost use Rattle.sqlx_pool.specs.Seen.{Saw};
-ghost use Rattle.sqlx_pool.specs.State.{since_start};
+ghost use Rattle.sqlx_pool_parts.specs.State.{since_start};
 
 mod first;
 mod maintenance;
 mod polls;
 
-use crate::sleepers::Sleepers;
 use crate::{AcquiringOf, CloseEventOf, Loans, Locked, MarkLog, PoolConnectionOf, Tally};
 use sqlx_pool_core::{CloseState, PoolOptions};
+use sqlx_pool_parts::sleepers::Sleepers;
 use sqlx_text::{Depth, Error, Moment, OutOfMemory};
 use std::alloc::Global;
 use std::sync::atomic::AtomicBool;

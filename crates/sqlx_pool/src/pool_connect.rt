@@ -4,7 +4,7 @@ ghost use Rattle.std.specs.Prelude.{◌≡◌, ◌⊎◌, ℕ, ◌^◌, ◌≤�
 ghost use Rattle.sqlx_text.specs.declared.error.Error.{Error};
 ghost use Rattle.sqlx_pool_core.specs.declared.options.PoolOptions.{PoolOptions};
 ghost use Rattle.sqlx_traits.specs.Options.{ReadsText};
-ghost use Rattle.sqlx_pool.specs.Opened.{IsOpenable, IsOpenRefusal};
+ghost use Rattle.sqlx_pool_parts.specs.Opened.{IsOpenable, IsOpenRefusal};
 ghost use Rattle.url.specs.Parser.{parse_url};
 
 use crate::{Loans, PoolOf, Tally};

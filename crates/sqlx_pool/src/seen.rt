@@ -7,12 +7,12 @@ ghost use Rattle.sqlx_log.specs.EventTable.{size_at, closed_at};
 ghost use Rattle.sqlx_log.specs.FairLog.{IsFair};
 ghost use Rattle.sqlx_pool_core.specs.MaintenanceSteps.{close_state_of, idle_conn};
 ghost use Rattle.sqlx_pool_core.specs.PollSteps.{phase_for, may_cancel};
-ghost use Rattle.sqlx_pool.specs.Answers.{IsNextTicket, lent_alone};
-ghost use Rattle.sqlx_pool.specs.Booked.{CountsIf};
-ghost use Rattle.sqlx_pool.specs.MarkLog.{IsCopyOf, IsUncut};
+ghost use Rattle.sqlx_pool_parts.specs.Answers.{IsNextTicket, lent_alone};
+ghost use Rattle.sqlx_pool_parts.specs.Booked.{CountsIf};
+ghost use Rattle.sqlx_pool_parts.specs.MarkLog.{IsCopyOf, IsUncut};
 ghost use Rattle.sqlx_pool.specs.Refusals.{AreLoansUsed, AreTicketsUsed, IsAskRefusal, IsClosed, IsTryRefusal};
 ghost use Rattle.sqlx_pool.specs.Seen.{Saw};
-ghost use Rattle.sqlx_pool.specs.State.{since_start};
+ghost use Rattle.sqlx_pool_parts.specs.State.{since_start};
 ghost use Rattle.sqlx_pool.specs.Upkeep.{has_room, IsFilled, to_reap};
 
 use crate::{Held, Loans, Locked, MarkLog, Tally};

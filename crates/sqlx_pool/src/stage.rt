@@ -1,13 +1,14 @@
 //! How far a poll has come, between its locked steps.
 
 ghost use Rattle.std.specs.Prelude.{◌≡◌, ℕ, ◌+◌, ◌<◌, ◌≤◌, true, false, is_some};
-ghost use Rattle.sqlx_pool.specs.Answers.{lends_tested, IfTestLends, lends_new, IfTryLends, is_ended};
-ghost use Rattle.sqlx_pool.specs.Booked.{CountsIf};
+ghost use Rattle.sqlx_pool_parts.specs.Answers.{lends_tested, IfTestLends, lends_new, IfTryLends, is_ended};
+ghost use Rattle.sqlx_pool_parts.specs.Booked.{CountsIf};
 ghost use Rattle.sqlx_pool.specs.Refusals.{IsEnd};
 ghost use Rattle.sqlx_pool.specs.Stage.{has_lent, IfLent, IfEnded, wants_test, wants_connect};
 
-use crate::{Held, Loans, Locked, Tally, checks};
+use crate::{Held, Loans, Locked, Tally};
 use sqlx_pool_core::{AfterConnect, AfterTest, Idle, Lent, Start, Tried, Verdict};
+use sqlx_pool_parts::checks;
 use sqlx_text::{Depth, Error, Moment};
 use std::sync::ledger::Ledger;
 

@@ -1,7 +1,7 @@
 //! New pools for tests.
 
 ghost use Rattle.std.specs.Prelude.{◌≡◌, ◌^◌, ◌<◌, ◌≤◌, IfOk};
-ghost use Rattle.sqlx_pool.specs.Opened.{IsOpenable};
+ghost use Rattle.sqlx_pool_parts.specs.Opened.{IsOpenable};
 
 use sqlx_pool::*;
 use sqlx_text::{Depth, OutOfMemory};

@@ -1,7 +1,7 @@
 //! Waiting for a connection: polls of a ticket, between which the thread sleeps until a step may have freed something.
 
 ghost use Rattle.std.specs.Prelude.{◌≡◌, ℕ, ◌<◌, ◌≤◌, true, IfOk, IfErr, OnOk, OnErr};
-ghost use Rattle.sqlx_pool.specs.Booked.{CountsIf};
+ghost use Rattle.sqlx_pool_parts.specs.Booked.{CountsIf};
 ghost use Rattle.sqlx_pool.specs.Polling.{is_ready, IfReady, IfFailed};
 ghost use Rattle.sqlx_pool.specs.Refusals.{IsPollRefusal};
 

@@ -5,15 +5,16 @@ ghost use Rattle.sqlx_text.specs.declared.error.Error.{Error};
 ghost use Rattle.sqlx_log.specs.declared.mark.Mark.{Mark};
 ghost use Rattle.sqlx_pool_core.specs.Logs.{moment_of};
 ghost use Rattle.sqlx_pool_core.specs.PollSteps.{asked_marks, try_marks};
-ghost use Rattle.sqlx_pool.specs.Answers.{lent_alone};
-ghost use Rattle.sqlx_pool.specs.Booked.{CountsIf};
+ghost use Rattle.sqlx_pool_parts.specs.Answers.{lent_alone};
+ghost use Rattle.sqlx_pool_parts.specs.Booked.{CountsIf};
 ghost use Rattle.sqlx_family.specs.Pools.{pool_in, with_pool, counts_as_closed};
 ghost use Rattle.sqlx_family_pool.specs.FamilyState.{IsNamed, IsUnnamed, with_made};
 ghost use Rattle.sqlx_family_pool.specs.FamilySteps.{core_after_ask, try_lent_in, family_after_try};
 
 use super::LockedFamily;
-use sqlx_pool::{Held, Loans, Tally, record};
+use sqlx_pool::{Held, Loans, Tally};
 use sqlx_pool_core::{Lent, Mark};
+use sqlx_pool_parts::record;
 use sqlx_text::{Depth, Error, Moment};
 use std::alloc::Global;
 use std::sync::ledger::Ledger;
@@ -23,9 +24,6 @@ const NUMBERS: u64 = 1 << 63;
 
 // How many marks a loan past the line may lead to.
 const TRY_ROOM: usize = 4;
-
-// A loan past the line is made only while fewer loans than these were made, in whichever pool.
-const LOANS: u64 = 1 << 62;
 
 impl<C: Depth, O, H: Ledger, L: Loans> LockedFamily<C, O, H, L> {
     /// Asks a pool for a connection: the client gets a ticket, whose number comes next in the family. The memory for all
@@ -92,7 +90,7 @@ impl<C: Depth, O, H: Ledger, L: Loans> LockedFamily<C, O, H, L> {
         if !self.is_named(pool) || !self.family.may_lend(pool) {
             return Ok(None);
         }
-        if self.books.made() >= LOANS {
+        if !self.books.may_lend() {
             return Err(Error::Exhausted);
         }
         let due = self.family.due(pool);

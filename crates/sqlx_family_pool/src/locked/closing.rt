@@ -7,8 +7,9 @@ ghost use Rattle.sqlx_family.specs.Permits.{retiring, settled};
 ghost use Rattle.sqlx_family_pool.specs.FamilyState.{IsNamed, IsUnnamed, with_made};
 
 use super::LockedFamily;
-use sqlx_pool::{Loans, record};
+use sqlx_pool::Loans;
 use sqlx_pool_core::Idle;
+use sqlx_pool_parts::record;
 use sqlx_text::Depth;
 use std::alloc::Global;
 use std::collections::VecDeque;

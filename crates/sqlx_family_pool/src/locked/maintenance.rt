@@ -10,9 +10,10 @@ ghost use Rattle.sqlx_family_pool.specs.FamilyState.{IsNamed, IsUnnamed, with_ma
 ghost use Rattle.sqlx_family_pool.specs.FamilySteps.{marks_of_done, family_after_done};
 
 use super::LockedFamily;
-use sqlx_pool::answers::opens;
-use sqlx_pool::{Loans, record};
+use sqlx_pool::Loans;
 use sqlx_pool_core::Idle;
+use sqlx_pool_parts::answers::opens;
+use sqlx_pool_parts::record;
 use sqlx_text::{Depth, Moment, OutOfMemory};
 use std::alloc::Global;
 use std::sync::ledger::Ledger;

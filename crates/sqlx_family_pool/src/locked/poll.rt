@@ -11,15 +11,16 @@ ghost use Rattle.sqlx_pool_core.specs.PollSteps.{may_cancel, cancel_marks, cance
 ghost use Rattle.sqlx_pool_core.specs.PollParts.{IfAccepted};
 ghost use Rattle.sqlx_family.specs.Pools.{pool_in};
 ghost use Rattle.sqlx_family.specs.Permits.{stepped};
-ghost use Rattle.sqlx_pool.specs.Answers.{lends_tested, IfTestLends, lends_new, IfTryLends, IfTried, is_fatal, is_ended};
-ghost use Rattle.sqlx_pool.specs.Booked.{CountsIf};
+ghost use Rattle.sqlx_pool_parts.specs.Answers.{lends_tested, IfTestLends, lends_new, IfTryLends, IfTried, is_fatal, is_ended};
+ghost use Rattle.sqlx_pool_parts.specs.Booked.{CountsIf};
 ghost use Rattle.sqlx_family_pool.specs.FamilyState.{IsNamed, IsUnnamed, with_made};
 ghost use Rattle.sqlx_family_pool.specs.FamilySteps.{start_answer_in, family_after_start};
 
 use super::LockedFamily;
-use sqlx_pool::answers::{judged_of, lends_new, lends_tested};
-use sqlx_pool::{Held, Loans, Tally, record};
+use sqlx_pool::{Held, Loans, Tally};
 use sqlx_pool_core::{AfterConnect, AfterTest, Mark, Start, Tried, Verdict};
+use sqlx_pool_parts::answers::{judged_of, lends_new, lends_tested};
+use sqlx_pool_parts::record;
 use sqlx_text::{Depth, Moment};
 use std::sync::ledger::Ledger;
 

@@ -12,9 +12,10 @@ ghost use Rattle.sqlx_family_pool.specs.FamilyState.{IsNamed, IsUnnamed, with_ma
 ghost use Rattle.sqlx_family_pool.specs.FamilySteps.{core_after_return};
 
 use super::LockedFamily;
-use sqlx_pool::answers::is_held;
-use sqlx_pool::{Held, Loans, record};
+use sqlx_pool::{Held, Loans};
 use sqlx_pool_core::{Given, Lent, Mark};
+use sqlx_pool_parts::answers::is_held;
+use sqlx_pool_parts::record;
 use sqlx_text::{Depth, Moment};
 use std::sync::ledger::Ledger;
 

@@ -2,8 +2,8 @@
 
 ghost use Rattle.std.specs.Prelude.{◌≡◌, ℕ, ◌+◌, ◌<◌, ◌≤◌, ◌⊎◌, true, is_some, IfSome, IfOk, IfErr, OnOk, OnErr};
 ghost use Rattle.sqlx_text.specs.declared.error.Error.{Error};
-ghost use Rattle.sqlx_pool.specs.Answers.{lent_alone};
-ghost use Rattle.sqlx_pool.specs.Booked.{CountsIf};
+ghost use Rattle.sqlx_pool_parts.specs.Answers.{lent_alone};
+ghost use Rattle.sqlx_pool_parts.specs.Booked.{CountsIf};
 ghost use Rattle.sqlx_pool.specs.Polling.{is_ready, IfReady, IfFailed};
 ghost use Rattle.sqlx_pool.specs.Refusals.{IsEnd, IsPollRefusal};
 ghost use Rattle.sqlx_pool.specs.Stage.{has_lent, IfLent, IfEnded};
@@ -11,10 +11,9 @@ ghost use Rattle.sqlx_pool.specs.Stage.{has_lent, IfLent, IfEnded};
 use super::AcquiringOf;
 use crate::pool::Guard;
 use crate::stage::{Stage, Why};
-use crate::{
-    Clock, Held, Loans, Locked, Polling, PoolConnectionOf, PoolOf, PoolPollOf, Tally, checks,
-};
+use crate::{Clock, Held, Loans, Locked, Polling, PoolConnectionOf, PoolOf, PoolPollOf, Tally};
 use sqlx_pool_core::{Lent, Outside};
+use sqlx_pool_parts::checks;
 use sqlx_text::{Depth, Error, Moment};
 use std::alloc::Global;
 use std::sync::Wait;

@@ -7,9 +7,9 @@ ghost use Rattle.sqlx_traits.specs.StepList.{StepCauses};
 ghost use Rattle.sqlx_pool.specs.Handle.{is_of_begin, told, WasRefused, WorkedOn};
 
 use super::PoolHandle;
-use crate::taken::Taken;
 use crate::{Clock, Loans, PoolConnection};
 use sqlx_pool_core::Outside;
+use sqlx_pool_parts::taken::Taken;
 use sqlx_text::{Error, IoFault, SqlStr};
 use sqlx_traits::{Database, Execute, Executor, FetchMany, StepList};
 use std::alloc::Global;

@@ -14,12 +14,13 @@ ghost use Rattle.sqlx_pool_core.specs.Logs.{moment_of};
 ghost use Rattle.sqlx_pool_core.specs.Makes.{Makes};
 ghost use Rattle.sqlx_pool_core.specs.PollSteps.{asked_marks, try_lent, try_marks, after_try, serve_marks, after_serve};
 ghost use Rattle.sqlx_pool_core.specs.StandsFor.{StandsFor};
-ghost use Rattle.sqlx_pool.specs.Answers.{lent_alone, marks_served};
-ghost use Rattle.sqlx_pool.specs.Booked.{CountsIf};
+ghost use Rattle.sqlx_pool_parts.specs.Answers.{lent_alone, marks_served};
+ghost use Rattle.sqlx_pool_parts.specs.Booked.{CountsIf};
 
 use super::Locked;
-use crate::{Held, Loans, Tally, record};
+use crate::{Held, Loans, Tally};
 use sqlx_pool_core::{Lent, Mark, PoolCore};
+use sqlx_pool_parts::record;
 use sqlx_text::{Depth, Error, Moment};
 use std::alloc::Global;
 use std::sync::ledger::Ledger;
@@ -32,9 +33,6 @@ const SERVE_ROOM: usize = 6;
 
 // How many tickets a pool numbers.
 const NUMBERS: u64 = 1 << 63;
-
-// A loan past the line is made only while fewer loans than these were made.
-const LOANS: u64 = 1 << 62;
 
 // When a ticket that is asked for now has no time left.
 fn deadline<C>(core: &PoolCore<C>, now: Moment) -> u128
@@ -226,7 +224,7 @@ impl<C: Depth, O, H: Ledger, L: Loans> Locked<C, O, H, L> {
         if !self.core.may_lend() {
             return Ok(None);
         }
-        if self.books.made() >= LOANS {
+        if !self.books.may_lend() {
             return Err(Error::Exhausted);
         }
         self.core.bounds();

@@ -10,9 +10,10 @@ ghost use Rattle.sqlx_pool_core.specs.Logs.{moment_of};
 ghost use Rattle.sqlx_pool.specs.Places.{holds_place, done_if, done_if_marks, back_if};
 
 use super::Locked;
-use crate::answers::opens;
-use crate::{Loans, record};
+use crate::Loans;
 use sqlx_pool_core::Idle;
+use sqlx_pool_parts::answers::opens;
+use sqlx_pool_parts::record;
 use sqlx_text::{Depth, Moment, OutOfMemory};
 use std::alloc::Global;
 use std::collections::VecDeque;

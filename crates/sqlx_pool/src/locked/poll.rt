@@ -8,13 +8,14 @@ ghost use Rattle.sqlx_pool_core.specs.Logs.{moment_of};
 ghost use Rattle.sqlx_pool_core.specs.PollParts.{IfAccepted};
 ghost use Rattle.sqlx_pool_core.specs.PollTable.{phase_turn};
 ghost use Rattle.sqlx_pool_core.specs.PollSteps.{phase_for, judged, start_answer, start_marks, started, test_marks, after_test, connect_answer, connect_marks, after_connect, may_cancel, cancel_marks, cancelled};
-ghost use Rattle.sqlx_pool.specs.Answers.{test_answer_in, lends_tested, IfTestLends, lends_new, IfTryLends, IfTried, is_fatal, is_ended};
-ghost use Rattle.sqlx_pool.specs.Booked.{CountsIf};
+ghost use Rattle.sqlx_pool_parts.specs.Answers.{test_answer_in, lends_tested, IfTestLends, lends_new, IfTryLends, IfTried, is_fatal, is_ended};
+ghost use Rattle.sqlx_pool_parts.specs.Booked.{CountsIf};
 
 use super::Locked;
-use crate::answers::{judged_of, lends_new, lends_tested};
-use crate::{Held, Loans, Tally, record};
+use crate::{Held, Loans, Tally};
 use sqlx_pool_core::{AfterConnect, AfterTest, Mark, Start, Tried, Verdict};
+use sqlx_pool_parts::answers::{judged_of, lends_new, lends_tested};
+use sqlx_pool_parts::record;
 use sqlx_text::{Depth, Moment};
 use std::sync::ledger::Ledger;
 

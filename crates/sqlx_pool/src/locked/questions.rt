@@ -8,7 +8,7 @@ ghost use Rattle.sqlx_pool_core.specs.MaintenanceSteps.{close_state_of};
 ghost use Rattle.sqlx_pool_core.specs.Limits.{limits_of};
 ghost use Rattle.sqlx_pool_core.specs.Logs.{moment_of};
 ghost use Rattle.sqlx_pool_core.specs.Balance.{lents};
-ghost use Rattle.sqlx_pool.specs.State.{IsStanding, start_of, since_start};
+ghost use Rattle.sqlx_pool_parts.specs.State.{IsStanding, start_of, since_start};
 
 use super::Locked;
 use crate::{Loans, MarkLog, Tally};

@@ -10,9 +10,10 @@ ghost use Rattle.sqlx_pool_core.specs.Logs.{moment_of};
 ghost use Rattle.sqlx_pool_core.specs.ReturnSteps.{give_answer, give_marks, core_after_give, end_marks, detach_marks, leak_marks, released, leaked};
 
 use super::Locked;
-use crate::answers::is_held;
-use crate::{Held, Loans, record};
+use crate::{Held, Loans};
 use sqlx_pool_core::{Given, Lent, Mark};
+use sqlx_pool_parts::answers::is_held;
+use sqlx_pool_parts::record;
 use sqlx_text::{Depth, Moment};
 use std::sync::ledger::Ledger;
 

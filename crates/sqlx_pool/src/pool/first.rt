@@ -1,14 +1,14 @@
 //! A pool that opens its first connections before any client asks.
 
 ghost use Rattle.std.specs.Prelude.{◌≡◌, ◌≤◌, ℕ, IfErr, IfOk};
-ghost use Rattle.sqlx_pool.specs.Opened.{IsOpenRefusal};
+ghost use Rattle.sqlx_pool_parts.specs.Opened.{IsOpenRefusal};
 
 use super::PoolOf;
 use crate::Loans;
-use crate::checks::{self, close_all, close_by};
-use crate::filled::Filled;
 use sqlx_pool_core::Outside;
 use sqlx_pool_core::idle_check::Check;
+use sqlx_pool_parts::checks::{self, close_all, close_by};
+use sqlx_pool_parts::filled::Filled;
 use sqlx_text::{Depth, Error, Moment};
 use std::alloc::Global;
 use std::sync::Wait;

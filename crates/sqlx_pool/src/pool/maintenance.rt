@@ -3,16 +3,17 @@
 ghost use Rattle.std.specs.Prelude.{◌≡◌, ◌⊎◌, ℕ, ◌≤◌, true, false, None, length};
 ghost use Rattle.sqlx_log.specs.EventTable.{closed_at};
 ghost use Rattle.sqlx_pool_core.specs.Giving.{is_pass};
-ghost use Rattle.sqlx_pool.specs.Checks.{IfPassed};
-ghost use Rattle.sqlx_pool.specs.Opened.{IsCounted, TellsLevels};
+ghost use Rattle.sqlx_pool_parts.specs.Checks.{IfPassed};
+ghost use Rattle.sqlx_pool_parts.specs.Opened.{IsCounted, TellsLevels};
 ghost use Rattle.sqlx_pool.specs.Seen.{Saw};
 ghost use Rattle.sqlx_pool.specs.Upkeep.{EndsKeeping, IfUnfilled, IsFilled, to_reap};
 
 use super::PoolOf;
-use crate::filled::Filled;
-use crate::{Loans, Locked, checks};
+use crate::{Loans, Locked};
 use sqlx_pool_core::idle_check::{Check, Opening};
 use sqlx_pool_core::{Openings, Outside, PoolConnectionMetadata, PoolOptions};
+use sqlx_pool_parts::checks;
+use sqlx_pool_parts::filled::Filled;
 use sqlx_text::{Depth, Error, Moment};
 use std::alloc::Global;
 use std::sync::Wait;

@@ -3,17 +3,18 @@
 ghost use Rattle.std.specs.Prelude.{◌≡◌, ℕ, ◌+◌, ◌<◌, ◌≤◌, ◌⊎◌, false};
 ghost use Rattle.sqlx_pool_core.specs.Balance.{one_if};
 ghost use Rattle.sqlx_pool_core.specs.PollParts.{IfOpened, IfFailed, IsForGood};
-ghost use Rattle.sqlx_pool.specs.Answers.{IfTried, is_fatal};
-ghost use Rattle.sqlx_pool.specs.Booked.{CountsIf};
-ghost use Rattle.sqlx_pool.specs.Opened.{IfUnopened, IsCounted, TellsLevels};
+ghost use Rattle.sqlx_pool_parts.specs.Answers.{IfTried, is_fatal};
+ghost use Rattle.sqlx_pool_parts.specs.Booked.{CountsIf};
+ghost use Rattle.sqlx_pool_parts.specs.Opened.{IfUnopened, IsCounted, TellsLevels};
 ghost use Rattle.sqlx_pool.specs.Refusals.{IsEnd, IsPollRefusal};
 ghost use Rattle.sqlx_pool.specs.Stage.{has_lent, IfLent, IfEnded, wants_test, wants_connect};
 
 use super::PoolOf;
 use crate::stage::{Stage, after_test, after_try};
-use crate::{Held, Loans, Tally, checks};
+use crate::{Held, Loans, Tally};
 use sqlx_pool_core::idle_check::Opening;
 use sqlx_pool_core::{AfterConnect, Idle, Outside, Tried};
+use sqlx_pool_parts::checks;
 use sqlx_text::{Depth, Error, Moment};
 use std::alloc::Global;
 use std::sync::Wait;

@@ -4,7 +4,7 @@ use Rattle.sqlx_family_pool.proofs.StepLemmas.{in-logs, room-there, room-made, l
 use Rattle.sqlx_pool_core.specs.Logs.{moment_of}
 use Rattle.sqlx_pool_core.specs.PollSteps.{connect_marks}
 use Rattle.sqlx_pool_core.specs.Core.{ticket_of}
-use Rattle.sqlx_pool.specs.Answers.{is_ended}
+use Rattle.sqlx_pool_parts.specs.Answers.{is_ended}
 use Rattle.sqlx_pool_core.specs.Balance.{one_if}
 use Rattle.sqlx_pool.proofs.LeavesLemmas.{connect-leaves}
 use Rattle.sqlx_pool.proofs.StepLemmas.{connect-lends, connect-few, calm-answer}

@@ -3,7 +3,7 @@ use Rattle.sqlx_pool_core.specs.Logs.{moment_of}
 use Rattle.sqlx_pool_core.specs.Balance.{one_if}
 use Rattle.sqlx_pool_core.specs.PollSteps.{connect_marks}
 use Rattle.sqlx_pool_core.specs.Core.{ticket_of}
-use Rattle.sqlx_pool.specs.Answers.{is_ended}
+use Rattle.sqlx_pool_parts.specs.Answers.{is_ended}
 use Rattle.sqlx_pool.proofs.LeavesLemmas.{leaves-along, connect-leaves}
 use Rattle.sqlx_pool.proofs.StepLemmas.{stepped, connect-lends, connect-few, calm-answer}
 use Rattle.sqlx_pool.proofs.locked.Locked.finish_connect.Goals as goal

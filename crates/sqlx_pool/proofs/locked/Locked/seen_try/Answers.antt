@@ -1,7 +1,7 @@
 use Rattle.std.proofs.Common.{◌∙◌, sym, ap, is_some}
 use Rattle.std.proofs.lemmas.Result.{IfOk-weaker}
 use Rattle.sqlx_pool_core.specs.Answers.{lent_conn}
-use Rattle.sqlx_pool.specs.Answers.{lent_alone}
+use Rattle.sqlx_pool_parts.specs.Answers.{lent_alone}
 use Rattle.sqlx_pool.proofs.SeenLemmas.{saw-here, some-alone, some-told, try-refused}
 use Rattle.sqlx_pool.proofs.locked.Locked.seen_try.Goals as goal
 

@@ -1,0 +1,2 @@
+pub mod ReturnsLemmas
+pub mod CheckLemmas
