@@ -3,7 +3,7 @@ use Rattle.std.specs.Prelude.{ℕ, ◌++◌, List, [], ◌∷◌, codes}
 use Rattle.std.specs.Fmt.{decimal}
 use Rattle.sqlx_log.specs.declared.mark.Mark.{Mark}
 use Rattle.sqlx_log.specs.declared.mark.Mark.TheVariants.{Asked, Left, Taken, Reaped, Opened, Lent, Kept, Closed, Detached, Leaked, Ended, Shut}
-use Rattle.sqlx_pool_core.specs.Balance.{lents}
+use Rattle.sqlx_pool_lists.specs.Balance.{lents}
 
 -- the word of a mark, with the space before its numbers
 abbrev pub mark_word : Mark → List ℕ

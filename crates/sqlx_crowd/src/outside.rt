@@ -1,7 +1,7 @@
 //! The outside of a database's pool that owns its connector, so that it goes into a thread.
 
 ghost use Rattle.std.specs.Prelude.{◌≡◌, ◌+◌, ◌≤◌, ℕ};
-ghost use Rattle.sqlx_pool_core.specs.Calls as call;
+ghost use Rattle.sqlx_member.specs.Calls as call;
 
 use sqlx_pool_core::{Outside, PoolConnectionMetadata};
 use sqlx_text::{Depth, Error};

@@ -1,7 +1,7 @@
 //! A worker: it borrows connections of a pool, one after another, and returns each.
 
 ghost use Rattle.std.specs.Prelude.{◌≡◌, ℕ, ◌+◌, ◌<◌, ◌≤◌, IfOk, OnOk, true};
-ghost use Rattle.sqlx_pool_core.specs.Balance.{one_if};
+ghost use Rattle.sqlx_pool_lists.specs.Balance.{one_if};
 ghost use Rattle.sqlx_pool_parts.specs.Booked.{CountsIf};
 
 use sqlx_pool::{Clock, Loans, Pool, PoolConnection, Tally};

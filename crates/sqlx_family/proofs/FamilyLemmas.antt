@@ -5,14 +5,14 @@ use Rattle.std.proofs.lemmas.List.{length-set, length-map, length-append, get_or
 use Rattle.std.proofs.lemmas.List.Elements.{All-set, All-head, All-tail, All-weaker, All-get_or, All-append, All-cons, All-nil}
 use Rattle.std.proofs.lemmas.List.Sums.{sum_by-set, sum_by-cons, sum_by_push}
 use Rattle.sqlx_log.specs.declared.mark.Mark.{Mark}
-use Rattle.sqlx_pool_core.specs.declared.member.shared.Shared.{Shared}
-use Rattle.sqlx_pool_core.specs.declared.options.PoolOptions.{PoolOptions}
-use Rattle.sqlx_pool_core.specs.Core.{Core, core_of, free, taken, gone, asking, loan, resting}
-use Rattle.sqlx_pool_core.specs.StandsFor.{StandsIn}
-use Rattle.sqlx_pool_core.specs.Numbers.{Draws, Stays, under_way}
-use Rattle.sqlx_pool_core.specs.Sound.{IsSound}
-use Rattle.sqlx_pool_core.specs.MaintenanceSteps.{closed_from}
-use Rattle.sqlx_pool_core.specs.Shared.{told, shared_of, with_permits}
+use Rattle.sqlx_pool_lists.specs.declared.shared.Shared.{Shared}
+use Rattle.sqlx_pool_lists.specs.declared.options.PoolOptions.{PoolOptions}
+use Rattle.sqlx_pool_lists.specs.Core.{Core, core_of, free, taken, gone, asking, loan, resting}
+use Rattle.sqlx_pool_lists.specs.StandsFor.{StandsIn}
+use Rattle.sqlx_member.specs.Numbers.{Draws, Stays, under_way}
+use Rattle.sqlx_pool_lists.specs.Sound.{IsSound}
+use Rattle.sqlx_pool_lists.specs.MaintenanceSteps.{closed_from}
+use Rattle.sqlx_pool_lists.specs.Shared.{told, shared_of, with_permits}
 use Rattle.sqlx_family.specs.declared.family.FamilyPool.{FamilyPool}
 use Rattle.sqlx_family.specs.Pools.{Pools, pools_of, entry_of, new_pool, new_family}
 use Rattle.sqlx_family.specs.NoPool.{no_pool}

@@ -6,15 +6,15 @@ use Rattle.sqlx_log.specs.declared.mark.Mark.{Mark}
 use Rattle.sqlx_log.specs.PollTable.{turn_at_rest}
 use Rattle.sqlx_log.specs.declared.turn.Turn.{Turn}
 use Rattle.sqlx_log.specs.declared.turn.Turn.TheVariants.{NotHeld}
-use Rattle.sqlx_pool_core.specs.declared.ticket.Ticket.{Ticket}
-use Rattle.sqlx_pool_core.specs.declared.ticket.Phase.{Phase}
-use Rattle.sqlx_pool_core.specs.declared.ticket.Phase.TheVariants as phase
-use Rattle.sqlx_pool_core.specs.declared.steps.Start.{Start}
-use Rattle.sqlx_pool_core.specs.Core.{Core, is_out, free, ticket_of}
-use Rattle.sqlx_pool_core.specs.CoreTurn.{turn_of}
-use Rattle.sqlx_pool_core.specs.PollTable.{is_at_rest, backs_off_until}
-use Rattle.sqlx_pool_core.specs.PollSteps.{phase_for, start_answer, start_marks}
-use Rattle.sqlx_pool_core.specs.Shared.{told, with_permits, is_in_time}
+use Rattle.sqlx_pool_lists.specs.declared.ticket.Ticket.{Ticket}
+use Rattle.sqlx_pool_lists.specs.declared.ticket.Phase.{Phase}
+use Rattle.sqlx_pool_lists.specs.declared.ticket.Phase.TheVariants as phase
+use Rattle.sqlx_pool_lists.specs.declared.steps.Start.{Start}
+use Rattle.sqlx_pool_lists.specs.Core.{Core, is_out, free, ticket_of}
+use Rattle.sqlx_pool_lists.specs.CoreTurn.{turn_of}
+use Rattle.sqlx_pool_lists.specs.PollTable.{is_at_rest, backs_off_until}
+use Rattle.sqlx_pool_lists.specs.PollSteps.{phase_for, start_answer, start_marks}
+use Rattle.sqlx_pool_lists.specs.Shared.{told, with_permits, is_in_time}
 use Rattle.sqlx_family.specs.declared.family.FamilyPool.{FamilyPool}
 use Rattle.sqlx_family.specs.NoPool.{no_pool}
 use Rattle.sqlx_family.specs.Pools.{Pools, entry_of, counts_as_closed, pool_in}

@@ -2,7 +2,7 @@
 use Rattle.std.specs.Prelude.{ℕ, ◌<◌, ◌==◌, List, ◌++◌, if◌then◌else◌, length}
 use Rattle.sqlx_log.specs.declared.mark.Mark.{Mark}
 use Rattle.sqlx_log.specs.FairLog.{IsSafe}
-use Rattle.sqlx_pool_core.specs.StandsFor.{StandsIn}
+use Rattle.sqlx_pool_lists.specs.StandsFor.{StandsIn}
 use Rattle.sqlx_family.specs.Pools.{Pools, pool_in}
 
 -- Each pool stands for its own log, by its name.

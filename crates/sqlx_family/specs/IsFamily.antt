@@ -1,8 +1,8 @@
 -- What holds of every family.
 use Rattle.std.specs.Prelude.{◌≡◌, ℕ, ◌+◌, ◌-◌, ◌^◌, ◌<◌, ◌≤◌, length, sum_by, All}
-use Rattle.sqlx_pool_core.specs.declared.member.shared.Shared.{Shared}
-use Rattle.sqlx_pool_core.specs.Core.{taken}
-use Rattle.sqlx_pool_core.specs.Numbers.{under_way}
+use Rattle.sqlx_pool_lists.specs.declared.shared.Shared.{Shared}
+use Rattle.sqlx_pool_lists.specs.Core.{taken}
+use Rattle.sqlx_member.specs.Numbers.{under_way}
 use Rattle.sqlx_family.specs.declared.family.FamilyPool.{FamilyPool}
 use Rattle.sqlx_family.specs.Pools.{Pools, root_of}
 

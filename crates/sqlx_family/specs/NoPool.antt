@@ -1,8 +1,8 @@
 -- What stands where no pool was added.
 use Rattle.std.specs.Prelude.{true, false, [], None}
 use Rattle.log.specs.declared.level.LevelFilter.TheVariants as filter
-use Rattle.sqlx_pool_core.specs.declared.options.PoolOptions.{PoolOptions}
-use Rattle.sqlx_pool_core.specs.Core.{core_of}
+use Rattle.sqlx_pool_lists.specs.declared.options.PoolOptions.{PoolOptions}
+use Rattle.sqlx_pool_lists.specs.Core.{core_of}
 use Rattle.sqlx_family.specs.declared.family.FamilyPool.{FamilyPool}
 
 -- options that allow nothing

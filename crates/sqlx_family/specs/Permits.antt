@@ -1,7 +1,7 @@
 -- Permits that move between a root and its children.
 use Rattle.std.specs.Prelude.{ℕ, ◌+◌, ◌-◌, ◌<◌, ◌≤◌, Bool, true, false, slice_set}
-use Rattle.sqlx_pool_core.specs.Core.{Core, free}
-use Rattle.sqlx_pool_core.specs.Shared.{with_permits}
+use Rattle.sqlx_pool_lists.specs.Core.{Core, free}
+use Rattle.sqlx_pool_lists.specs.Shared.{with_permits}
 use Rattle.sqlx_family.specs.Pools.{Pools, entry_of, with_pool}
 
 -- how many permits the pool of this name owns

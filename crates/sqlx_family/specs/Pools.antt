@@ -1,9 +1,9 @@
 -- The value that contracts see of a family: its pools by their names, 0 being the root's.
 use Rattle.std.specs.Prelude.{ℕ, ◌||◌, Bool, false, List, [], ◌∷◌, ◌++◌, slice_index_or, slice_set}
-use Rattle.sqlx_pool_core.specs.declared.member.shared.Shared.{Shared}
-use Rattle.sqlx_pool_core.specs.declared.options.PoolOptions.{PoolOptions}
-use Rattle.sqlx_pool_core.specs.Core.{Core, core_of}
-use Rattle.sqlx_pool_core.specs.Shared.{told, shared_of}
+use Rattle.sqlx_pool_lists.specs.declared.shared.Shared.{Shared}
+use Rattle.sqlx_pool_lists.specs.declared.options.PoolOptions.{PoolOptions}
+use Rattle.sqlx_pool_lists.specs.Core.{Core, core_of}
+use Rattle.sqlx_pool_lists.specs.Shared.{told, shared_of}
 use Rattle.sqlx_family.specs.declared.family.FamilyPool.{FamilyPool}
 use Rattle.sqlx_family.specs.NoPool.{no_pool}
 

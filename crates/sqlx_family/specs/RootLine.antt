@@ -1,8 +1,8 @@
 -- The root's line: the waiting tickets of the root, and those of each child that owns fewer permits than its maximum, in the order of their numbers.
 use Rattle.std.specs.Prelude.{ℕ, ◌+◌, ◌||◌, ◌&&◌, ◌==◌, Bool, not, nat_lt, Option, Some, None, if◌then◌else◌, sum_by, drop}
-use Rattle.sqlx_pool_core.specs.Core.{Core, waiting, free}
-use Rattle.sqlx_pool_core.specs.CoreTurn.{is_first_in_line}
-use Rattle.sqlx_pool_core.specs.Shared.{waiting_before, wants_permits, waits_in_time}
+use Rattle.sqlx_pool_lists.specs.Core.{Core, waiting, free}
+use Rattle.sqlx_pool_lists.specs.CoreTurn.{is_first_in_line}
+use Rattle.sqlx_pool_lists.specs.Shared.{waiting_before, wants_permits, waits_in_time}
 use Rattle.sqlx_family.specs.declared.family.FamilyPool.{FamilyPool}
 use Rattle.sqlx_family.specs.Permits.{granted}
 use Rattle.sqlx_family.specs.Pools.{Pools, entry_of, root_of, counts_as_closed}

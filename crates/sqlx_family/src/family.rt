@@ -2,7 +2,7 @@
 
 ghost use Rattle.std.specs.Prelude.{◌≡◌, ℕ, ◌+◌, ◌-◌, ◌<◌, ◌≤◌, ◌^◌, ◌||◌, max, true, false, Option, Some, None, length, IfOk, OnOk, OnErr, IfErr, Err, ◌↔◌, ◌⊎◌};
 ghost use Rattle.sqlx_text.specs.declared.Error.{Error};
-ghost use Rattle.sqlx_pool_core.specs.Core.{free};
+ghost use Rattle.sqlx_pool_lists.specs.Core.{free};
 ghost use Rattle.sqlx_family.specs.Pools.{entry_of, root_of, counts_as_closed, new_family, with_child};
 ghost use Rattle.sqlx_family.specs.IsFamily.{IsFamily};
 ghost use Rattle.sqlx_family.specs.RootLine.{ahead, lined_ahead, root_admits, has_permit_left, passes_in};
@@ -16,9 +16,8 @@ mod give;
 mod maintenance;
 mod poll;
 
-use sqlx_pool_core::PoolOptions;
-use sqlx_pool_core::member::Member;
-use sqlx_pool_core::member::shared::Shared;
+use sqlx_member::{Member, Shared};
+use sqlx_pool_lists::PoolOptions;
 use sqlx_text::{Error, Moment, OutOfMemory};
 use std::alloc::Global;
 use std::marker::Model;

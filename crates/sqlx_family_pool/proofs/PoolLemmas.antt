@@ -8,12 +8,12 @@ use Rattle.std.proofs.lemmas.List.Elements.{All-nil}
 use Rattle.std.proofs.lemmas.List.Sums.{sum_by_push}
 use Rattle.sqlx_log.specs.declared.mark.Mark.{Mark}
 use Rattle.sqlx_log.specs.FairLog.{IsSafe}
-use Rattle.sqlx_pool_core.specs.declared.member.shared.Shared.{Shared}
-use Rattle.sqlx_pool_core.specs.declared.options.PoolOptions.{PoolOptions}
-use Rattle.sqlx_pool_core.specs.Core.{Core}
-use Rattle.sqlx_pool_core.specs.Balance.{Balance, lents, marks_due}
-use Rattle.sqlx_pool_core.specs.StandsFor.{StandsIn}
-use Rattle.sqlx_pool_core.specs.Shared.{told, shared_of}
+use Rattle.sqlx_pool_lists.specs.declared.shared.Shared.{Shared}
+use Rattle.sqlx_pool_lists.specs.declared.options.PoolOptions.{PoolOptions}
+use Rattle.sqlx_pool_lists.specs.Core.{Core}
+use Rattle.sqlx_pool_lists.specs.Balance.{Balance, lents, marks_due}
+use Rattle.sqlx_pool_lists.specs.StandsFor.{StandsIn}
+use Rattle.sqlx_pool_lists.specs.Shared.{told, shared_of}
 use Rattle.sqlx_family.specs.declared.family.FamilyPool.{FamilyPool}
 use Rattle.sqlx_family.specs.NoPool.{no_pool}
 use Rattle.sqlx_family.specs.Pools.{Pools, entry_of, root_of, counts_as_closed, pool_in, with_pool, new_pool, new_family, with_child}

@@ -2,14 +2,14 @@
 -- the name that it got, and a pool that nobody added has no ticket.
 use Rattle.std.proofs.Common.{◌≡◌, ◌∙◌, ◌⊎◌, ◌^◌, ℕ, ◌≤◌, ◌&&◌, Bool, true, false, not, min, nat_lt, inl, inr, Option, Some, is_some, Result, Ok, Err, IfOk, IfErr, OnOk, length, sum_by, ap, refl, subst, sym, arith}
 use Rattle.sqlx_text.specs.declared.error.Error.{Error}
-use Rattle.sqlx_pool_core.specs.Core.{size}
+use Rattle.sqlx_pool_lists.specs.Core.{size}
 use Rattle.std.proofs.lemmas.Bool.Decides.{leb_tells}
 use Rattle.std.proofs.lemmas.List.{get_or_past, get_or_push}
 use Rattle.std.proofs.lemmas.List.Sums.{get_or-le-sum_by}
-use Rattle.sqlx_pool_core.specs.declared.options.PoolOptions.{PoolOptions}
+use Rattle.sqlx_pool_lists.specs.declared.options.PoolOptions.{PoolOptions}
 use Rattle.sqlx_family.specs.NoPool.{no_pool}
-use Rattle.sqlx_pool_core.specs.PollSteps.{phase_for, may_cancel}
-use Rattle.sqlx_pool_core.specs.Shared.{told}
+use Rattle.sqlx_pool_lists.specs.PollSteps.{phase_for, may_cancel}
+use Rattle.sqlx_pool_lists.specs.Shared.{told}
 use Rattle.sqlx_family.specs.Pools.{Pools, pool_in, counts_as_closed, entry_of, new_pool, with_child}
 use Rattle.sqlx_family.specs.Permits.{owned_by}
 use Rattle.sqlx_family.specs.IsFamily.{permits_of}

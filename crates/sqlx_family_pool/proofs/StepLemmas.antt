@@ -10,18 +10,18 @@ use Rattle.sqlx_log.specs.declared.mark.Mark.TheVariants.{Opened, Kept}
 use Rattle.sqlx_log.specs.FairLog.{IsSafe}
 use Rattle.sqlx_log.proofs.Counting.{count-append}
 use Rattle.sqlx_log.proofs.FairLaws.{safe-append}
-use Rattle.sqlx_pool_core.specs.declared.member.shared.Shared.{Shared}
-use Rattle.sqlx_pool_core.specs.declared.options.PoolOptions.{PoolOptions}
-use Rattle.sqlx_pool_core.specs.Core.{Core}
-use Rattle.sqlx_pool_core.specs.StandsFor.{StandsIn}
+use Rattle.sqlx_pool_lists.specs.declared.shared.Shared.{Shared}
+use Rattle.sqlx_pool_lists.specs.declared.options.PoolOptions.{PoolOptions}
+use Rattle.sqlx_pool_lists.specs.Core.{Core}
+use Rattle.sqlx_pool_lists.specs.StandsFor.{StandsIn}
 use Rattle.sqlx_text.specs.declared.Moment.{Moment}
-use Rattle.sqlx_pool_core.specs.declared.steps.Idle.{Idle}
-use Rattle.sqlx_pool_core.specs.declared.steps.Verdict.{Verdict}
-use Rattle.sqlx_pool_core.specs.declared.steps.Verdict.TheVariants as verdict
-use Rattle.sqlx_pool_core.specs.Balance.{Balance, is_lent, lents, ends, marks_due, one_if, place_room}
-use Rattle.sqlx_pool_core.specs.PollSteps.{test_answer, after_refusal}
+use Rattle.sqlx_pool_lists.specs.declared.steps.Idle.{Idle}
+use Rattle.sqlx_pool_lists.specs.declared.steps.Verdict.{Verdict}
+use Rattle.sqlx_pool_lists.specs.declared.steps.Verdict.TheVariants as verdict
+use Rattle.sqlx_pool_lists.specs.Balance.{Balance, is_lent, lents, ends, marks_due, one_if, place_room}
+use Rattle.sqlx_pool_lists.specs.PollSteps.{test_answer, after_refusal}
 use Rattle.sqlx_pool_core.specs.PollParts.{IfAccepted}
-use Rattle.sqlx_pool_core.specs.MaintenanceSteps.{done_marks}
+use Rattle.sqlx_pool_lists.specs.MaintenanceSteps.{done_marks}
 use Rattle.sqlx_pool_parts.specs.Answers.{IfTestLends}
 use Rattle.sqlx_family.specs.declared.family.FamilyPool.{FamilyPool}
 use Rattle.sqlx_family.specs.NoPool.{no_pool}

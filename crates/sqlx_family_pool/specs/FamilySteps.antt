@@ -1,15 +1,15 @@
 -- What some steps come to in a family.
 use Rattle.std.specs.Prelude.{ℕ, ◌+◌, Bool, true, false, Option, Some, None, List}
 use Rattle.sqlx_log.specs.declared.mark.Mark.{Mark}
-use Rattle.sqlx_pool_core.specs.declared.steps.Given.{Given}
-use Rattle.sqlx_pool_core.specs.declared.steps.Lent.{Lent}
-use Rattle.sqlx_pool_core.specs.declared.steps.Start.{Start}
-use Rattle.sqlx_pool_core.specs.Core.{Core, ticket_of, loan_of}
-use Rattle.sqlx_pool_core.specs.CoreTurn.{turn_of}
-use Rattle.sqlx_pool_core.specs.Edits.{at_moment, asked}
-use Rattle.sqlx_pool_core.specs.PollSteps.{start_answer, started, try_lent, after_try}
-use Rattle.sqlx_pool_core.specs.MaintenanceSteps.{done}
-use Rattle.sqlx_pool_core.specs.ReturnSteps.{core_after_give}
+use Rattle.sqlx_pool_lists.specs.declared.steps.Given.{Given}
+use Rattle.sqlx_pool_lists.specs.declared.steps.Lent.{Lent}
+use Rattle.sqlx_pool_lists.specs.declared.steps.Start.{Start}
+use Rattle.sqlx_pool_lists.specs.Core.{Core, ticket_of, loan_of}
+use Rattle.sqlx_pool_lists.specs.CoreTurn.{turn_of}
+use Rattle.sqlx_pool_lists.specs.Edits.{at_moment, asked}
+use Rattle.sqlx_pool_lists.specs.PollSteps.{start_answer, started, try_lent, after_try}
+use Rattle.sqlx_pool_lists.specs.MaintenanceSteps.{done}
+use Rattle.sqlx_member.specs.ReturnSteps.{core_after_give}
 use Rattle.sqlx_family.specs.Pools.{Pools, pool_in, with_pool}
 use Rattle.sqlx_family.specs.RootLine.{is_entitled, granting, passes_in}
 use Rattle.sqlx_family.specs.Permits.{stepped}

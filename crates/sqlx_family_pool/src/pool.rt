@@ -3,7 +3,7 @@
 ghost use Rattle.std.specs.Prelude.{◌≡◌, ℕ, ◌+◌, ◌-◌, ◌^◌, ◌<◌, ◌≤◌, ◌⊎◌, [], Err, is_some, length, IfOk, IfErr, IfSome, OnErr};
 ghost use Rattle.sqlx_text.specs.declared.error.Error.{Error};
 ghost use Rattle.sqlx_log.specs.FairLog.{IsSafe};
-ghost use Rattle.sqlx_pool_core.specs.Core.{size};
+ghost use Rattle.sqlx_pool_lists.specs.Core.{size};
 ghost use Rattle.sqlx_family.specs.Pools.{entry_of, pool_in, counts_as_closed, new_pool};
 ghost use Rattle.sqlx_family.specs.Permits.{owned_by};
 ghost use Rattle.sqlx_pool_parts.specs.Booked.{CountsIf};

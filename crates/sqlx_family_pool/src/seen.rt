@@ -3,8 +3,8 @@
 ghost use Rattle.std.specs.Prelude.{◌≡◌, ℕ, ◌-◌, ◌^◌, ◌<◌, ◌≤◌, ◌⊎◌, [], Err, true, is_some, IfSome, IfOk, IfErr, OnErr, length};
 ghost use Rattle.sqlx_text.specs.declared.error.Error.{Error};
 ghost use Rattle.sqlx_log.specs.FairLog.{IsSafe};
-ghost use Rattle.sqlx_pool_core.specs.Core.{size};
-ghost use Rattle.sqlx_pool_core.specs.PollSteps.{phase_for, may_cancel};
+ghost use Rattle.sqlx_pool_lists.specs.Core.{size};
+ghost use Rattle.sqlx_pool_lists.specs.PollSteps.{phase_for, may_cancel};
 ghost use Rattle.sqlx_family.specs.Pools.{entry_of, pool_in, counts_as_closed, new_pool};
 ghost use Rattle.sqlx_family.specs.Permits.{owned_by};
 ghost use Rattle.sqlx_family_pool.specs.FamilySteps.{try_lent_in};

@@ -1,9 +1,9 @@
 //! The outside of the pool on which a script is played: the database in memory, and the letters of the present line,
 //! which are the answers of connects, pings and hooks.
 ghost use Rattle.std.specs.Prelude.{◌≡◌, ℕ, ◌≤◌, ◌-◌, ◌==◌, true, false, Some, None};
-ghost use Rattle.sqlx_pool_core.specs.Calls as call;
-ghost use Rattle.sqlx_pool_core.specs.Calls.{IsCounted};
-ghost use Rattle.sqlx_pool_core.specs.Outside.{HasRisen, declines, is_transient, says_yes};
+ghost use Rattle.sqlx_member.specs.Calls as call;
+ghost use Rattle.sqlx_member.specs.Calls.{IsCounted};
+ghost use Rattle.sqlx_member.specs.Outside.{HasRisen, declines, is_transient, says_yes};
 ghost use Rattle.sqlx_script.specs.Built.{accepts, sets_up};
 ghost use Rattle.mem_store.specs.Store.{Link};
 ghost use Rattle.sqlx_play.specs.outside.ScriptCalls.{Does, does-facts};

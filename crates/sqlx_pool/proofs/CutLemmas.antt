@@ -9,14 +9,14 @@ use Rattle.sqlx_log.specs.FairLog.{IsFair}
 use Rattle.sqlx_log.specs.Cut.{cut_of}
 use Rattle.sqlx_log.proofs.FairLaws.{says-the-same}
 use Rattle.sqlx_log.proofs.CutLemmas.{view-cut, all-needed, fewer-needed, shorter-needed}
-use Rattle.sqlx_pool_core.specs.declared.steps.Idle.{Idle}
-use Rattle.sqlx_pool_core.specs.declared.ticket.Ticket.{Ticket}
-use Rattle.sqlx_pool_core.specs.declared.ticket.OwnedConn.{OwnedConn}
-use Rattle.sqlx_pool_core.specs.declared.ticket.Phase.{Phase}
-use Rattle.sqlx_pool_core.specs.declared.ticket.Phase.TheVariants as phase
-use Rattle.sqlx_pool_core.specs.Core.{Core}
-use Rattle.sqlx_pool_core.specs.StandsFor.{StandsFor, IsTestedBorn}
-use Rattle.sqlx_pool_core.specs.Balance.{is_lent, lents}
+use Rattle.sqlx_pool_lists.specs.declared.steps.Idle.{Idle}
+use Rattle.sqlx_pool_lists.specs.declared.ticket.Ticket.{Ticket}
+use Rattle.sqlx_pool_lists.specs.declared.ticket.OwnedConn.{OwnedConn}
+use Rattle.sqlx_pool_lists.specs.declared.ticket.Phase.{Phase}
+use Rattle.sqlx_pool_lists.specs.declared.ticket.Phase.TheVariants as phase
+use Rattle.sqlx_pool_lists.specs.Core.{Core}
+use Rattle.sqlx_pool_lists.specs.StandsFor.{StandsFor, IsTestedBorn}
+use Rattle.sqlx_pool_lists.specs.Balance.{is_lent, lents}
 use Rattle.sqlx_pool_parts.specs.State.{PoolState, state_of, IsKept}
 
 -- a core stands for its log where that is cut

@@ -1,6 +1,6 @@
 -- How far a poll has come, and why its ticket ended, told of a later moment.
 use Rattle.std.proofs.Common.{◌≡◌, ◌⊎◌, ℕ, ◌+◌, ◌≤◌, Result, Ok, Err, IfErr, inl, inr, refl, ap, arith}
-use Rattle.sqlx_pool_core.specs.Balance.{one_if}
+use Rattle.sqlx_pool_lists.specs.Balance.{one_if}
 use Rattle.sqlx_text.specs.declared.error.Error.{Error}
 use Rattle.sqlx_text.specs.declared.error.Error.TheVariants as error
 use Rattle.sqlx_pool_core.specs.PollParts.{IsForGood}

@@ -1,26 +1,26 @@
 -- What each step of the core leaves: its options, and idle connections without an open level.
 use Rattle.std.proofs.Common.{◌≡◌, ℕ, Bool, true, false, cond, not, ◌&&◌, List, [], ◌∷◌, Option, Some, None, IfSome, refl, sym, subst}
 use Rattle.std.proofs.lemmas.List.Elements.{All-nil, All-cons, All-head, All-append, All-drop}
-use Rattle.sqlx_pool_core.specs.declared.steps.Idle.{Idle}
-use Rattle.sqlx_pool_core.specs.declared.steps.Start.{Start}
-use Rattle.sqlx_pool_core.specs.declared.steps.Start.TheVariants as start
-use Rattle.sqlx_pool_core.specs.declared.steps.AfterTest.{AfterTest}
-use Rattle.sqlx_pool_core.specs.declared.steps.AfterTest.TheVariants as tested
-use Rattle.sqlx_pool_core.specs.declared.steps.AfterConnect.{AfterConnect}
-use Rattle.sqlx_pool_core.specs.declared.steps.AfterConnect.TheVariants as connected
-use Rattle.sqlx_pool_core.specs.declared.options.PoolOptions.{PoolOptions}
-use Rattle.sqlx_pool_core.specs.declared.ticket.OwnedConn.{OwnedConn}
-use Rattle.sqlx_pool_core.specs.declared.steps.Lent.{Lent}
-use Rattle.sqlx_pool_core.specs.declared.steps.Given.{Given}
-use Rattle.sqlx_pool_core.specs.declared.steps.Given.TheVariants as given
+use Rattle.sqlx_pool_lists.specs.declared.steps.Idle.{Idle}
+use Rattle.sqlx_pool_lists.specs.declared.steps.Start.{Start}
+use Rattle.sqlx_pool_lists.specs.declared.steps.Start.TheVariants as start
+use Rattle.sqlx_pool_lists.specs.declared.steps.AfterTest.{AfterTest}
+use Rattle.sqlx_pool_lists.specs.declared.steps.AfterTest.TheVariants as tested
+use Rattle.sqlx_pool_lists.specs.declared.steps.AfterConnect.{AfterConnect}
+use Rattle.sqlx_pool_lists.specs.declared.steps.AfterConnect.TheVariants as connected
+use Rattle.sqlx_pool_lists.specs.declared.options.PoolOptions.{PoolOptions}
+use Rattle.sqlx_pool_lists.specs.declared.ticket.OwnedConn.{OwnedConn}
+use Rattle.sqlx_pool_lists.specs.declared.steps.Lent.{Lent}
+use Rattle.sqlx_pool_lists.specs.declared.steps.Given.{Given}
+use Rattle.sqlx_pool_lists.specs.declared.steps.Given.TheVariants as given
 use Rattle.sqlx_log.proofs.ListFacts.{All-filter_if}
 use Rattle.sqlx_log.specs.EventTable.{closes}
-use Rattle.sqlx_pool_core.specs.Limits.{limits_of}
-use Rattle.sqlx_pool_core.specs.Core.{Core}
-use Rattle.sqlx_pool_core.specs.Edits.{is_another_idle, at_moment, asked}
-use Rattle.sqlx_pool_core.specs.MaintenanceSteps.{placed, reaped, done, done_at, placed_back, closed_from}
-use Rattle.sqlx_pool_core.specs.ReturnSteps.{give_answer, core_after_give, released, leaked}
-use Rattle.sqlx_pool_core.specs.PollSteps.{started, after_test, after_connect, cancelled, after_try, after_serve, try_lent, lent_since}
+use Rattle.sqlx_pool_lists.specs.Limits.{limits_of}
+use Rattle.sqlx_pool_lists.specs.Core.{Core}
+use Rattle.sqlx_pool_lists.specs.Edits.{is_another_idle, at_moment, asked}
+use Rattle.sqlx_pool_lists.specs.MaintenanceSteps.{placed, reaped, done, done_at, placed_back, closed_from}
+use Rattle.sqlx_member.specs.ReturnSteps.{give_answer, core_after_give, released, leaked}
+use Rattle.sqlx_pool_lists.specs.PollSteps.{started, after_test, after_connect, cancelled, after_try, after_serve, try_lent, lent_since}
 use Rattle.sqlx_pool_parts.specs.State.{RestFlat}
 
 -- The options are as they were, and idle connections still have no level open.

@@ -1,7 +1,7 @@
 -- A refusal that was counted since a later moment was counted since an earlier one.
 use Rattle.std.proofs.Common.{ℕ, ◌≡◌, ◌==◌, ◌≤◌, false, inl, inr, arith}
 use Rattle.sqlx_text.specs.declared.error.Error.{Error}
-use Rattle.sqlx_pool_core.specs.Outside.{HasRisen}
+use Rattle.sqlx_member.specs.Outside.{HasRisen}
 use Rattle.sqlx_pool_parts.specs.Opened.{IsOpenRefusal, TellsLevels}
 use Rattle.sqlx_pool.specs.Refusals.{IsPollRefusal}
 

@@ -7,8 +7,8 @@ use Rattle.sqlx_text.specs.declared.error.Error.TheVariants as error
 use Rattle.sqlx_log.specs.EventTable.{free_at, may_open, size_at}
 use Rattle.sqlx_log.specs.Counts.{waiting_in}
 use Rattle.sqlx_log.specs.Marks.{is_shut, next_conn, tickets_of}
-use Rattle.sqlx_pool_core.specs.Limits.{limits_of}
-use Rattle.sqlx_pool_core.specs.declared.steps.Lent.{Lent}
+use Rattle.sqlx_pool_lists.specs.Limits.{limits_of}
+use Rattle.sqlx_pool_lists.specs.declared.steps.Lent.{Lent}
 use Rattle.sqlx_pool_parts.specs.Answers.{lent_alone}
 use Rattle.sqlx_pool_parts.specs.declared.mark_log.MarkLog.{MarkLog}
 use Rattle.sqlx_pool_parts.specs.MarkLog.{IsCopyOf}

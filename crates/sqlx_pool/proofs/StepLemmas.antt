@@ -2,36 +2,36 @@
 use Rattle.std.proofs.Common.{map, ◌≡◌, ℕ, ◌+◌, ◌^◌, ◌≤◌, ◌⊎◌, inl, inr, Bool, true, false, not, ◌&&◌, cond, List, [], ◌∷◌, ◌++◌, length, take, drop, Option, Some, None, is_some, refl, sym, ap, ◌∙◌, subst, length-append, arith}
 use Rattle.sqlx_log.specs.declared.mark.Mark.{Mark}
 use Rattle.sqlx_log.specs.declared.mark.Mark.TheVariants.{Ended, Closed, Detached, Leaked, Opened, Kept, Shut}
-use Rattle.sqlx_pool_core.specs.declared.steps.Given.{Given}
-use Rattle.sqlx_pool_core.specs.declared.steps.Given.TheVariants as given
+use Rattle.sqlx_pool_lists.specs.declared.steps.Given.{Given}
+use Rattle.sqlx_pool_lists.specs.declared.steps.Given.TheVariants as given
 use Rattle.sqlx_pool_core.specs.Answers.{is_held, is_kept}
-use Rattle.sqlx_pool_core.specs.declared.steps.Idle.{Idle}
-use Rattle.sqlx_pool_core.specs.MaintenanceSteps.{done_marks, reap_marks, closed_idle, close_marks}
-use Rattle.sqlx_pool_core.specs.ReturnSteps.{give_answer, give_marks, end_marks, detach_marks, leak_marks}
+use Rattle.sqlx_pool_lists.specs.declared.steps.Idle.{Idle}
+use Rattle.sqlx_pool_lists.specs.MaintenanceSteps.{done_marks, reap_marks, closed_idle, close_marks}
+use Rattle.sqlx_member.specs.ReturnSteps.{give_answer, give_marks, end_marks, detach_marks, leak_marks}
 use Rattle.std.proofs.lemmas.List.{take-append-drop, take-append-le, drop-append-le}
 use Rattle.std.proofs.lemmas.List.Elements.{All-nil}
 use Rattle.sqlx_log.proofs.Counting.{count-append, count-cons}
 use Rattle.sqlx_log.proofs.FairLaws.{fair-append}
-use Rattle.sqlx_pool_core.specs.declared.steps.AfterTest.{AfterTest}
-use Rattle.sqlx_pool_core.specs.declared.steps.AfterTest.TheVariants as tested
-use Rattle.sqlx_pool_core.specs.declared.steps.AfterConnect.{AfterConnect}
-use Rattle.sqlx_pool_core.specs.declared.steps.AfterConnect.TheVariants as connected
-use Rattle.sqlx_pool_core.specs.declared.ticket.Ticket.{Ticket}
-use Rattle.sqlx_pool_core.specs.declared.ticket.OwnedConn.{OwnedConn}
-use Rattle.sqlx_pool_core.specs.declared.steps.Lent.{Lent}
-use Rattle.sqlx_pool_core.specs.declared.steps.Tried.{Tried}
-use Rattle.sqlx_pool_core.specs.declared.steps.Tried.TheVariants as tried
-use Rattle.sqlx_pool_core.specs.declared.steps.Start.{Start}
-use Rattle.sqlx_pool_core.specs.declared.steps.Start.TheVariants as start
-use Rattle.sqlx_pool_core.specs.declared.ticket.Phase.{Phase}
-use Rattle.sqlx_pool_core.specs.declared.ticket.Phase.TheVariants as phase
+use Rattle.sqlx_pool_lists.specs.declared.steps.AfterTest.{AfterTest}
+use Rattle.sqlx_pool_lists.specs.declared.steps.AfterTest.TheVariants as tested
+use Rattle.sqlx_pool_lists.specs.declared.steps.AfterConnect.{AfterConnect}
+use Rattle.sqlx_pool_lists.specs.declared.steps.AfterConnect.TheVariants as connected
+use Rattle.sqlx_pool_lists.specs.declared.ticket.Ticket.{Ticket}
+use Rattle.sqlx_pool_lists.specs.declared.ticket.OwnedConn.{OwnedConn}
+use Rattle.sqlx_pool_lists.specs.declared.steps.Lent.{Lent}
+use Rattle.sqlx_pool_lists.specs.declared.steps.Tried.{Tried}
+use Rattle.sqlx_pool_lists.specs.declared.steps.Tried.TheVariants as tried
+use Rattle.sqlx_pool_lists.specs.declared.steps.Start.{Start}
+use Rattle.sqlx_pool_lists.specs.declared.steps.Start.TheVariants as start
+use Rattle.sqlx_pool_lists.specs.declared.ticket.Phase.{Phase}
+use Rattle.sqlx_pool_lists.specs.declared.ticket.Phase.TheVariants as phase
 use Rattle.sqlx_log.specs.FairLog.{IsFair}
-use Rattle.sqlx_pool_core.specs.declared.options.PoolOptions.{PoolOptions}
-use Rattle.sqlx_pool_core.specs.Core.{Core, asking, loan, resting}
-use Rattle.sqlx_pool_core.specs.StandsFor.{StandsFor}
-use Rattle.sqlx_pool_core.specs.Logs.{Logs}
-use Rattle.sqlx_pool_core.specs.Balance.{Balance, is_lent, lents, ends, marks_due, one_if, given_back}
-use Rattle.sqlx_pool_core.specs.PollSteps.{is_in_line, start_marks, test_marks, connect_marks, cancel_marks, try_answer, try_answer_at, connect_answer}
+use Rattle.sqlx_pool_lists.specs.declared.options.PoolOptions.{PoolOptions}
+use Rattle.sqlx_pool_lists.specs.Core.{Core, asking, loan, resting}
+use Rattle.sqlx_pool_lists.specs.StandsFor.{StandsFor}
+use Rattle.sqlx_member.specs.Logs.{Logs}
+use Rattle.sqlx_pool_lists.specs.Balance.{Balance, is_lent, lents, ends, marks_due, one_if, given_back}
+use Rattle.sqlx_pool_lists.specs.PollSteps.{is_in_line, start_marks, test_marks, connect_marks, cancel_marks, try_answer, try_answer_at, connect_answer}
 use Rattle.sqlx_pool_parts.specs.Answers.{lends_tested, lends_new, is_fatal, is_ended}
 use Rattle.sqlx_pool_parts.specs.Booked.{Booked}
 use Rattle.sqlx_pool_parts.specs.State.{PoolState, state_of, no_start, RestFlat, IsKept}

@@ -1,8 +1,8 @@
 -- What becomes of a place for the minimum, held or not.
 use Rattle.std.specs.Prelude.{ℕ, Bool, true, false, not, ◌==◌, List, [], Option}
 use Rattle.sqlx_log.specs.declared.mark.Mark.{Mark}
-use Rattle.sqlx_pool_core.specs.Core.{Core}
-use Rattle.sqlx_pool_core.specs.MaintenanceSteps.{done, done_marks, handed_back}
+use Rattle.sqlx_pool_lists.specs.Core.{Core}
+use Rattle.sqlx_pool_lists.specs.MaintenanceSteps.{done, done_marks, handed_back}
 
 -- a place is held
 abbrev pub holds_place : {C : Type 0} → Core C → Bool

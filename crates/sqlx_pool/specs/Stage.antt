@@ -1,7 +1,7 @@
 -- How far a poll has come.
 use Rattle.std.specs.Prelude.{⊤, Bool, true, false}
 use Rattle.sqlx_text.specs.declared.error.Error.{Error}
-use Rattle.sqlx_pool_core.specs.declared.steps.Lent.{Lent}
+use Rattle.sqlx_pool_lists.specs.declared.steps.Lent.{Lent}
 use Rattle.sqlx_pool.specs.declared.stage.Stage.{Stage}
 use Rattle.sqlx_pool.specs.declared.stage.Stage.TheVariants as stage
 

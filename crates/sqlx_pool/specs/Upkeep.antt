@@ -2,10 +2,10 @@
 use Rattle.std.specs.Prelude.{◌≡◌, ◌⊎◌, ℕ, ⊤, Bool, true, false, Option}
 use Rattle.sqlx_text.specs.declared.Moment.{Moment}
 use Rattle.sqlx_log.specs.EventTable.{reaped_at, has_place_at}
-use Rattle.sqlx_pool_core.specs.declared.options.PoolOptions.{PoolOptions}
-use Rattle.sqlx_pool_core.specs.declared.steps.Openings.{Openings}
-use Rattle.sqlx_pool_core.specs.Limits.{limits_of}
-use Rattle.sqlx_pool_core.specs.Logs.{moment_of}
+use Rattle.sqlx_pool_lists.specs.declared.options.PoolOptions.{PoolOptions}
+use Rattle.sqlx_pool_lists.specs.declared.steps.Openings.{Openings}
+use Rattle.sqlx_pool_lists.specs.Limits.{limits_of}
+use Rattle.sqlx_member.specs.Logs.{moment_of}
 use Rattle.sqlx_pool.specs.Places.{holds_place}
 use Rattle.sqlx_pool_parts.specs.State.{PoolState}
 use Rattle.sqlx_pool_parts.specs.declared.filled.Filled.{Filled}

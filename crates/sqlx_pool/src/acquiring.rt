@@ -1,8 +1,8 @@
 //! A connection that was asked for and isn't there yet.
 
 ghost use Rattle.std.specs.Prelude.{◌≡◌, ℕ, ◌+◌, ◌<◌, ◌≤◌, false};
-ghost use Rattle.sqlx_pool_core.specs.Balance.{one_if};
-ghost use Rattle.sqlx_pool_core.specs.PollSteps.{phase_for, may_cancel};
+ghost use Rattle.sqlx_pool_lists.specs.Balance.{one_if};
+ghost use Rattle.sqlx_pool_lists.specs.PollSteps.{phase_for, may_cancel};
 ghost use Rattle.sqlx_pool_parts.specs.Booked.{CountsIf};
 ghost use Rattle.sqlx_pool.specs.Polling.{is_ready, IfReady, IfFailed, IfPending};
 ghost use Rattle.sqlx_pool.specs.Refusals.{IsEnd, IsPollRefusal};

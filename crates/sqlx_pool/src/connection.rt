@@ -5,7 +5,7 @@ ghost use Rattle.sqlx_text.specs.declared.error.Error.{Error};
 ghost use Rattle.sqlx_pool.specs.Returned.{was_kept};
 
 use crate::{Held, Loans, PoolOf};
-use sqlx_pool_core::idle_check::Check;
+use sqlx_member::idle_check::Check;
 use sqlx_pool_core::{Given, Lent, Openings, Outside};
 use sqlx_pool_parts::checks::{close_by, passes};
 use sqlx_text::{Depth, Error, Moment};

@@ -1,7 +1,7 @@
 //! A pool as an executor: each call waits for a connection, works on it and returns it.
 
 ghost use Rattle.std.specs.Prelude.{◌≡◌, ℕ, ◌<◌, ◌≤◌, true, IfOk, IfErr, OnOk, OnErr};
-ghost use Rattle.sqlx_pool_core.specs.Outside.{HasRisen};
+ghost use Rattle.sqlx_member.specs.Outside.{HasRisen};
 ghost use Rattle.sqlx_pool_parts.specs.Booked.{CountsIf};
 ghost use Rattle.sqlx_pool.specs.Refusals.{IsPollRefusal};
 

@@ -2,7 +2,7 @@
 
 ghost use Rattle.std.specs.Prelude.{◌≡◌, ◌⊎◌, ℕ, ◌^◌, ◌≤◌, IfErr, IfOk, None, Err};
 ghost use Rattle.sqlx_text.specs.declared.error.Error.{Error};
-ghost use Rattle.sqlx_pool_core.specs.declared.options.PoolOptions.{PoolOptions};
+ghost use Rattle.sqlx_pool_lists.specs.declared.options.PoolOptions.{PoolOptions};
 ghost use Rattle.sqlx_traits.specs.Options.{ReadsText};
 ghost use Rattle.sqlx_pool_parts.specs.Opened.{IsOpenable, IsOpenRefusal};
 ghost use Rattle.url.specs.Parser.{parse_url};

@@ -7,22 +7,22 @@ use Rattle.sqlx_log.specs.declared.turn.Turn.{Turn}
 use Rattle.sqlx_log.specs.Standing.{next_after, next_number}
 use Rattle.sqlx_log.specs.Marks.{asked_number, opened_number}
 use Rattle.sqlx_log.specs.EventTable.{may_pass}
-use Rattle.sqlx_pool_core.specs.declared.options.PoolOptions.{PoolOptions}
-use Rattle.sqlx_pool_core.specs.declared.steps.Start.{Start}
-use Rattle.sqlx_pool_core.specs.Core.{Core, waiting, free}
-use Rattle.sqlx_pool_core.specs.Sound.{IsSound}
+use Rattle.sqlx_pool_lists.specs.declared.options.PoolOptions.{PoolOptions}
+use Rattle.sqlx_pool_lists.specs.declared.steps.Start.{Start}
+use Rattle.sqlx_pool_lists.specs.Core.{Core, waiting, free}
+use Rattle.sqlx_pool_lists.specs.Sound.{IsSound}
 use Rattle.sqlx_pool_core.specs.Alone.{IsAlone}
-use Rattle.sqlx_pool_core.specs.Numbers.{Draws, Stays, under_way}
-use Rattle.sqlx_pool_core.specs.StandsFor.{StandsIn, StandsFor}
-use Rattle.sqlx_pool_core.specs.Makes.{MakesWhere, MakesIn, Makes}
-use Rattle.sqlx_pool_core.specs.Logs.{Logs}
-use Rattle.sqlx_pool_core.specs.Balance.{Balance, ask_room}
-use Rattle.sqlx_pool_core.specs.CoreTurn.{before, core_turn, InOwnLine, PastOwnLine}
-use Rattle.sqlx_pool_core.specs.PollTable.{phase_turn}
-use Rattle.sqlx_pool_core.specs.PollSteps.{phase_for, start_answer}
-use Rattle.sqlx_pool_core.specs.MaintenanceSteps.{closed_from}
-use Rattle.sqlx_pool_core.proofs.Stands.{stands-in}
-use Rattle.sqlx_pool_core.proofs.TurnAtMarks.{core_turn-stands}
+use Rattle.sqlx_member.specs.Numbers.{Draws, Stays, under_way}
+use Rattle.sqlx_pool_lists.specs.StandsFor.{StandsIn, StandsFor}
+use Rattle.sqlx_pool_lists.specs.Makes.{MakesWhere, MakesIn, Makes}
+use Rattle.sqlx_member.specs.Logs.{Logs}
+use Rattle.sqlx_pool_lists.specs.Balance.{Balance, ask_room}
+use Rattle.sqlx_pool_lists.specs.CoreTurn.{before, core_turn, InOwnLine, PastOwnLine}
+use Rattle.sqlx_pool_lists.specs.PollTable.{phase_turn}
+use Rattle.sqlx_pool_lists.specs.PollSteps.{phase_for, start_answer}
+use Rattle.sqlx_pool_lists.specs.MaintenanceSteps.{closed_from}
+use Rattle.sqlx_member.proofs.Stands.{stands-in}
+use Rattle.sqlx_member.proofs.TurnAtMarks.{core_turn-stands}
 
 -- ---- it stays alone
 

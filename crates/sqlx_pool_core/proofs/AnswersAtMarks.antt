@@ -7,25 +7,25 @@ use Rattle.sqlx_log.specs.Counts.{asked_in, is_asked_by}
 use Rattle.sqlx_log.specs.EventTable.{may_pass, closes, closes_at, is_old_since, size_at}
 use Rattle.sqlx_log.specs.Answers.{owns, is_kept_at, first_conn, lent_past_at, waits_if}
 use Rattle.sqlx_log.proofs.ListFacts.{count_by-cons, find-map, found_All, length_map}
-use Rattle.sqlx_pool_core.specs.Limits.{limits_of}
-use Rattle.sqlx_pool_core.specs.declared.ticket.Ticket.{Ticket}
-use Rattle.sqlx_pool_core.specs.declared.ticket.OwnedConn.{OwnedConn}
-use Rattle.sqlx_pool_core.specs.declared.ticket.Phase.{Phase}
-use Rattle.sqlx_pool_core.specs.declared.ticket.Phase.TheVariants as phase
-use Rattle.sqlx_pool_core.specs.declared.steps.Idle.{Idle}
-use Rattle.sqlx_pool_core.specs.declared.steps.Lent.{Lent}
-use Rattle.sqlx_pool_core.specs.declared.steps.Given.{Given}
-use Rattle.sqlx_pool_core.specs.declared.steps.Given.TheVariants as given
-use Rattle.sqlx_pool_core.specs.Core.{Core, is_out, is_held_by, asking, loan, resting, waiting, free, size, ticket_of, loan_of}
-use Rattle.sqlx_pool_core.specs.Sound.{IsSound, holds}
-use Rattle.sqlx_pool_core.specs.StandsFor.{StandsFor}
-use Rattle.sqlx_pool_core.specs.PollSteps.{phase_for, may_cancel, is_in_line, try_lent}
+use Rattle.sqlx_pool_lists.specs.Limits.{limits_of}
+use Rattle.sqlx_pool_lists.specs.declared.ticket.Ticket.{Ticket}
+use Rattle.sqlx_pool_lists.specs.declared.ticket.OwnedConn.{OwnedConn}
+use Rattle.sqlx_pool_lists.specs.declared.ticket.Phase.{Phase}
+use Rattle.sqlx_pool_lists.specs.declared.ticket.Phase.TheVariants as phase
+use Rattle.sqlx_pool_lists.specs.declared.steps.Idle.{Idle}
+use Rattle.sqlx_pool_lists.specs.declared.steps.Lent.{Lent}
+use Rattle.sqlx_pool_lists.specs.declared.steps.Given.{Given}
+use Rattle.sqlx_pool_lists.specs.declared.steps.Given.TheVariants as given
+use Rattle.sqlx_pool_lists.specs.Core.{Core, is_out, is_held_by, asking, loan, resting, waiting, free, size, ticket_of, loan_of}
+use Rattle.sqlx_pool_lists.specs.Sound.{IsSound, holds}
+use Rattle.sqlx_pool_lists.specs.StandsFor.{StandsFor}
+use Rattle.sqlx_pool_lists.specs.PollSteps.{phase_for, may_cancel, is_in_line, try_lent}
 use Rattle.sqlx_pool_core.specs.Answers.{is_busy, lent_conn, is_kept, is_held}
-use Rattle.sqlx_pool_core.specs.ReturnSteps.{give_answer}
+use Rattle.sqlx_member.specs.ReturnSteps.{give_answer}
 use Rattle.sqlx_pool_core.proofs.MaintenanceAtMarks.{passes-at}
-use Rattle.sqlx_pool_core.proofs.Known.{loan-found}
-use Rattle.sqlx_pool_core.proofs.Stands.{IsHeldBorn, stands-in}
-use Rattle.sqlx_pool_core.proofs.TurnAtMarks.{idle-stands, owned-stands, size-stands}
+use Rattle.sqlx_member.proofs.Known.{loan-found}
+use Rattle.sqlx_member.proofs.Stands.{IsHeldBorn, stands-in}
+use Rattle.sqlx_member.proofs.TurnAtMarks.{idle-stands, owned-stands, size-stands}
 
 -- ---- owners
 

@@ -2,22 +2,22 @@
 use Rattle.std.proofs.Common.{◌≡◌, ℕ, ◌≤◌, Bool, true, false, List, [], ◌∷◌, Result, Ok, Err, sym, subst, arith}
 use Rattle.sqlx_text.specs.declared.error.Error.{Error}
 use Rattle.sqlx_log.specs.declared.mark.Mark.{Mark}
-use Rattle.sqlx_pool_core.specs.declared.options.PoolOptions.{PoolOptions}
-use Rattle.sqlx_pool_core.specs.declared.outside.PoolConnectionMetadata.{PoolConnectionMetadata}
-use Rattle.sqlx_pool_core.specs.declared.idle_check.Check.{Check}
-use Rattle.sqlx_pool_core.specs.declared.idle_check.Check.TheVariants as check
-use Rattle.sqlx_pool_core.specs.declared.idle_check.Opening.{Opening}
-use Rattle.sqlx_pool_core.specs.declared.idle_check.Opening.TheVariants as opening
-use Rattle.sqlx_pool_core.specs.declared.steps.Idle.{Idle}
-use Rattle.sqlx_pool_core.specs.declared.steps.Lent.{Lent}
-use Rattle.sqlx_pool_core.specs.declared.steps.Openings.{Openings}
-use Rattle.sqlx_pool_core.specs.declared.steps.Polled.{Polled}
-use Rattle.sqlx_pool_core.specs.declared.steps.Verdict.{Verdict}
-use Rattle.sqlx_pool_core.specs.Calls.{Call, connect, ping, after_connect, before_acquire, close, close_hard}
-use Rattle.sqlx_pool_core.specs.Chain.{new_meta, Pings, LooksIf, Sorts, Tests, SetsUp, KeepsIf, Follows, Tries}
-use Rattle.sqlx_pool_core.specs.Core.{Core}
+use Rattle.sqlx_pool_lists.specs.declared.options.PoolOptions.{PoolOptions}
+use Rattle.sqlx_member.specs.declared.outside.PoolConnectionMetadata.{PoolConnectionMetadata}
+use Rattle.sqlx_member.specs.declared.idle_check.Check.{Check}
+use Rattle.sqlx_member.specs.declared.idle_check.Check.TheVariants as check
+use Rattle.sqlx_member.specs.declared.idle_check.Opening.{Opening}
+use Rattle.sqlx_member.specs.declared.idle_check.Opening.TheVariants as opening
+use Rattle.sqlx_pool_lists.specs.declared.steps.Idle.{Idle}
+use Rattle.sqlx_pool_lists.specs.declared.steps.Lent.{Lent}
+use Rattle.sqlx_pool_lists.specs.declared.steps.Openings.{Openings}
+use Rattle.sqlx_pool_lists.specs.declared.steps.Polled.{Polled}
+use Rattle.sqlx_pool_lists.specs.declared.steps.Verdict.{Verdict}
+use Rattle.sqlx_member.specs.Calls.{Call, connect, ping, after_connect, before_acquire, close, close_hard}
+use Rattle.sqlx_member.specs.Chain.{new_meta, Pings, LooksIf, Sorts, Tests, SetsUp, KeepsIf, Follows, Tries}
+use Rattle.sqlx_pool_lists.specs.Core.{Core}
 use Rattle.sqlx_pool_core.specs.Minimum.{filled, Keeps, KeepsMinimum}
-use Rattle.sqlx_pool_core.specs.PollSteps.{after_test}
+use Rattle.sqlx_pool_lists.specs.PollSteps.{after_test}
 use Rattle.sqlx_pool_core.specs.Walk.{Next, Test, Connect, Answer, then_by, judges, Goes, Polls}
 
 -- a fact that no call ends, over what a test and a try do

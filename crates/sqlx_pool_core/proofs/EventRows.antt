@@ -1,13 +1,13 @@
 -- Worked rows of reaping, the minimum and closing.
 use Rattle.std.proofs.Common.{◌≡◌, ℕ, true, false, List, [], ◌∷◌, ◌++◌, Some, None, refl}
-use Rattle.sqlx_pool_core.specs.Limits.{limits_of}
+use Rattle.sqlx_pool_lists.specs.Limits.{limits_of}
 use Rattle.log.specs.declared.level.LevelFilter.TheVariants.{Off}
 use Rattle.sqlx_log.specs.declared.mark.Mark.{Mark}
 use Rattle.sqlx_log.specs.declared.mark.Mark.TheVariants.{Asked, Opened, Lent, Kept, Leaked, Ended, Shut}
-use Rattle.sqlx_pool_core.specs.declared.options.PoolOptions.{PoolOptions}
-use Rattle.sqlx_pool_core.specs.declared.steps.CloseState.TheVariants as state
+use Rattle.sqlx_pool_lists.specs.declared.options.PoolOptions.{PoolOptions}
+use Rattle.sqlx_pool_lists.specs.declared.steps.CloseState.TheVariants as state
 use Rattle.sqlx_log.specs.EventTable.{reaped_at, has_place_at, closed_at}
-use Rattle.sqlx_pool_core.specs.MaintenanceSteps.{close_state_of}
+use Rattle.sqlx_pool_lists.specs.MaintenanceSteps.{close_state_of}
 
 -- a pool of this maximum, in which a connection is idle for 10 at most and lives for 100
 abbrev options : ℕ → PoolOptions

@@ -3,16 +3,16 @@ use Rattle.std.proofs.Common.{◌≡◌, ◌==◌, ℕ, ◌+◌, ◌≤◌, ◌<
 use Rattle.std.proofs.lemmas.Bool.{lt-ltb}
 use Rattle.sqlx_text.specs.declared.error.Error.{Error}
 use Rattle.sqlx_text.specs.declared.error.Error.TheVariants as error
-use Rattle.sqlx_pool_core.specs.declared.options.PoolOptions.{PoolOptions}
-use Rattle.sqlx_pool_core.specs.declared.idle_check.Opening.{Opening}
-use Rattle.sqlx_pool_core.specs.declared.idle_check.Opening.TheVariants.{Opened, Rejected, Transient, Failed}
-use Rattle.sqlx_pool_core.specs.declared.steps.Openings.{Openings}
-use Rattle.sqlx_pool_core.specs.Calls.{Call, Facts, connect, after_connect, close_hard}
-use Rattle.sqlx_pool_core.specs.Chain.{new_meta, SetsUp, KeepsIf, Follows, Tries}
-use Rattle.sqlx_pool_core.specs.Core.{Core}
-use Rattle.sqlx_pool_core.specs.MaintenanceSteps.{has_place, lacks}
+use Rattle.sqlx_pool_lists.specs.declared.options.PoolOptions.{PoolOptions}
+use Rattle.sqlx_member.specs.declared.idle_check.Opening.{Opening}
+use Rattle.sqlx_member.specs.declared.idle_check.Opening.TheVariants.{Opened, Rejected, Transient, Failed}
+use Rattle.sqlx_pool_lists.specs.declared.steps.Openings.{Openings}
+use Rattle.sqlx_member.specs.Calls.{Call, Facts, connect, after_connect, close_hard}
+use Rattle.sqlx_member.specs.Chain.{new_meta, SetsUp, KeepsIf, Follows, Tries}
+use Rattle.sqlx_pool_lists.specs.Core.{Core}
+use Rattle.sqlx_pool_lists.specs.MaintenanceSteps.{has_place, lacks}
 use Rattle.sqlx_pool_core.specs.Minimum.{filled, opened_of, is_short, Keeps, KeepsMinimum}
-use Rattle.sqlx_pool_core.specs.Outside.{HasRisen, is_transient, is_want, says_ok}
+use Rattle.sqlx_member.specs.Outside.{HasRisen, is_transient, is_want, says_ok}
 use Rattle.sqlx_pool_core.proofs.CallsKeep.{tries-more}
 use Rattle.sqlx_pool_core.proofs.KeepRuns.{SoFar, so-none, so-place, so-opened, kept-so, kept-place}
 

@@ -7,11 +7,11 @@ use Rattle.std.proofs.lemmas.List.{length-append}
 use Rattle.sqlx_line.specs.Line.{TicketLine, ComesLast, is_waiting, is_below_edge, entitled, beyond, first_beyond, pushed, without, passed, advanced}
 use Rattle.sqlx_line.specs.Laws.{IsServed}
 use Rattle.sqlx_line.proofs.Edge.{left_out, below-joined, below-left_out, length-left_out, not-all-below, numbered_found}
-use Rattle.sqlx_pool_core.specs.Core.{Core, waiting, free}
-use Rattle.sqlx_pool_core.specs.Sound.{IsSound, IsRising}
+use Rattle.sqlx_pool_lists.specs.Core.{Core, waiting, free}
+use Rattle.sqlx_pool_lists.specs.Sound.{IsSound, IsRising}
 use Rattle.sqlx_pool_core.specs.KeptLine.{waiting_numbers, IsLined, IsNearlyLined, let_in}
-use Rattle.sqlx_pool_core.proofs.Counting.{rising-filter}
-use Rattle.sqlx_pool_core.specs.Core.{waits}
+use Rattle.sqlx_pool_lists.proofs.Counting.{rising-filter}
+use Rattle.sqlx_pool_lists.specs.Core.{waits}
 use Rattle.sqlx_pool_core.proofs.WaitingNumbers.{length-numbers, numbers-below, numbers-sorted}
 
 -- ---- the waiting tickets of a sound pool

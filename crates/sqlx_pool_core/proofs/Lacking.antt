@@ -2,9 +2,9 @@
 use Rattle.std.proofs.Common.{◌≡◌, ℕ, ◌+◌, ◌-◌, ◌^◌, ◌<◌, ◌≤◌, min, nat_lt, Bool, true, false, not, ◌&&◌, length, length-append, refl, sym, ap, ◌∙◌, arith, if◌then◌else◌}
 use Rattle.std.proofs.lemmas.Bool.{ltb-true, ltb-false, lt-ltb, le-ltb}
 use Rattle.sqlx_log.specs.Counts.{free_of}
-use Rattle.sqlx_pool_core.specs.Core.{Core, waiting, gone, free, size}
+use Rattle.sqlx_pool_lists.specs.Core.{Core, waiting, gone, free, size}
 use Rattle.sqlx_log.specs.EventTable.{may_pass, may_open, lacking}
-use Rattle.sqlx_pool_core.specs.MaintenanceSteps.{has_place, lacks}
+use Rattle.sqlx_pool_lists.specs.MaintenanceSteps.{has_place, lacks}
 use Rattle.sqlx_pool_core.specs.Minimum.{Opens}
 
 counted : (size least next k : ℕ) (b c : Bool) → nat_lt (size + k) least ≡ b → nat_lt (2 ^ 63) (next + k) ≡ c → (b && not c) ≡ nat_lt k (min (least - size) (2 ^ 63 + 1 - next))

@@ -1,34 +1,7 @@
-pub mod TicketPlaces
-pub mod Found
-pub mod Counting
-pub mod Soundness
 pub mod WaitingNumbers
 pub mod KeptLine
-pub mod TurnCases
-pub mod Stands
-pub mod EachMark
-pub mod Gone
-pub mod TurnAtMarks
-pub mod Known
-pub mod Fair
-pub mod StartMakes
-pub mod PollMakes
-pub mod MaintenanceMakes
-pub mod ReturnMakes
-pub mod Answered
-pub mod PollCode
 pub mod LineSteps
 pub mod Looks
-pub mod FinishCode
-pub mod AskSoundness
-pub mod GiveCode
-pub mod AskCode
-mod IdleQueues
-mod HeldLists
-pub mod MaintenanceCode
-pub mod BalanceLemmas
-pub mod Drawn
-pub mod SharedLemmas
 pub mod Alone
 pub mod Served
 pub mod MaintenanceAtMarks

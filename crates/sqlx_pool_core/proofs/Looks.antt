@@ -4,14 +4,14 @@ use Rattle.std.specs.Prelude.{nat_lt, filter, find}
 use Rattle.std.proofs.lemmas.Bool.Decides.{nat_tests}
 use Rattle.sqlx_line.specs.Line.{TicketLine, is_below_edge, entitled, beyond, first_beyond, pushed, without, passed, advanced}
 use Rattle.sqlx_line.proofs.Edge.{has, below-joined, some_found, not_below}
-use Rattle.sqlx_pool_core.specs.declared.ticket.Ticket.{Ticket}
-use Rattle.sqlx_pool_core.specs.declared.ticket.Phase.{Phase}
-use Rattle.sqlx_pool_core.specs.declared.ticket.Phase.TheVariants as phase
-use Rattle.sqlx_pool_core.specs.Core.{Core, is_out, waits, ticket_of}
-use Rattle.sqlx_pool_core.specs.CoreTurn.{is_first_in_line}
-use Rattle.sqlx_pool_core.specs.Edits.{at_moment, asked}
-use Rattle.sqlx_pool_core.specs.PollSteps.{phase_for, is_in_line}
-use Rattle.sqlx_pool_core.specs.Sound.{IsSound, IsRising, number_of}
+use Rattle.sqlx_pool_lists.specs.declared.ticket.Ticket.{Ticket}
+use Rattle.sqlx_pool_lists.specs.declared.ticket.Phase.{Phase}
+use Rattle.sqlx_pool_lists.specs.declared.ticket.Phase.TheVariants as phase
+use Rattle.sqlx_pool_lists.specs.Core.{Core, is_out, waits, ticket_of}
+use Rattle.sqlx_pool_lists.specs.CoreTurn.{is_first_in_line}
+use Rattle.sqlx_pool_lists.specs.Edits.{at_moment, asked}
+use Rattle.sqlx_pool_lists.specs.PollSteps.{phase_for, is_in_line}
+use Rattle.sqlx_pool_lists.specs.Sound.{IsSound, IsRising, number_of}
 use Rattle.sqlx_pool_core.specs.KeptLine.{waiting_numbers, IsLined, Looks, is_entitled, Entitles, EntitlesBeyond, taken_out}
 use Rattle.sqlx_pool_core.proofs.KeptLine.{Fewer, fewer, line-rises, beyond-counts}
 use Rattle.sqlx_pool_core.proofs.LineSteps.{edge-first}

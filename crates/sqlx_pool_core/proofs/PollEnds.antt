@@ -7,32 +7,32 @@ use Rattle.sqlx_text.specs.declared.Moment.{Moment}
 use Rattle.sqlx_text.specs.declared.error.Error.{Error}
 use Rattle.sqlx_text.specs.declared.error.Error.TheVariants.{OutOfMemory}
 use Rattle.sqlx_log.specs.declared.mark.Mark.{Mark}
-use Rattle.sqlx_pool_core.specs.declared.options.PoolOptions.{PoolOptions}
-use Rattle.sqlx_pool_core.specs.declared.outside.PoolConnectionMetadata.{PoolConnectionMetadata}
-use Rattle.sqlx_pool_core.specs.declared.idle_check.Check.{Check}
-use Rattle.sqlx_pool_core.specs.declared.idle_check.Check.TheVariants as check
-use Rattle.sqlx_pool_core.specs.declared.idle_check.Opening.{Opening}
-use Rattle.sqlx_pool_core.specs.declared.idle_check.Opening.TheVariants as opening
-use Rattle.sqlx_pool_core.specs.declared.steps.Idle.{Idle}
-use Rattle.sqlx_pool_core.specs.declared.steps.Lent.{Lent}
-use Rattle.sqlx_pool_core.specs.declared.steps.Start.{Start}
-use Rattle.sqlx_pool_core.specs.declared.steps.Start.TheVariants as start
-use Rattle.sqlx_pool_core.specs.declared.steps.Verdict.{Verdict}
-use Rattle.sqlx_pool_core.specs.declared.steps.Verdict.TheVariants as verdict
-use Rattle.sqlx_pool_core.specs.declared.steps.Polled.{Polled}
-use Rattle.sqlx_pool_core.specs.declared.steps.Polled.TheVariants as polled
-use Rattle.sqlx_pool_core.specs.declared.steps.AfterTest.{AfterTest}
-use Rattle.sqlx_pool_core.specs.declared.steps.AfterTest.TheVariants as tested
-use Rattle.sqlx_pool_core.specs.declared.ticket.Ticket.{Ticket}
-use Rattle.sqlx_pool_core.specs.declared.ticket.Phase.{Phase}
-use Rattle.sqlx_pool_core.specs.declared.ticket.Phase.TheVariants as phase
-use Rattle.sqlx_pool_core.specs.Calls.{Call, Facts, Levels, connect, ping}
-use Rattle.sqlx_pool_core.specs.Chain.{check_by, Pings, LooksIf, Sorts, Tests, SetsUp, KeepsIf, Follows, Tries}
-use Rattle.sqlx_pool_core.specs.Core.{Core}
-use Rattle.sqlx_pool_core.specs.Outside.{HasRisen, says_ok, is_transient}
-use Rattle.sqlx_pool_core.specs.CoreTurn.{core_turn}
+use Rattle.sqlx_pool_lists.specs.declared.options.PoolOptions.{PoolOptions}
+use Rattle.sqlx_member.specs.declared.outside.PoolConnectionMetadata.{PoolConnectionMetadata}
+use Rattle.sqlx_member.specs.declared.idle_check.Check.{Check}
+use Rattle.sqlx_member.specs.declared.idle_check.Check.TheVariants as check
+use Rattle.sqlx_member.specs.declared.idle_check.Opening.{Opening}
+use Rattle.sqlx_member.specs.declared.idle_check.Opening.TheVariants as opening
+use Rattle.sqlx_pool_lists.specs.declared.steps.Idle.{Idle}
+use Rattle.sqlx_pool_lists.specs.declared.steps.Lent.{Lent}
+use Rattle.sqlx_pool_lists.specs.declared.steps.Start.{Start}
+use Rattle.sqlx_pool_lists.specs.declared.steps.Start.TheVariants as start
+use Rattle.sqlx_pool_lists.specs.declared.steps.Verdict.{Verdict}
+use Rattle.sqlx_pool_lists.specs.declared.steps.Verdict.TheVariants as verdict
+use Rattle.sqlx_pool_lists.specs.declared.steps.Polled.{Polled}
+use Rattle.sqlx_pool_lists.specs.declared.steps.Polled.TheVariants as polled
+use Rattle.sqlx_pool_lists.specs.declared.steps.AfterTest.{AfterTest}
+use Rattle.sqlx_pool_lists.specs.declared.steps.AfterTest.TheVariants as tested
+use Rattle.sqlx_pool_lists.specs.declared.ticket.Ticket.{Ticket}
+use Rattle.sqlx_pool_lists.specs.declared.ticket.Phase.{Phase}
+use Rattle.sqlx_pool_lists.specs.declared.ticket.Phase.TheVariants as phase
+use Rattle.sqlx_member.specs.Calls.{Call, Facts, Levels, connect, ping}
+use Rattle.sqlx_member.specs.Chain.{check_by, Pings, LooksIf, Sorts, Tests, SetsUp, KeepsIf, Follows, Tries}
+use Rattle.sqlx_pool_lists.specs.Core.{Core}
+use Rattle.sqlx_member.specs.Outside.{HasRisen, says_ok, is_transient}
+use Rattle.sqlx_pool_lists.specs.CoreTurn.{core_turn}
 use Rattle.sqlx_pool_core.specs.PollParts.{IfAccepted, IfOpened, IfFailed, IfReady, IfRefused, IsForGood, first_depth, StayAtRest}
-use Rattle.sqlx_pool_core.specs.PollSteps.{phase_for, start_answer, started, tested_at, may_test_next, test_answer, after_test}
+use Rattle.sqlx_pool_lists.specs.PollSteps.{phase_for, start_answer, started, tested_at, may_test_next, test_answer, after_test}
 use Rattle.sqlx_pool_core.specs.Walk.{Next, Test, Connect, Answer, first, then_by, last, judges, tells, Connects, Goes, Polls}
 use Rattle.sqlx_pool_core.proofs.CallsKeep.{tests-keep, tests-more}
 use Rattle.sqlx_pool_core.proofs.WholePoll.{takes, taken-phase}

@@ -3,13 +3,13 @@ use Rattle.std.specs.Prelude.{◌≡◌, ℕ, Bool, true, false, Option, Some, L
 use Rattle.sqlx_log.specs.declared.mark.Mark.{Mark}
 use Rattle.sqlx_log.specs.Marks.{owner_of}
 use Rattle.sqlx_log.specs.Answers.{owns, is_kept_at}
-use Rattle.sqlx_pool_core.specs.declared.options.PoolOptions.{PoolOptions}
-use Rattle.sqlx_pool_core.specs.Limits.{limits_of}
-use Rattle.sqlx_pool_core.specs.declared.ticket.Phase.{Phase}
-use Rattle.sqlx_pool_core.specs.declared.ticket.Phase.TheVariants as phase
-use Rattle.sqlx_pool_core.specs.declared.steps.Lent.{Lent}
-use Rattle.sqlx_pool_core.specs.declared.steps.Given.{Given}
-use Rattle.sqlx_pool_core.specs.declared.steps.Given.TheVariants as given
+use Rattle.sqlx_pool_lists.specs.declared.options.PoolOptions.{PoolOptions}
+use Rattle.sqlx_pool_lists.specs.Limits.{limits_of}
+use Rattle.sqlx_pool_lists.specs.declared.ticket.Phase.{Phase}
+use Rattle.sqlx_pool_lists.specs.declared.ticket.Phase.TheVariants as phase
+use Rattle.sqlx_pool_lists.specs.declared.steps.Lent.{Lent}
+use Rattle.sqlx_pool_lists.specs.declared.steps.Given.{Given}
+use Rattle.sqlx_pool_lists.specs.declared.steps.Given.TheVariants as given
 
 -- a step of its own is under way for the ticket
 abbrev pub is_busy : Option Phase → Bool

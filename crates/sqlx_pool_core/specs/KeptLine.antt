@@ -2,14 +2,14 @@
 use Rattle.std.specs.Prelude.{◌≡◌, ℕ, ◌+◌, ◌-◌, ◌<◌, ◌≤◌, ◌⊎◌, ◌&&◌, Bool, true, false, List, map, filter, min, length}
 use Rattle.sqlx_line.specs.Line.{TicketLine, entitled, beyond, without, is_below_edge}
 use Rattle.sqlx_line.specs.Laws.{IsServed}
-use Rattle.sqlx_pool_core.specs.declared.ticket.Ticket.{Ticket}
-use Rattle.sqlx_pool_core.specs.declared.steps.Start.{Start}
-use Rattle.sqlx_pool_core.specs.declared.steps.Start.TheVariants as start
-use Rattle.sqlx_pool_core.specs.Core.{Core, waits, waiting, free}
-use Rattle.sqlx_pool_core.specs.Sound.{number_of}
+use Rattle.sqlx_pool_lists.specs.declared.ticket.Ticket.{Ticket}
+use Rattle.sqlx_pool_lists.specs.declared.steps.Start.{Start}
+use Rattle.sqlx_pool_lists.specs.declared.steps.Start.TheVariants as start
+use Rattle.sqlx_pool_lists.specs.Core.{Core, waits, waiting, free}
+use Rattle.sqlx_pool_lists.specs.Sound.{number_of}
 use Rattle.sqlx_pool_core.specs.Alone.{IsAlone}
-use Rattle.sqlx_pool_core.specs.CoreTurn.{is_first_in_line}
-use Rattle.sqlx_pool_core.specs.PollSteps.{phase_for, is_in_line}
+use Rattle.sqlx_pool_lists.specs.CoreTurn.{is_first_in_line}
+use Rattle.sqlx_pool_lists.specs.PollSteps.{phase_for, is_in_line}
 
 -- the numbers of the tickets that wait
 abbrev pub waiting_numbers : List Ticket → List ℕ

@@ -1,17 +1,17 @@
 -- The keeping of the minimum: one try after another, while a place may be held, up to the first that opens nothing.
 use Rattle.std.specs.Prelude.{zero, suc, length, All, ◌≡◌, ℕ, ◌+◌, Bool, true, false, max, List, [], ◌∷◌, ◌++◌, Option, Some, None}
-use Rattle.sqlx_pool_core.specs.declared.steps.Openings.{Openings}
-use Rattle.sqlx_pool_core.specs.declared.steps.Idle.{Idle}
+use Rattle.sqlx_pool_lists.specs.declared.steps.Openings.{Openings}
+use Rattle.sqlx_pool_lists.specs.declared.steps.Idle.{Idle}
 use Rattle.sqlx_log.specs.declared.mark.Mark.{Mark}
 use Rattle.sqlx_log.specs.declared.mark.Mark.TheVariants as mark
-use Rattle.sqlx_pool_core.specs.Logs.{Logs}
-use Rattle.sqlx_pool_core.specs.Core.{Core}
-use Rattle.sqlx_pool_core.specs.MaintenanceSteps.{has_place, placed, done, done_marks}
-use Rattle.sqlx_pool_core.specs.declared.idle_check.Opening.{Opening}
-use Rattle.sqlx_pool_core.specs.declared.idle_check.Opening.TheVariants.{Opened, Failed}
-use Rattle.sqlx_pool_core.specs.Outside.{is_want}
-use Rattle.sqlx_pool_core.specs.Calls.{Call}
-use Rattle.sqlx_pool_core.specs.Chain.{Tries}
+use Rattle.sqlx_member.specs.Logs.{Logs}
+use Rattle.sqlx_pool_lists.specs.Core.{Core}
+use Rattle.sqlx_pool_lists.specs.MaintenanceSteps.{has_place, placed, done, done_marks}
+use Rattle.sqlx_member.specs.declared.idle_check.Opening.{Opening}
+use Rattle.sqlx_member.specs.declared.idle_check.Opening.TheVariants.{Opened, Failed}
+use Rattle.sqlx_member.specs.Outside.{is_want}
+use Rattle.sqlx_member.specs.Calls.{Call}
+use Rattle.sqlx_member.specs.Chain.{Tries}
 
 -- the connection that a try opened
 abbrev pub raw_of : {C : Type 0} → Opening C → Option C

@@ -2,24 +2,24 @@
 use Rattle.std.specs.Prelude.{◌≡◌, ◌<◌, drop, ℕ, ◌+◌, false, ◌⊎◌, ⊤, List, [], ◌∷◌, Option, Some, None, All}
 use Rattle.sqlx_text.specs.declared.error.Error.{Error}
 use Rattle.sqlx_text.specs.declared.error.Error.TheVariants.{OutOfMemory}
-use Rattle.sqlx_pool_core.specs.declared.steps.Lent.{Lent}
-use Rattle.sqlx_pool_core.specs.declared.steps.Idle.{Idle}
-use Rattle.sqlx_pool_core.specs.declared.steps.Polled.{Polled}
-use Rattle.sqlx_pool_core.specs.declared.steps.Polled.TheVariants as polled
-use Rattle.sqlx_pool_core.specs.declared.idle_check.Opening.{Opening}
-use Rattle.sqlx_pool_core.specs.declared.idle_check.Opening.TheVariants as opening
-use Rattle.sqlx_pool_core.specs.declared.steps.Verdict.{Verdict}
-use Rattle.sqlx_pool_core.specs.declared.steps.Verdict.TheVariants as verdict
-use Rattle.sqlx_pool_core.specs.declared.steps.Tried.{Tried}
-use Rattle.sqlx_pool_core.specs.declared.steps.Tried.TheVariants as tried
-use Rattle.sqlx_pool_core.specs.declared.steps.AfterConnect.{AfterConnect}
-use Rattle.sqlx_pool_core.specs.declared.steps.AfterConnect.TheVariants as connected
-use Rattle.sqlx_pool_core.specs.declared.ticket.Ticket.{Ticket}
-use Rattle.sqlx_pool_core.specs.Calls.{Call}
-use Rattle.sqlx_pool_core.specs.Core.{Core}
-use Rattle.sqlx_pool_core.specs.Outside.{HasRisen, is_transient}
-use Rattle.sqlx_pool_core.specs.Edits.{with_ticket, to_connect}
-use Rattle.sqlx_pool_core.specs.PollSteps.{wait_of}
+use Rattle.sqlx_pool_lists.specs.declared.steps.Lent.{Lent}
+use Rattle.sqlx_pool_lists.specs.declared.steps.Idle.{Idle}
+use Rattle.sqlx_pool_lists.specs.declared.steps.Polled.{Polled}
+use Rattle.sqlx_pool_lists.specs.declared.steps.Polled.TheVariants as polled
+use Rattle.sqlx_member.specs.declared.idle_check.Opening.{Opening}
+use Rattle.sqlx_member.specs.declared.idle_check.Opening.TheVariants as opening
+use Rattle.sqlx_pool_lists.specs.declared.steps.Verdict.{Verdict}
+use Rattle.sqlx_pool_lists.specs.declared.steps.Verdict.TheVariants as verdict
+use Rattle.sqlx_pool_lists.specs.declared.steps.Tried.{Tried}
+use Rattle.sqlx_pool_lists.specs.declared.steps.Tried.TheVariants as tried
+use Rattle.sqlx_pool_lists.specs.declared.steps.AfterConnect.{AfterConnect}
+use Rattle.sqlx_pool_lists.specs.declared.steps.AfterConnect.TheVariants as connected
+use Rattle.sqlx_pool_lists.specs.declared.ticket.Ticket.{Ticket}
+use Rattle.sqlx_member.specs.Calls.{Call}
+use Rattle.sqlx_pool_lists.specs.Core.{Core}
+use Rattle.sqlx_member.specs.Outside.{HasRisen, is_transient}
+use Rattle.sqlx_pool_lists.specs.Edits.{with_ticket, to_connect}
+use Rattle.sqlx_pool_lists.specs.PollSteps.{wait_of}
 
 -- why a connect is refused for good
 abbrev pub IsForGood : ℕ → ℕ → Error → Type 0

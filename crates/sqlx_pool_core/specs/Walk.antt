@@ -1,27 +1,27 @@
 -- A whole poll: its steps in the pool, with the calls of the outside between them.
 use Rattle.std.specs.Prelude.{◌≡◌, ℕ, false, Some, List, [], ◌∷◌, ◌++◌}
 use Rattle.sqlx_log.specs.declared.mark.Mark.{Mark}
-use Rattle.sqlx_pool_core.specs.declared.steps.Idle.{Idle}
-use Rattle.sqlx_pool_core.specs.declared.steps.Start.{Start}
-use Rattle.sqlx_pool_core.specs.declared.steps.Start.TheVariants as start
-use Rattle.sqlx_pool_core.specs.declared.steps.Verdict.{Verdict}
-use Rattle.sqlx_pool_core.specs.declared.steps.AfterTest.{AfterTest}
-use Rattle.sqlx_pool_core.specs.declared.steps.AfterTest.TheVariants as tested
-use Rattle.sqlx_pool_core.specs.declared.steps.Tried.{Tried}
-use Rattle.sqlx_pool_core.specs.declared.steps.Tried.TheVariants as tried
-use Rattle.sqlx_pool_core.specs.declared.steps.AfterConnect.{AfterConnect}
-use Rattle.sqlx_pool_core.specs.declared.steps.AfterConnect.TheVariants as connected
-use Rattle.sqlx_pool_core.specs.declared.steps.Polled.{Polled}
-use Rattle.sqlx_pool_core.specs.declared.steps.Polled.TheVariants as polled
-use Rattle.sqlx_pool_core.specs.declared.ticket.Ticket.{Ticket}
-use Rattle.sqlx_pool_core.specs.Core.{Core, ticket_of}
-use Rattle.sqlx_pool_core.specs.PollSteps.{phase_for, start_answer, start_marks, started, may_test_next, test_answer, test_marks, after_test, try_answer, connect_marks, after_connect}
-use Rattle.sqlx_pool_core.specs.CoreTurn.{core_turn}
-use Rattle.sqlx_pool_core.specs.Logs.{Logs}
-use Rattle.sqlx_pool_core.specs.declared.idle_check.Opening.{Opening}
-use Rattle.sqlx_pool_core.specs.declared.idle_check.Opening.TheVariants as opening
-use Rattle.sqlx_pool_core.specs.Calls.{Call}
-use Rattle.sqlx_pool_core.specs.Chain.{Tests, Tries}
+use Rattle.sqlx_pool_lists.specs.declared.steps.Idle.{Idle}
+use Rattle.sqlx_pool_lists.specs.declared.steps.Start.{Start}
+use Rattle.sqlx_pool_lists.specs.declared.steps.Start.TheVariants as start
+use Rattle.sqlx_pool_lists.specs.declared.steps.Verdict.{Verdict}
+use Rattle.sqlx_pool_lists.specs.declared.steps.AfterTest.{AfterTest}
+use Rattle.sqlx_pool_lists.specs.declared.steps.AfterTest.TheVariants as tested
+use Rattle.sqlx_pool_lists.specs.declared.steps.Tried.{Tried}
+use Rattle.sqlx_pool_lists.specs.declared.steps.Tried.TheVariants as tried
+use Rattle.sqlx_pool_lists.specs.declared.steps.AfterConnect.{AfterConnect}
+use Rattle.sqlx_pool_lists.specs.declared.steps.AfterConnect.TheVariants as connected
+use Rattle.sqlx_pool_lists.specs.declared.steps.Polled.{Polled}
+use Rattle.sqlx_pool_lists.specs.declared.steps.Polled.TheVariants as polled
+use Rattle.sqlx_pool_lists.specs.declared.ticket.Ticket.{Ticket}
+use Rattle.sqlx_pool_lists.specs.Core.{Core, ticket_of}
+use Rattle.sqlx_pool_lists.specs.PollSteps.{phase_for, start_answer, start_marks, started, may_test_next, test_answer, test_marks, after_test, try_answer, connect_marks, after_connect}
+use Rattle.sqlx_pool_lists.specs.CoreTurn.{core_turn}
+use Rattle.sqlx_member.specs.Logs.{Logs}
+use Rattle.sqlx_member.specs.declared.idle_check.Opening.{Opening}
+use Rattle.sqlx_member.specs.declared.idle_check.Opening.TheVariants as opening
+use Rattle.sqlx_member.specs.Calls.{Call}
+use Rattle.sqlx_member.specs.Chain.{Tests, Tries}
 
 -- What a poll does next.
 pub data Next (C : Type 0) : Type 0 where

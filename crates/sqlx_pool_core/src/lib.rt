@@ -5,23 +5,12 @@
 //! by a list of [`Mark`]s, and every rule of the pool is a definition over such a list (`specs/`).
 #![tactic(auto)]
 
-mod held_list;
-pub mod idle_check;
-mod idle_list;
-mod idle_row;
-pub mod member;
-mod options;
-mod outside;
 mod pool_core;
-mod steps;
-mod ticket;
-mod tickets;
 
-pub use options::PoolOptions;
-pub use outside::{Outside, PoolConnectionMetadata};
 pub use pool_core::PoolCore;
 pub use sqlx_log::{Mark, laws};
-pub use steps::{
-    AfterConnect, AfterTest, CloseState, Given, Idle, Lent, Numbers, Openings, Polled, Returned,
-    Start, Tried, Verdict,
+pub use sqlx_member::{Outside, PoolConnectionMetadata, idle_check};
+pub use sqlx_pool_lists::{
+    AfterConnect, AfterTest, CloseState, Given, Idle, Lent, Numbers, Openings, Polled, PoolOptions,
+    Returned, Start, Tried, Verdict,
 };

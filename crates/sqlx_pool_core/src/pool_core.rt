@@ -6,11 +6,11 @@ ghost use Rattle.std.specs.Prelude.{◌≡◌, ℕ, ◌+◌, ◌<◌, ◌≤◌,
 ghost use Rattle.sqlx_log.specs.declared.mark.Mark.{Mark};
 ghost use Rattle.sqlx_log.specs.Marks.{idle_of};
 ghost use Rattle.sqlx_log.specs.EventTable.{size_at};
-ghost use Rattle.sqlx_pool_core.specs.Logs.{moment_of};
-ghost use Rattle.sqlx_pool_core.specs.Core.{waiting, gone, free, size};
-ghost use Rattle.sqlx_pool_core.specs.Balance.{marks_due, IsBounded};
-ghost use Rattle.sqlx_pool_core.specs.Sound.{IsNumbered};
-ghost use Rattle.sqlx_pool_core.specs.StandsFor.{StandsFor};
+ghost use Rattle.sqlx_member.specs.Logs.{moment_of};
+ghost use Rattle.sqlx_pool_lists.specs.Core.{waiting, gone, free, size};
+ghost use Rattle.sqlx_pool_lists.specs.Balance.{marks_due, IsBounded};
+ghost use Rattle.sqlx_pool_lists.specs.Sound.{IsNumbered};
+ghost use Rattle.sqlx_pool_lists.specs.StandsFor.{StandsFor};
 
 mod ask;
 mod closing;
@@ -24,9 +24,9 @@ mod maintenance;
 mod poll;
 mod poll_with;
 
-use crate::member::Member;
-use crate::options::PoolOptions;
 use sqlx_line::Line;
+use sqlx_member::Member;
+use sqlx_pool_lists::PoolOptions;
 use sqlx_text::{Moment, OutOfMemory};
 use std::alloc::Global;
 use std::marker::Model;
@@ -41,7 +41,7 @@ pub struct PoolCore<C> {
 }
 
 impl<C> Model for PoolCore<C> {
-    ghost use Rattle.sqlx_pool_core.specs.Core.{Core};
+    ghost use Rattle.sqlx_pool_lists.specs.Core.{Core};
     ghost use Rattle.sqlx_pool_core.specs.KeptLine.{IsLone};
 
     ghost Value = { Core C };
@@ -107,7 +107,7 @@ impl<C> PoolCore<C> {
 
     /// What holds of every pool: it has at most its maximum of connections, its numbers rise and have a bound, and each
     /// connection is at one place at most. It does nothing.
-    #[tactic(auto, using(crate::proofs::Soundness::numbered))]
+    #[tactic(auto, using(sqlx_member::proofs::Soundness::numbered))]
     pub fn bounds(&self)
         ensures bounded { IsBounded self.now }
         ensures numbered { IsNumbered self.now }

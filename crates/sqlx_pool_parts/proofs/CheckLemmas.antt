@@ -2,11 +2,11 @@
 use Rattle.std.proofs.Common.{◌≡◌, ◌⊎◌, ℕ, Bool, inl, inr}
 use Rattle.sqlx_text.specs.declared.error.Error.{Error}
 use Rattle.sqlx_text.specs.declared.error.Error.TheVariants as error
-use Rattle.sqlx_pool_core.specs.declared.idle_check.Opening.{Opening}
-use Rattle.sqlx_pool_core.specs.declared.idle_check.Opening.TheVariants as opening
-use Rattle.sqlx_pool_core.specs.Calls.{Call, Facts}
-use Rattle.sqlx_pool_core.specs.Chain.{Tries}
-use Rattle.sqlx_pool_core.specs.Outside.{HasRisen}
+use Rattle.sqlx_member.specs.declared.idle_check.Opening.{Opening}
+use Rattle.sqlx_member.specs.declared.idle_check.Opening.TheVariants as opening
+use Rattle.sqlx_member.specs.Calls.{Call, Facts}
+use Rattle.sqlx_member.specs.Chain.{Tries}
+use Rattle.sqlx_member.specs.Outside.{HasRisen}
 use Rattle.sqlx_pool_core.proofs.KeepEnds.{unopened}
 use Rattle.sqlx_pool_core.proofs.PollEnds.{tries-cause}
 use Rattle.sqlx_pool_parts.specs.Opened.{IfUnopened, IsCounted}

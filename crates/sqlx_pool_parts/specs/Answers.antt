@@ -3,18 +3,18 @@ use Rattle.std.specs.Prelude.{◌≡◌, ℕ, ◌+◌, ⊤, Bool, true, false, L
 use Rattle.std.specs.List.{list_any}
 use Rattle.sqlx_log.specs.declared.mark.Mark.{Mark}
 use Rattle.sqlx_log.specs.Marks.{is_open, is_shut, next_ticket}
-use Rattle.sqlx_pool_core.specs.Core.{Core}
-use Rattle.sqlx_pool_core.specs.declared.steps.Lent.{Lent}
-use Rattle.sqlx_pool_core.specs.declared.steps.Verdict.{Verdict}
-use Rattle.sqlx_pool_core.specs.declared.ticket.Phase.{Phase}
-use Rattle.sqlx_pool_core.specs.PollSteps.{judged, may_test_next, serve_marks, test_answer, tested_at}
+use Rattle.sqlx_pool_lists.specs.Core.{Core}
+use Rattle.sqlx_pool_lists.specs.declared.steps.Lent.{Lent}
+use Rattle.sqlx_pool_lists.specs.declared.steps.Verdict.{Verdict}
+use Rattle.sqlx_pool_lists.specs.declared.ticket.Phase.{Phase}
+use Rattle.sqlx_pool_lists.specs.PollSteps.{judged, may_test_next, serve_marks, test_answer, tested_at}
 use Rattle.sqlx_pool_parts.specs.State.{PoolState}
-use Rattle.sqlx_pool_core.specs.declared.steps.AfterTest.{AfterTest}
-use Rattle.sqlx_pool_core.specs.declared.steps.AfterTest.TheVariants as tested
-use Rattle.sqlx_pool_core.specs.declared.steps.Tried.{Tried}
-use Rattle.sqlx_pool_core.specs.declared.steps.Tried.TheVariants as tried
-use Rattle.sqlx_pool_core.specs.declared.steps.AfterConnect.{AfterConnect}
-use Rattle.sqlx_pool_core.specs.declared.steps.AfterConnect.TheVariants as connected
+use Rattle.sqlx_pool_lists.specs.declared.steps.AfterTest.{AfterTest}
+use Rattle.sqlx_pool_lists.specs.declared.steps.AfterTest.TheVariants as tested
+use Rattle.sqlx_pool_lists.specs.declared.steps.Tried.{Tried}
+use Rattle.sqlx_pool_lists.specs.declared.steps.Tried.TheVariants as tried
+use Rattle.sqlx_pool_lists.specs.declared.steps.AfterConnect.{AfterConnect}
+use Rattle.sqlx_pool_lists.specs.declared.steps.AfterConnect.TheVariants as connected
 
 -- the ticket of an ask: it is the one that comes next, and the pool is open
 abbrev pub IsNextTicket : {C O : Type 0} → ℕ → PoolState C O → Type 0

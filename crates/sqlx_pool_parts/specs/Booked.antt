@@ -1,6 +1,6 @@
 -- What the books of a pool and a tally of its loans come to.
 use Rattle.std.specs.Prelude.{◌≡◌, ℕ, ◌+◌, Bool}
-use Rattle.sqlx_pool_core.specs.Balance.{one_if}
+use Rattle.sqlx_pool_lists.specs.Balance.{one_if}
 
 -- How many connections have an owner, and how many loans were ever made.
 pub record Booked : Type 0 where

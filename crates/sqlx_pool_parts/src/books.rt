@@ -1,6 +1,6 @@
 //! The two books of a pool: how many connections are held, and how many loans were made.
 ghost use Rattle.std.specs.Prelude.{◌≡◌, ℕ, ◌+◌, ◌^◌, ◌<◌, ◌≤◌, false, is_some, not, true};
-ghost use Rattle.sqlx_pool_core.specs.Balance.{one_if};
+ghost use Rattle.sqlx_pool_lists.specs.Balance.{one_if};
 ghost use Rattle.sqlx_pool_parts.specs.Booked.{Booked, Tallied, CountsIf};
 
 use crate::{Held, Loans, Tally};

@@ -1,8 +1,8 @@
 //! The hooks of a pool, by a type that answers for all of them.
 
 ghost use Rattle.std.specs.Prelude.{◌≡◌, ◌≤◌, ℕ, is_err};
-ghost use Rattle.sqlx_pool_core.specs.Calls.{IsCounted};
-ghost use Rattle.sqlx_pool_core.specs.Outside.{declines};
+ghost use Rattle.sqlx_member.specs.Calls.{IsCounted};
+ghost use Rattle.sqlx_member.specs.Outside.{declines};
 
 use sqlx_pool_core::PoolConnectionMetadata;
 use sqlx_text::{Depth, Error};

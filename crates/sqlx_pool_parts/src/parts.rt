@@ -1,7 +1,7 @@
 //! The outside of a database's pool, of a connector and hooks.
 
 ghost use Rattle.std.specs.Prelude.{◌≡◌, ◌+◌, ◌≤◌, ℕ};
-ghost use Rattle.sqlx_pool_core.specs.Calls as call;
+ghost use Rattle.sqlx_member.specs.Calls as call;
 
 use crate::Hooks;
 use sqlx_pool_core::{Outside, PoolConnectionMetadata};

@@ -1,11 +1,11 @@
 //! The marks of the pool's steps, written behind its log, where memory was reserved for them.
 ghost use Rattle.std.specs.Prelude.{◌≡◌, ◌+◌, ◌*◌, ◌^◌, ◌<◌, ◌≤◌, List, [], ◌∷◌, ◌++◌, false, true, length, vec_capacity, Option, Some, None, if◌then◌else◌};
 ghost use Rattle.sqlx_log.specs.declared.mark.Mark.{Mark};
-ghost use Rattle.sqlx_pool_core.specs.declared.ticket.Phase.{Phase};
-ghost use Rattle.sqlx_pool_core.specs.Balance.{marks_due, one_if};
-ghost use Rattle.sqlx_pool_core.specs.PollSteps.{start_marks, test_marks, connect_marks};
-ghost use Rattle.sqlx_pool_core.specs.ReturnSteps.{give_marks};
-ghost use Rattle.sqlx_pool_core.specs.MaintenanceSteps.{close_marks, reap_marks};
+ghost use Rattle.sqlx_pool_lists.specs.declared.ticket.Phase.{Phase};
+ghost use Rattle.sqlx_pool_lists.specs.Balance.{marks_due, one_if};
+ghost use Rattle.sqlx_pool_lists.specs.PollSteps.{start_marks, test_marks, connect_marks};
+ghost use Rattle.sqlx_member.specs.ReturnSteps.{give_marks};
+ghost use Rattle.sqlx_pool_lists.specs.MaintenanceSteps.{close_marks, reap_marks};
 
 use sqlx_pool_core::{AfterConnect, AfterTest, Given, Idle, Mark, PoolCore, Start};
 use std::collections::VecDeque;

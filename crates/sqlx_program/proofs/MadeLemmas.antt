@@ -7,7 +7,7 @@ use Rattle.sqlx_script.specs.Grammar.{Script, IsScript, script_of}
 use Rattle.sqlx_rules.specs.Answer.{report_of}
 use Rattle.sqlx_rules.specs.Pairs.{Pairs}
 use Rattle.sqlx_rules.specs.Output.{pairs_of, reply_line, output_of}
-use Rattle.sqlx_pool_core.specs.Core.{Core}
+use Rattle.sqlx_pool_lists.specs.Core.{Core}
 use Rattle.mem_store.specs.Store.{Store, Link}
 use Rattle.sqlx_made.specs.Made.{made_text}
 use Rattle.sqlx_made.specs.Summary.{summary_text}

@@ -1,7 +1,7 @@
 //! What a crowd's worker has of the outside: connections to one store in memory, written for their type alone.
 
 ghost use Rattle.std.specs.Prelude.{◌≡◌};
-ghost use Rattle.sqlx_pool_core.specs.Calls as call;
+ghost use Rattle.sqlx_member.specs.Calls as call;
 
 use shared_mem_driver::{SharedMemConnection, SharedMemConnector};
 use sqlx_any::{AnyConnectOptions, AnyConnection};

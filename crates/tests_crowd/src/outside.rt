@@ -2,7 +2,7 @@
 //! connects.
 
 ghost use Rattle.std.specs.Prelude.{◌≡◌, IfOk, vec_len};
-ghost use Rattle.sqlx_pool_core.specs.Calls as call;
+ghost use Rattle.sqlx_member.specs.Calls as call;
 
 use mem_driver::MemStore;
 use shared_mem_driver::{SharedMemConnection, SharedMemConnector};

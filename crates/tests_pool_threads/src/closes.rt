@@ -1,7 +1,7 @@
 //! A pool that is closed while a poll connects, and while it pings.
 
 ghost use Rattle.std.specs.Prelude.{◌≡◌, ◌^◌, ◌<◌};
-ghost use Rattle.sqlx_pool_core.specs.Calls as call;
+ghost use Rattle.sqlx_member.specs.Calls as call;
 
 use crate::clients::*;
 use crate::outside::{Conn, Counts, new_counts};

@@ -2,14 +2,14 @@
 
 ghost use Rattle.std.specs.Prelude.{◌≡◌, ℕ, ◌<◌, true, length};
 ghost use Rattle.sqlx_log.specs.declared.mark.Mark.{Mark};
-ghost use Rattle.sqlx_pool_core.specs.Balance.{Balance};
-ghost use Rattle.sqlx_pool_core.specs.MaintenanceSteps.{close_marks, close_answer, closed_from, close_state};
+ghost use Rattle.sqlx_pool_lists.specs.Balance.{Balance};
+ghost use Rattle.sqlx_pool_lists.specs.MaintenanceSteps.{close_marks, close_answer, closed_from, close_state};
 ghost use Rattle.sqlx_family.specs.Pools.{pool_in, with_pool, counts_as_closed, entry_of};
 ghost use Rattle.sqlx_family.specs.Permits.{retiring, settled};
 ghost use Rattle.sqlx_family.specs.FamilyLogs.{FamilyLogs};
 
 use super::Family;
-use sqlx_pool_core::{CloseState, Idle};
+use sqlx_pool_lists::{CloseState, Idle};
 use std::collections::VecDeque;
 
 impl<C> Family<C> {

@@ -1,14 +1,14 @@
 //! How many connections, tickets and places a pool of a family has, and what a step would find.
 
 ghost use Rattle.std.specs.Prelude.{◌≡◌, ◌<◌, length, is_some};
-ghost use Rattle.sqlx_pool_core.specs.Core.{loan_of, size};
-ghost use Rattle.sqlx_pool_core.specs.Balance.{marks_due};
-ghost use Rattle.sqlx_pool_core.specs.PollSteps.{phase_for, is_in_line, try_lent};
+ghost use Rattle.sqlx_pool_lists.specs.Core.{loan_of, size};
+ghost use Rattle.sqlx_pool_lists.specs.Balance.{marks_due};
+ghost use Rattle.sqlx_pool_lists.specs.PollSteps.{phase_for, is_in_line, try_lent};
 ghost use Rattle.sqlx_family.specs.Pools.{pool_in};
 ghost use Rattle.sqlx_family.specs.RootLine.{passes_in};
 
 use super::Family;
-use sqlx_pool_core::{Numbers, PoolOptions};
+use sqlx_pool_lists::{Numbers, PoolOptions};
 
 impl<C> Family<C> {
     /// How a pool was set up.

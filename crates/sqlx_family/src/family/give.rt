@@ -3,17 +3,17 @@
 ghost use Rattle.std.specs.Prelude.{◌≡◌, ℕ, ◌<◌, is_some, length};
 ghost use Rattle.sqlx_log.specs.declared.mark.Mark.{Mark};
 ghost use Rattle.sqlx_log.specs.EventTable.{closes};
-ghost use Rattle.sqlx_pool_core.specs.Core.{loan_of};
-ghost use Rattle.sqlx_pool_core.specs.Limits.{limits_of};
-ghost use Rattle.sqlx_pool_core.specs.Balance.{Balance, given_back, one_if};
-ghost use Rattle.sqlx_pool_core.specs.Logs.{moment_of};
-ghost use Rattle.sqlx_pool_core.specs.ReturnSteps.{give_answer, give_marks, core_after_give, end_marks, detach_marks, leak_marks, released, leaked};
+ghost use Rattle.sqlx_pool_lists.specs.Core.{loan_of};
+ghost use Rattle.sqlx_pool_lists.specs.Limits.{limits_of};
+ghost use Rattle.sqlx_pool_lists.specs.Balance.{Balance, given_back, one_if};
+ghost use Rattle.sqlx_member.specs.Logs.{moment_of};
+ghost use Rattle.sqlx_member.specs.ReturnSteps.{give_answer, give_marks, core_after_give, end_marks, detach_marks, leak_marks, released, leaked};
 ghost use Rattle.sqlx_family.specs.Pools.{pool_in, with_pool, counts_as_closed, entry_of};
 ghost use Rattle.sqlx_family.specs.Permits.{stepped};
 ghost use Rattle.sqlx_family.specs.FamilyLogs.{FamilyLogs};
 
 use super::Family;
-use sqlx_pool_core::{Given, Lent};
+use sqlx_pool_lists::{Given, Lent};
 use sqlx_text::Moment;
 
 impl<C> Family<C> {

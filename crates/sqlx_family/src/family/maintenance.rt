@@ -2,16 +2,16 @@
 
 ghost use Rattle.std.specs.Prelude.{◌≡◌, ℕ, ◌<◌, ◌≤◌, max, [], Option, length};
 ghost use Rattle.sqlx_log.specs.declared.mark.Mark.{Mark};
-ghost use Rattle.sqlx_pool_core.specs.Balance.{Balance, place_room};
-ghost use Rattle.sqlx_pool_core.specs.Logs.{moment_of};
-ghost use Rattle.sqlx_pool_core.specs.MaintenanceSteps.{reap_answer, reap_marks, reaped, has_place_if, placed, handed_back, done_marks, done};
+ghost use Rattle.sqlx_pool_lists.specs.Balance.{Balance, place_room};
+ghost use Rattle.sqlx_member.specs.Logs.{moment_of};
+ghost use Rattle.sqlx_pool_lists.specs.MaintenanceSteps.{reap_answer, reap_marks, reaped, has_place_if, placed, handed_back, done_marks, done};
 ghost use Rattle.sqlx_family.specs.RootLine.{passes_in};
 ghost use Rattle.sqlx_family.specs.Pools.{pool_in, with_pool, counts_as_closed, entry_of};
 ghost use Rattle.sqlx_family.specs.Permits.{stepped};
 ghost use Rattle.sqlx_family.specs.FamilyLogs.{FamilyLogs};
 
 use super::Family;
-use sqlx_pool_core::Idle;
+use sqlx_pool_lists::Idle;
 use sqlx_text::Moment;
 
 impl<C> Family<C> {

@@ -1,7 +1,7 @@
 //! Closing a pool, and retiring a child.
 
 ghost use Rattle.std.specs.Prelude.{◌≡◌, ℕ, ◌+◌, [], true};
-ghost use Rattle.sqlx_pool_core.specs.MaintenanceSteps.{close_marks, close_answer, closed_from};
+ghost use Rattle.sqlx_pool_lists.specs.MaintenanceSteps.{close_marks, close_answer, closed_from};
 ghost use Rattle.sqlx_family.specs.Pools.{pool_in, with_pool};
 ghost use Rattle.sqlx_family.specs.Permits.{retiring, settled};
 ghost use Rattle.sqlx_family_pool.specs.FamilyState.{IsNamed, IsUnnamed, with_made};

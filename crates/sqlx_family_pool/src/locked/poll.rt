@@ -1,13 +1,13 @@
 //! The steps of a poll.
 
 ghost use Rattle.std.specs.Prelude.{◌≡◌, ℕ, ◌+◌, ◌^◌, ◌<◌, ◌≤◌, is_some, false};
-ghost use Rattle.sqlx_pool_core.specs.declared.steps.Start.{Start};
-ghost use Rattle.sqlx_pool_core.specs.declared.steps.AfterTest.{AfterTest};
-ghost use Rattle.sqlx_pool_core.specs.declared.steps.AfterConnect.{AfterConnect};
-ghost use Rattle.sqlx_pool_core.specs.Core.{ticket_of};
-ghost use Rattle.sqlx_pool_core.specs.Logs.{moment_of};
-ghost use Rattle.sqlx_pool_core.specs.PollSteps.{phase_for, judged, start_marks, verdict_answer, test_marks, after_test, connect_answer, connect_marks, after_connect};
-ghost use Rattle.sqlx_pool_core.specs.PollSteps.{may_cancel, cancel_marks, cancelled};
+ghost use Rattle.sqlx_pool_lists.specs.declared.steps.Start.{Start};
+ghost use Rattle.sqlx_pool_lists.specs.declared.steps.AfterTest.{AfterTest};
+ghost use Rattle.sqlx_pool_lists.specs.declared.steps.AfterConnect.{AfterConnect};
+ghost use Rattle.sqlx_pool_lists.specs.Core.{ticket_of};
+ghost use Rattle.sqlx_member.specs.Logs.{moment_of};
+ghost use Rattle.sqlx_pool_lists.specs.PollSteps.{phase_for, judged, start_marks, verdict_answer, test_marks, after_test, connect_answer, connect_marks, after_connect};
+ghost use Rattle.sqlx_pool_lists.specs.PollSteps.{may_cancel, cancel_marks, cancelled};
 ghost use Rattle.sqlx_pool_core.specs.PollParts.{IfAccepted};
 ghost use Rattle.sqlx_family.specs.Pools.{pool_in};
 ghost use Rattle.sqlx_family.specs.Permits.{stepped};

@@ -3,9 +3,9 @@
 ghost use Rattle.std.specs.Prelude.{◌≡◌, ◌<◌, ◌≤◌, Bool, true, false, List, [], IfOk, length, max, nat_lt};
 ghost use Rattle.sqlx_log.specs.FairLog.{IsSafe};
 ghost use Rattle.sqlx_log.specs.EventTable.{closes};
-ghost use Rattle.sqlx_pool_core.specs.Core.{size};
-ghost use Rattle.sqlx_pool_core.specs.Limits.{limits_of};
-ghost use Rattle.sqlx_pool_core.specs.Logs.{moment_of};
+ghost use Rattle.sqlx_pool_lists.specs.Core.{size};
+ghost use Rattle.sqlx_pool_lists.specs.Limits.{limits_of};
+ghost use Rattle.sqlx_member.specs.Logs.{moment_of};
 ghost use Rattle.sqlx_family.specs.Pools.{pool_in, counts_as_closed};
 ghost use Rattle.sqlx_family.specs.Permits.{owned_by};
 ghost use Rattle.sqlx_family.specs.IsFamily.{IsFamily};

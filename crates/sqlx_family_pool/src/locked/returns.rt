@@ -1,11 +1,11 @@
 //! The steps that end a loan. Each takes the share of the connection, and hands it back where nothing ended.
 
 ghost use Rattle.std.specs.Prelude.{◌≡◌, ℕ, ◌+◌, true, false, not, is_some};
-ghost use Rattle.sqlx_pool_core.specs.declared.steps.Given.{Given};
+ghost use Rattle.sqlx_pool_lists.specs.declared.steps.Given.{Given};
 ghost use Rattle.sqlx_pool_core.specs.Answers.{is_kept, is_held};
-ghost use Rattle.sqlx_pool_core.specs.Core.{loan_of};
-ghost use Rattle.sqlx_pool_core.specs.Logs.{moment_of};
-ghost use Rattle.sqlx_pool_core.specs.ReturnSteps.{give_answer, give_marks, end_marks, detach_marks, leak_marks, released, leaked};
+ghost use Rattle.sqlx_pool_lists.specs.Core.{loan_of};
+ghost use Rattle.sqlx_member.specs.Logs.{moment_of};
+ghost use Rattle.sqlx_member.specs.ReturnSteps.{give_answer, give_marks, end_marks, detach_marks, leak_marks, released, leaked};
 ghost use Rattle.sqlx_family.specs.Pools.{pool_in, with_pool};
 ghost use Rattle.sqlx_family.specs.Permits.{stepped};
 ghost use Rattle.sqlx_family_pool.specs.FamilyState.{IsNamed, IsUnnamed, with_made};

@@ -10,10 +10,10 @@ use Rattle.sqlx_text.specs.declared.Moment.{Moment}
 use Rattle.sqlx_log.specs.declared.mark.Mark.{Mark}
 use Rattle.sqlx_log.specs.declared.mark.Mark.TheVariants as mark
 use Rattle.sqlx_log.specs.Marks.{is_shut, is_open, next_ticket}
-use Rattle.sqlx_pool_core.specs.Core.{Core}
-use Rattle.sqlx_pool_core.specs.Edits.{at_moment, asked}
-use Rattle.sqlx_pool_core.specs.StandsFor.{StandsFor}
-use Rattle.sqlx_pool_core.specs.Makes.{Makes}
+use Rattle.sqlx_pool_lists.specs.Core.{Core}
+use Rattle.sqlx_pool_lists.specs.Edits.{at_moment, asked}
+use Rattle.sqlx_pool_lists.specs.StandsFor.{StandsFor}
+use Rattle.sqlx_pool_lists.specs.Makes.{Makes}
 use Rattle.sqlx_script.specs.declared.step.Event.{Event}
 use Rattle.sqlx_script.specs.declared.step.Step.TheVariants.{Ask}
 use Rattle.sqlx_script.specs.declared.reply.Reply.{Reply}
@@ -24,7 +24,7 @@ use Rattle.sqlx_play.specs.stage.LinksStand.{LinksStand}
 use Rattle.sqlx_rules.specs.ScriptLevels.{history_of}
 use Rattle.sqlx_rules.specs.Tries.{tries_of}
 use Rattle.sqlx_script.specs.declared.pool_line.PoolLine.{PoolLine}
-use Rattle.sqlx_pool_core.specs.declared.options.PoolOptions.{PoolOptions}
+use Rattle.sqlx_pool_lists.specs.declared.options.PoolOptions.{PoolOptions}
 use Rattle.mem_store.specs.Store.{Link}
 use Rattle.sqlx_rules.specs.ScriptMarks.{marks_of}
 use Rattle.sqlx_rules.proofs.Pairs.{marks_of-push, tries_of-push, history_of-push}

@@ -3,21 +3,21 @@ use Rattle.std.proofs.Common.{◌≡◌, ℕ, ◌≤◌, Bool, true, false, cond
 use Rattle.sqlx_text.specs.declared.Moment.{Moment}
 use Rattle.sqlx_log.specs.declared.mark.Mark.{Mark}
 use Rattle.sqlx_log.specs.declared.mark.Mark.TheVariants as mark
-use Rattle.sqlx_pool_core.specs.declared.ticket.Ticket.{Ticket}
-use Rattle.sqlx_pool_core.specs.declared.ticket.Phase.{Phase}
-use Rattle.sqlx_pool_core.specs.declared.ticket.Phase.TheVariants as phase
-use Rattle.sqlx_pool_core.specs.declared.steps.Lent.{Lent}
-use Rattle.sqlx_pool_core.specs.declared.steps.Idle.{Idle}
+use Rattle.sqlx_pool_lists.specs.declared.ticket.Ticket.{Ticket}
+use Rattle.sqlx_pool_lists.specs.declared.ticket.Phase.{Phase}
+use Rattle.sqlx_pool_lists.specs.declared.ticket.Phase.TheVariants as phase
+use Rattle.sqlx_pool_lists.specs.declared.steps.Lent.{Lent}
+use Rattle.sqlx_pool_lists.specs.declared.steps.Idle.{Idle}
 use Rattle.sqlx_log.specs.Marks.{tickets_of, idle_of}
 use Rattle.sqlx_log.specs.Counts.{asked_in}
-use Rattle.sqlx_pool_core.specs.Core.{Core, resting, asking, ticket_of, waiting, free}
-use Rattle.sqlx_pool_core.specs.Edits.{at_moment, core_without_ticket, lent_to, core_without_first}
+use Rattle.sqlx_pool_lists.specs.Core.{Core, resting, asking, ticket_of, waiting, free}
+use Rattle.sqlx_pool_lists.specs.Edits.{at_moment, core_without_ticket, lent_to, core_without_first}
 use Rattle.sqlx_log.specs.EventTable.{may_pass}
-use Rattle.sqlx_pool_core.specs.PollSteps.{phase_for, may_cancel, try_lent}
-use Rattle.sqlx_pool_core.specs.Makes.{Makes}
-use Rattle.sqlx_pool_core.proofs.Fair.{makes-nothing}
-use Rattle.sqlx_pool_core.proofs.Stands.{stands-in}
-use Rattle.sqlx_pool_core.proofs.TurnAtMarks.{waiting-stands}
+use Rattle.sqlx_pool_lists.specs.PollSteps.{phase_for, may_cancel, try_lent}
+use Rattle.sqlx_pool_lists.specs.Makes.{Makes}
+use Rattle.sqlx_member.proofs.Fair.{makes-nothing}
+use Rattle.sqlx_member.proofs.Stands.{stands-in}
+use Rattle.sqlx_member.proofs.TurnAtMarks.{waiting-stands}
 use Rattle.mem_store.specs.Store.{Link}
 use Rattle.sqlx_script.specs.declared.step.Event.{Event}
 use Rattle.sqlx_script.specs.declared.step.Step.TheVariants.{Cancel, Try}

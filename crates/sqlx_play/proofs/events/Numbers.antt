@@ -1,11 +1,11 @@
 -- What is found in a core, by what callers know of its numbers: a ticket is the only one of its number, and a connection is at one place.
 use Rattle.std.proofs.Common.{◌≡◌, ℕ, ◌≤◌, ◌<◌, ◌⊎◌, ◌==◌, Some, count_by, inl, inr, arith}
 use Rattle.std.proofs.lemmas.Bool.{eqb-true, and_parts, cases_lt}
-use Rattle.sqlx_pool_core.specs.declared.ticket.Ticket.{Ticket}
-use Rattle.sqlx_pool_core.specs.declared.ticket.OwnedConn.{OwnedConn}
-use Rattle.sqlx_pool_core.specs.Core.{Core, is_of, ticket_of, is_held_by, loan_of}
-use Rattle.sqlx_pool_core.specs.Sound.{IsNumbered, tests, holds, rests, places_of}
-use Rattle.sqlx_pool_core.proofs.Known.{IsOnly, ticket-number, ticket-only, rising_below}
+use Rattle.sqlx_pool_lists.specs.declared.ticket.Ticket.{Ticket}
+use Rattle.sqlx_pool_lists.specs.declared.ticket.OwnedConn.{OwnedConn}
+use Rattle.sqlx_pool_lists.specs.Core.{Core, is_of, ticket_of, is_held_by, loan_of}
+use Rattle.sqlx_pool_lists.specs.Sound.{IsNumbered, tests, holds, rests, places_of}
+use Rattle.sqlx_member.proofs.Known.{IsOnly, ticket-number, ticket-only, rising_below}
 use Rattle.sqlx_log.proofs.ListFacts.{found_passes, found_All, found_counts}
 
 module _ {C : Type 0} (core : Core C) (sound : IsNumbered core) where

@@ -1,7 +1,7 @@
 -- The limits of a core's options are those that a script's first line sets.
 use Rattle.std.proofs.Common.{◌≡◌, sym}
-use Rattle.sqlx_pool_core.specs.declared.options.PoolOptions.{PoolOptions}
-use Rattle.sqlx_pool_core.specs.Limits.{limits_of}
+use Rattle.sqlx_pool_lists.specs.declared.options.PoolOptions.{PoolOptions}
+use Rattle.sqlx_pool_lists.specs.Limits.{limits_of}
 use Rattle.sqlx_script.specs.declared.pool_line.PoolLine.{PoolLine}
 use Rattle.sqlx_rules.specs.ScriptMarks.{line_limits}
 use Rattle.sqlx_play.specs.stage.StageStands.{IsSetUp}

@@ -1,9 +1,9 @@
 -- Parts of an event, one behind the other, and the stage behind the whole event.
 use Rattle.std.proofs.Common.{◌≡◌, ℕ, ◌≤◌, List, [], ◌∷◌, ◌++◌, All, refl, sym, subst, ◌∙◌}
 use Rattle.sqlx_log.specs.declared.mark.Mark.{Mark}
-use Rattle.sqlx_pool_core.specs.Makes.{Makes}
-use Rattle.sqlx_pool_core.proofs.Fair.{makes-nothing}
-use Rattle.sqlx_pool_core.proofs.Fair.{makes-then}
+use Rattle.sqlx_pool_lists.specs.Makes.{Makes}
+use Rattle.sqlx_member.proofs.Fair.{makes-nothing}
+use Rattle.sqlx_member.proofs.Fair.{makes-then}
 use Rattle.sqlx_script.specs.declared.pool_line.PoolLine.{PoolLine}
 use Rattle.sqlx_script.specs.declared.step.Event.{Event}
 use Rattle.sqlx_script.specs.declared.reply.Reply.{Reply}

@@ -1,9 +1,9 @@
 -- Tickets whose tries stay stand as they stood.
 use Rattle.std.proofs.Common.{◌≡◌, ℕ, List, [], ◌∷◌, ◌++◌, All, ◌∙◌}
 use Rattle.std.proofs.lemmas.List.Elements.{All-weaker}
-use Rattle.sqlx_pool_core.specs.declared.ticket.Ticket.{Ticket}
-use Rattle.sqlx_pool_core.specs.declared.ticket.Phase.{Phase}
-use Rattle.sqlx_pool_core.specs.declared.ticket.Phase.TheVariants as phase
+use Rattle.sqlx_pool_lists.specs.declared.ticket.Ticket.{Ticket}
+use Rattle.sqlx_pool_lists.specs.declared.ticket.Phase.{Phase}
+use Rattle.sqlx_pool_lists.specs.declared.ticket.Phase.TheVariants as phase
 use Rattle.sqlx_script.specs.declared.step.Event.{Event}
 use Rattle.sqlx_script.specs.declared.reply.Reply.{Reply}
 use Rattle.sqlx_rules.specs.Tries.{tries_of}

@@ -2,8 +2,8 @@
 use Rattle.std.proofs.Common.{◌≡◌, ℕ, List, [], ◌∷◌, ◌++◌, sym, ap, subst, ◌∙◌, append-nil}
 use Rattle.mem_store.specs.Store.{Link}
 use Rattle.sqlx_log.specs.declared.mark.Mark.{Mark}
-use Rattle.sqlx_pool_core.specs.Core.{Core}
-use Rattle.sqlx_pool_core.specs.StandsFor.{StandsFor}
+use Rattle.sqlx_pool_lists.specs.Core.{Core}
+use Rattle.sqlx_pool_lists.specs.StandsFor.{StandsFor}
 use Rattle.sqlx_script.specs.declared.step.Event.{Event}
 use Rattle.sqlx_script.specs.declared.reply.Reply.{Reply}
 use Rattle.sqlx_play.specs.declared.stage.Stage.{Stage}

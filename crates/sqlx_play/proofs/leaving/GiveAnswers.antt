@@ -2,19 +2,19 @@
 use Rattle.std.proofs.Common.{◌≡◌, ℕ, ◌==◌, ◌&&◌, ◌||◌, Bool, true, false, cond, not, List, find, is_some, Option, Some, None, refl, sym, ap, ◌∙◌}
 use Rattle.std.proofs.lemmas.Bool.{eqb-true, and_parts}
 use Rattle.sqlx_log.specs.declared.mark.Mark.{Mark}
-use Rattle.sqlx_pool_core.specs.declared.options.PoolOptions.{PoolOptions}
-use Rattle.sqlx_pool_core.specs.declared.ticket.OwnedConn.{OwnedConn}
-use Rattle.sqlx_pool_core.specs.declared.steps.Lent.{Lent}
-use Rattle.sqlx_pool_core.specs.declared.steps.Given.{Given}
-use Rattle.sqlx_pool_core.specs.declared.steps.Given.TheVariants as given
-use Rattle.sqlx_pool_core.specs.Core.{Core, loan_of, is_held_by}
-use Rattle.sqlx_pool_core.specs.Sound.{IsNumbered, rests}
+use Rattle.sqlx_pool_lists.specs.declared.options.PoolOptions.{PoolOptions}
+use Rattle.sqlx_pool_lists.specs.declared.ticket.OwnedConn.{OwnedConn}
+use Rattle.sqlx_pool_lists.specs.declared.steps.Lent.{Lent}
+use Rattle.sqlx_pool_lists.specs.declared.steps.Given.{Given}
+use Rattle.sqlx_pool_lists.specs.declared.steps.Given.TheVariants as given
+use Rattle.sqlx_pool_lists.specs.Core.{Core, loan_of, is_held_by}
+use Rattle.sqlx_pool_lists.specs.Sound.{IsNumbered, rests}
 use Rattle.sqlx_log.specs.Marks.{owner_of, opened_at}
 use Rattle.sqlx_log.specs.EventTable.{is_old_since, closes}
-use Rattle.sqlx_pool_core.specs.Limits.{limits_of}
-use Rattle.sqlx_pool_core.specs.ReturnSteps.{give_answer}
+use Rattle.sqlx_pool_lists.specs.Limits.{limits_of}
+use Rattle.sqlx_member.specs.ReturnSteps.{give_answer}
 use Rattle.sqlx_log.specs.Born.{IsBorn}
-use Rattle.sqlx_pool_core.specs.StandsFor.{StandsFor}
+use Rattle.sqlx_pool_lists.specs.StandsFor.{StandsFor}
 use Rattle.sqlx_log.proofs.ListFacts.{found_passes, found_All}
 use Rattle.mem_store.specs.Store.{Store, Link}
 use Rattle.sqlx_script.specs.declared.answers.GiveAnswers.{GiveAnswers}

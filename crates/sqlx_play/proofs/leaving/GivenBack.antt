@@ -2,24 +2,24 @@
 use Rattle.std.proofs.Common.{◌≡◌, ℕ, ◌≤◌, ◌==◌, max, Bool, true, false, not, ◌&&◌, ◌||◌, cond, Option, Some, None, Result, Ok, Err, is_ok, if◌then◌else◌, refl, sym, ap, subst, ◌∙◌, arith}
 use Rattle.std.proofs.lemmas.Bool.{eqb-true, eqb-false, ne_eqb}
 use Rattle.sqlx_text.specs.declared.error.Error.{Error}
-use Rattle.sqlx_pool_core.specs.declared.outside.PoolConnectionMetadata.{PoolConnectionMetadata}
-use Rattle.sqlx_pool_core.specs.declared.idle_check.Check.{Check}
-use Rattle.sqlx_pool_core.specs.declared.idle_check.Check.TheVariants as check
-use Rattle.sqlx_pool_core.specs.declared.steps.Given.{Given}
-use Rattle.sqlx_pool_core.specs.declared.steps.Given.TheVariants as given
-use Rattle.sqlx_pool_core.specs.declared.steps.Lent.{Lent}
-use Rattle.sqlx_pool_core.specs.declared.steps.Returned.{Returned}
-use Rattle.sqlx_pool_core.specs.declared.steps.Returned.TheVariants as word
-use Rattle.sqlx_pool_core.specs.declared.ticket.OwnedConn.{OwnedConn}
-use Rattle.sqlx_pool_core.specs.Chain.{check_by}
-use Rattle.sqlx_pool_core.specs.Core.{Core, loan_of}
-use Rattle.sqlx_pool_core.specs.Giving.{is_pass, returned_by, back_meta, Releases, PingsIf, Returns, Ends, TestsIf, Gives, GivesBack}
-use Rattle.sqlx_pool_core.specs.Limits.{limits_of}
-use Rattle.sqlx_pool_core.specs.Logs.{Logs}
-use Rattle.sqlx_pool_core.specs.Outside.{says_yes}
-use Rattle.sqlx_pool_core.specs.StandsFor.{StandsFor}
-use Rattle.sqlx_pool_core.specs.ReturnSteps.{give_answer, give_marks, core_after_give}
-use Rattle.sqlx_pool_core.proofs.Fair.{makes-nothing}
+use Rattle.sqlx_member.specs.declared.outside.PoolConnectionMetadata.{PoolConnectionMetadata}
+use Rattle.sqlx_member.specs.declared.idle_check.Check.{Check}
+use Rattle.sqlx_member.specs.declared.idle_check.Check.TheVariants as check
+use Rattle.sqlx_pool_lists.specs.declared.steps.Given.{Given}
+use Rattle.sqlx_pool_lists.specs.declared.steps.Given.TheVariants as given
+use Rattle.sqlx_pool_lists.specs.declared.steps.Lent.{Lent}
+use Rattle.sqlx_pool_lists.specs.declared.steps.Returned.{Returned}
+use Rattle.sqlx_pool_lists.specs.declared.steps.Returned.TheVariants as word
+use Rattle.sqlx_pool_lists.specs.declared.ticket.OwnedConn.{OwnedConn}
+use Rattle.sqlx_member.specs.Chain.{check_by}
+use Rattle.sqlx_pool_lists.specs.Core.{Core, loan_of}
+use Rattle.sqlx_member.specs.Giving.{is_pass, returned_by, back_meta, Releases, PingsIf, Returns, Ends, TestsIf, Gives, GivesBack}
+use Rattle.sqlx_pool_lists.specs.Limits.{limits_of}
+use Rattle.sqlx_member.specs.Logs.{Logs}
+use Rattle.sqlx_member.specs.Outside.{says_yes}
+use Rattle.sqlx_pool_lists.specs.StandsFor.{StandsFor}
+use Rattle.sqlx_member.specs.ReturnSteps.{give_answer, give_marks, core_after_give}
+use Rattle.sqlx_member.proofs.Fair.{makes-nothing}
 use Rattle.sqlx_log.specs.EventTable.{closes}
 use Rattle.sqlx_script.specs.declared.answers.GiveAnswers.{GiveAnswers}
 use Rattle.sqlx_script.specs.Built.{accepts}

@@ -3,19 +3,19 @@ use Rattle.std.proofs.Common.{◌≡◌, ℕ, ◌≤◌, ◌==◌, ◌&&◌, ◌
 use Rattle.std.proofs.lemmas.Bool.{eqb-true, and_parts}
 use Rattle.sqlx_log.specs.declared.mark.Mark.{Mark}
 use Rattle.sqlx_log.specs.declared.mark.Mark.TheVariants as mark
-use Rattle.sqlx_pool_core.specs.declared.steps.Lent.{Lent}
-use Rattle.sqlx_pool_core.specs.declared.steps.Given.{Given}
-use Rattle.sqlx_pool_core.specs.declared.steps.Given.TheVariants as given
-use Rattle.sqlx_pool_core.specs.Core.{Core, loan_of}
-use Rattle.sqlx_pool_core.specs.Sound.{IsNumbered}
-use Rattle.sqlx_pool_core.specs.Edits.{at_moment, core_without_loan, kept}
+use Rattle.sqlx_pool_lists.specs.declared.steps.Lent.{Lent}
+use Rattle.sqlx_pool_lists.specs.declared.steps.Given.{Given}
+use Rattle.sqlx_pool_lists.specs.declared.steps.Given.TheVariants as given
+use Rattle.sqlx_pool_lists.specs.Core.{Core, loan_of}
+use Rattle.sqlx_pool_lists.specs.Sound.{IsNumbered}
+use Rattle.sqlx_pool_lists.specs.Edits.{at_moment, core_without_loan, kept}
 use Rattle.sqlx_log.specs.EventTable.{closes}
-use Rattle.sqlx_pool_core.specs.Limits.{limits_of}
-use Rattle.sqlx_pool_core.specs.ReturnSteps.{give_answer, give_marks, core_after_give}
-use Rattle.sqlx_pool_core.specs.MaintenanceSteps.{without_first}
-use Rattle.sqlx_pool_core.specs.Makes.{Makes}
-use Rattle.sqlx_pool_core.proofs.Fair.{makes-nothing}
-use Rattle.sqlx_pool_core.specs.StandsFor.{StandsFor}
+use Rattle.sqlx_pool_lists.specs.Limits.{limits_of}
+use Rattle.sqlx_member.specs.ReturnSteps.{give_answer, give_marks, core_after_give}
+use Rattle.sqlx_pool_lists.specs.MaintenanceSteps.{without_first}
+use Rattle.sqlx_pool_lists.specs.Makes.{Makes}
+use Rattle.sqlx_member.proofs.Fair.{makes-nothing}
+use Rattle.sqlx_pool_lists.specs.StandsFor.{StandsFor}
 use Rattle.sqlx_log.proofs.ListFacts.{found_passes}
 use Rattle.sqlx_play.proofs.events.Numbers.{loan-found}
 use Rattle.mem_store.specs.Store.{Store, Link}

@@ -2,15 +2,15 @@
 use Rattle.std.proofs.Common.{◌≡◌, ℕ, ◌+◌, ◌≤◌, Bool, true, false, cond, List, [], ◌∷◌, find, count_by, is_some, Option, Some, None, refl, sym, ap, subst, ◌∙◌, arith}
 use Rattle.std.proofs.lemmas.Bool.{eqb-true}
 use Rattle.sqlx_log.specs.declared.mark.Mark.{Mark}
-use Rattle.sqlx_pool_core.specs.declared.ticket.OwnedConn.{OwnedConn}
-use Rattle.sqlx_pool_core.specs.declared.steps.Lent.{Lent}
-use Rattle.sqlx_pool_core.specs.Core.{Core, loan_of}
-use Rattle.sqlx_pool_core.specs.Sound.{IsNumbered, rests}
-use Rattle.sqlx_pool_core.specs.Edits.{core_without_loan, without_loan}
-use Rattle.sqlx_pool_core.specs.ReturnSteps.{leaked}
-use Rattle.sqlx_pool_core.specs.MaintenanceSteps.{without_first}
-use Rattle.sqlx_pool_core.specs.Makes.{Makes}
-use Rattle.sqlx_pool_core.specs.StandsFor.{StandsFor}
+use Rattle.sqlx_pool_lists.specs.declared.ticket.OwnedConn.{OwnedConn}
+use Rattle.sqlx_pool_lists.specs.declared.steps.Lent.{Lent}
+use Rattle.sqlx_pool_lists.specs.Core.{Core, loan_of}
+use Rattle.sqlx_pool_lists.specs.Sound.{IsNumbered, rests}
+use Rattle.sqlx_pool_lists.specs.Edits.{core_without_loan, without_loan}
+use Rattle.sqlx_member.specs.ReturnSteps.{leaked}
+use Rattle.sqlx_pool_lists.specs.MaintenanceSteps.{without_first}
+use Rattle.sqlx_pool_lists.specs.Makes.{Makes}
+use Rattle.sqlx_pool_lists.specs.StandsFor.{StandsFor}
 use Rattle.sqlx_log.proofs.ListFacts.{found_passes, count_by-cons}
 use Rattle.sqlx_play.proofs.events.Numbers.{loan-found}
 use Rattle.mem_store.specs.Store.{Store, Link}

@@ -2,7 +2,7 @@
 use Rattle.std.proofs.Common.{◌≡◌, ℕ, zero, suc, ◌==◌, cond, List, [], ◌∷◌, length, get_or, slice_get, slice_set, Option, Some, None, refl, sym, ap, ◌∙◌, arith}
 use Rattle.sqlx_numbered.specs.Numbered.{items_at, has_number, HasNone, IsFirstAt}
 use Rattle.sqlx_log.proofs.ListFacts.{same_number}
-use Rattle.sqlx_pool_core.specs.MaintenanceSteps.{without_first}
+use Rattle.sqlx_pool_lists.specs.MaintenanceSteps.{without_first}
 
 module _ {X : Type 0} (number : X → ℕ) where
   -- where none has the number, none leaves

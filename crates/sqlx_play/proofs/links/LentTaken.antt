@@ -1,6 +1,6 @@
 -- A link that is taken out of a list.
 use Rattle.std.proofs.Common.{◌≡◌, ◌+◌, ◌≤◌, Bool, true, false, cond, not, List, [], ◌∷◌, filter, find, count_by, Some, None, refl, sym, ap, ◌∙◌, arith}
-use Rattle.sqlx_pool_core.specs.MaintenanceSteps.{without_first}
+use Rattle.sqlx_pool_lists.specs.MaintenanceSteps.{without_first}
 use Rattle.sqlx_log.proofs.ListFacts.{count_by-cons, filter_none}
 
 module _ {X : Type 0} (p : X → Bool) where

@@ -1,12 +1,12 @@
 -- The links and the store where a connection leaves the pool and is closed.
 use Rattle.std.proofs.Common.{◌≡◌, ℕ, zero, suc, ◌≤◌, nat_lt, ◌==◌, ◌||◌, Bool, true, false, cond, not, List, ◌∷◌, map, filter, find, count_by, Some, refl, sym, ap, ◌∙◌, arith, lt-ltb}
 use Rattle.std.specs.List.{list_any}
-use Rattle.sqlx_pool_core.specs.declared.steps.Lent.{Lent}
-use Rattle.sqlx_pool_core.specs.declared.steps.Idle.{Idle}
-use Rattle.sqlx_pool_core.specs.declared.ticket.OwnedConn.{OwnedConn}
-use Rattle.sqlx_pool_core.specs.Core.{Core}
-use Rattle.sqlx_pool_core.specs.Sound.{holds, rests}
-use Rattle.sqlx_pool_core.specs.Edits.{without_loan, without_idle, core_without_loan}
+use Rattle.sqlx_pool_lists.specs.declared.steps.Lent.{Lent}
+use Rattle.sqlx_pool_lists.specs.declared.steps.Idle.{Idle}
+use Rattle.sqlx_pool_lists.specs.declared.ticket.OwnedConn.{OwnedConn}
+use Rattle.sqlx_pool_lists.specs.Core.{Core}
+use Rattle.sqlx_pool_lists.specs.Sound.{holds, rests}
+use Rattle.sqlx_pool_lists.specs.Edits.{without_loan, without_idle, core_without_loan}
 use Rattle.sqlx_log.proofs.ListFacts.{filter-map, count_by-map, All-filter_if, All-passing, number_comm, found_All}
 use Rattle.mem_store.specs.Store.{Store, Link, closed_at, level_mark}
 use Rattle.sqlx_brackets.specs.Changes.{leaves, History}

@@ -4,11 +4,11 @@ use Rattle.std.specs.List.{list_any}
 use Rattle.std.proofs.lemmas.Bool.{eqb-true}
 use Rattle.std.proofs.lemmas.List.Elements.{All-push, All-filter}
 use Rattle.sqlx_text.specs.declared.moment.Moment.{Moment}
-use Rattle.sqlx_pool_core.specs.declared.steps.Lent.{Lent}
-use Rattle.sqlx_pool_core.specs.declared.steps.Idle.{Idle}
-use Rattle.sqlx_pool_core.specs.Core.{Core}
-use Rattle.sqlx_pool_core.specs.Sound.{holds}
-use Rattle.sqlx_pool_core.specs.Edits.{core_without_loan, kept, opened}
+use Rattle.sqlx_pool_lists.specs.declared.steps.Lent.{Lent}
+use Rattle.sqlx_pool_lists.specs.declared.steps.Idle.{Idle}
+use Rattle.sqlx_pool_lists.specs.Core.{Core}
+use Rattle.sqlx_pool_lists.specs.Sound.{holds}
+use Rattle.sqlx_pool_lists.specs.Edits.{core_without_loan, kept, opened}
 use Rattle.sqlx_log.proofs.ListFacts.{found_All}
 use Rattle.mem_store.specs.Store.{Store, Link, new_link, connected}
 use Rattle.sqlx_brackets.specs.Changes.{History}

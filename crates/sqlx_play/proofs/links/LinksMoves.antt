@@ -3,12 +3,12 @@ use Rattle.std.proofs.Common.{◌≡◌, ℕ, ◌+◌, ◌≤◌, ◌==◌, ◌|
 use Rattle.std.proofs.lemmas.List.Elements.{All-push, All-head, All-tail, All-same}
 use Rattle.std.specs.List.{list_any}
 use Rattle.sqlx_text.specs.declared.Moment.{Moment}
-use Rattle.sqlx_pool_core.specs.declared.steps.Lent.{Lent}
-use Rattle.sqlx_pool_core.specs.declared.steps.Idle.{Idle}
-use Rattle.sqlx_pool_core.specs.declared.ticket.OwnedConn.{OwnedConn}
-use Rattle.sqlx_pool_core.specs.Core.{Core}
-use Rattle.sqlx_pool_core.specs.Edits.{lent_to, core_without_first, opened}
-use Rattle.sqlx_pool_core.specs.Sound.{holds, rests}
+use Rattle.sqlx_pool_lists.specs.declared.steps.Lent.{Lent}
+use Rattle.sqlx_pool_lists.specs.declared.steps.Idle.{Idle}
+use Rattle.sqlx_pool_lists.specs.declared.ticket.OwnedConn.{OwnedConn}
+use Rattle.sqlx_pool_lists.specs.Core.{Core}
+use Rattle.sqlx_pool_lists.specs.Edits.{lent_to, core_without_first, opened}
+use Rattle.sqlx_pool_lists.specs.Sound.{holds, rests}
 use Rattle.sqlx_log.proofs.ListFacts.{number_comm, same_number, list_any-push, count_by-push, count_by-cons, count_by-map, map-push, All-passing}
 use Rattle.mem_store.specs.Store.{Store, Link, connected, closed_at}
 use Rattle.mem_store.specs.Store as driver

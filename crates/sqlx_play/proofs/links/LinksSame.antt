@@ -1,10 +1,10 @@
 -- Links and store where a step changes no owned connection, no idle one and no number of connections.
 use Rattle.std.proofs.Common.{◌≡◌, ℕ, ◌≤◌, List, [], map, refl, sym, ap, subst, ◌∙◌}
 use Rattle.std.proofs.lemmas.List.Elements.{All-nil, All-same}
-use Rattle.sqlx_pool_core.specs.declared.steps.Lent.{Lent}
-use Rattle.sqlx_pool_core.specs.declared.steps.Idle.{Idle}
-use Rattle.sqlx_pool_core.specs.declared.ticket.OwnedConn.{OwnedConn}
-use Rattle.sqlx_pool_core.specs.Core.{Core}
+use Rattle.sqlx_pool_lists.specs.declared.steps.Lent.{Lent}
+use Rattle.sqlx_pool_lists.specs.declared.steps.Idle.{Idle}
+use Rattle.sqlx_pool_lists.specs.declared.ticket.OwnedConn.{OwnedConn}
+use Rattle.sqlx_pool_lists.specs.Core.{Core}
 use Rattle.mem_store.specs.Store.{Store, Link, new_store}
 use Rattle.sqlx_brackets.specs.Changes.{History}
 use Rattle.sqlx_brackets.specs.Links.{linked_after}

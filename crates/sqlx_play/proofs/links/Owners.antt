@@ -1,11 +1,11 @@
 -- Who owns a connection, by a core's loans and by the marks that it stands for.
 use Rattle.std.proofs.Common.{◌≡◌, ℕ, zero, suc, ◌+◌, ◌≤◌, ◌==◌, ◌&&◌, Bool, true, false, cond, List, [], ◌∷◌, map, find, count_by, is_some, option_map, Some, None, refl, sym, ap, ◌∙◌, arith}
 use Rattle.sqlx_log.specs.declared.mark.Mark.{Mark}
-use Rattle.sqlx_pool_core.specs.declared.ticket.OwnedConn.{OwnedConn}
+use Rattle.sqlx_pool_lists.specs.declared.ticket.OwnedConn.{OwnedConn}
 use Rattle.sqlx_log.specs.Marks.{Loan, is_loan_of, owner_of}
-use Rattle.sqlx_pool_core.specs.Core.{Core, loan, loan_of}
-use Rattle.sqlx_pool_core.specs.Sound.{IsNumbered, holds}
-use Rattle.sqlx_pool_core.specs.StandsFor.{StandsFor}
+use Rattle.sqlx_pool_lists.specs.Core.{Core, loan, loan_of}
+use Rattle.sqlx_pool_lists.specs.Sound.{IsNumbered, holds}
+use Rattle.sqlx_pool_lists.specs.StandsFor.{StandsFor}
 use Rattle.sqlx_log.proofs.ListFacts.{count_by-cons}
 use Rattle.sqlx_rules.specs.ScriptLevels.{owns}
 

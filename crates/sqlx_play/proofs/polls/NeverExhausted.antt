@@ -4,22 +4,22 @@ use Rattle.std.proofs.lemmas.Bool.{le-ltb}
 use Rattle.sqlx_log.specs.declared.mark.Mark.{Mark}
 use Rattle.sqlx_log.specs.declared.turn.Turn.TheVariants as turn
 use Rattle.sqlx_log.specs.PollTable.{first_idle, turn_at_rest}
-use Rattle.sqlx_pool_core.specs.declared.idle_check.Opening.{Opening}
-use Rattle.sqlx_pool_core.specs.declared.idle_check.Opening.TheVariants as opening
-use Rattle.sqlx_pool_core.specs.declared.steps.Idle.{Idle}
-use Rattle.sqlx_pool_core.specs.declared.steps.Start.{Start}
-use Rattle.sqlx_pool_core.specs.declared.steps.Start.TheVariants as start
-use Rattle.sqlx_pool_core.specs.declared.steps.AfterTest.{AfterTest}
-use Rattle.sqlx_pool_core.specs.declared.steps.AfterTest.TheVariants as tested
-use Rattle.sqlx_pool_core.specs.declared.steps.Polled.{Polled}
-use Rattle.sqlx_pool_core.specs.declared.steps.Polled.TheVariants as polled
-use Rattle.sqlx_pool_core.specs.declared.steps.Verdict.{Verdict}
-use Rattle.sqlx_pool_core.specs.declared.ticket.Ticket.{Ticket}
-use Rattle.sqlx_pool_core.specs.Calls.{Call}
-use Rattle.sqlx_pool_core.specs.Core.{Core, is_out, ticket_of}
-use Rattle.sqlx_pool_core.specs.CoreTurn.{core_turn, turn_of, is_first_in_line}
-use Rattle.sqlx_pool_core.specs.PollTable.{is_at_rest, backs_off_until}
-use Rattle.sqlx_pool_core.specs.PollSteps.{start_answer, after_test}
+use Rattle.sqlx_member.specs.declared.idle_check.Opening.{Opening}
+use Rattle.sqlx_member.specs.declared.idle_check.Opening.TheVariants as opening
+use Rattle.sqlx_pool_lists.specs.declared.steps.Idle.{Idle}
+use Rattle.sqlx_pool_lists.specs.declared.steps.Start.{Start}
+use Rattle.sqlx_pool_lists.specs.declared.steps.Start.TheVariants as start
+use Rattle.sqlx_pool_lists.specs.declared.steps.AfterTest.{AfterTest}
+use Rattle.sqlx_pool_lists.specs.declared.steps.AfterTest.TheVariants as tested
+use Rattle.sqlx_pool_lists.specs.declared.steps.Polled.{Polled}
+use Rattle.sqlx_pool_lists.specs.declared.steps.Polled.TheVariants as polled
+use Rattle.sqlx_pool_lists.specs.declared.steps.Verdict.{Verdict}
+use Rattle.sqlx_pool_lists.specs.declared.ticket.Ticket.{Ticket}
+use Rattle.sqlx_member.specs.Calls.{Call}
+use Rattle.sqlx_pool_lists.specs.Core.{Core, is_out, ticket_of}
+use Rattle.sqlx_pool_lists.specs.CoreTurn.{core_turn, turn_of, is_first_in_line}
+use Rattle.sqlx_pool_lists.specs.PollTable.{is_at_rest, backs_off_until}
+use Rattle.sqlx_pool_lists.specs.PollSteps.{start_answer, after_test}
 use Rattle.sqlx_pool_core.specs.Walk.{Next, Test, Connect, Answer, first, then_by, last, judges, tells, Goes, Polls}
 
 first-answer : {C : Type 0} (idle : List (Idle C)) → start.Exhausted ≡ start_answer (first_idle idle) idle → ⊥

@@ -2,15 +2,15 @@
 use Rattle.std.proofs.Common.{◌≡◌, ℕ, zero, suc, Bool, true, false, not, cond, List, [], ◌∷◌, ◌++◌, map, take, Option, Some, option_map, refl, sym, ap, ◌∙◌, inl, inr, ◌⊎◌, if◌then◌else◌, append-nil}
 use Rattle.sqlx_log.specs.declared.mark.Mark.{Mark}
 use Rattle.sqlx_log.specs.declared.mark.Mark.TheVariants as mark
-use Rattle.sqlx_pool_core.specs.declared.ticket.Ticket.{Ticket}
-use Rattle.sqlx_pool_core.specs.declared.ticket.Phase.{Phase}
-use Rattle.sqlx_pool_core.specs.declared.ticket.Phase.TheVariants as phase
-use Rattle.sqlx_pool_core.specs.declared.steps.Idle.{Idle}
+use Rattle.sqlx_pool_lists.specs.declared.ticket.Ticket.{Ticket}
+use Rattle.sqlx_pool_lists.specs.declared.ticket.Phase.{Phase}
+use Rattle.sqlx_pool_lists.specs.declared.ticket.Phase.TheVariants as phase
+use Rattle.sqlx_pool_lists.specs.declared.steps.Idle.{Idle}
 use Rattle.sqlx_log.specs.Marks.{IdleEntry, idle_of}
-use Rattle.sqlx_pool_core.specs.Core.{Core, asking, resting, is_out, ticket_of}
-use Rattle.sqlx_pool_core.specs.PollSteps.{phase_for}
-use Rattle.sqlx_pool_core.specs.PollSteps as steps
-use Rattle.sqlx_pool_core.specs.StandsFor.{StandsFor}
+use Rattle.sqlx_pool_lists.specs.Core.{Core, asking, resting, is_out, ticket_of}
+use Rattle.sqlx_pool_lists.specs.PollSteps.{phase_for}
+use Rattle.sqlx_pool_lists.specs.PollSteps as steps
+use Rattle.sqlx_pool_lists.specs.StandsFor.{StandsFor}
 use Rattle.sqlx_script.specs.declared.answers.PollAnswers.{PollAnswers}
 use Rattle.sqlx_script.specs.declared.answers.ConnectAnswer.{ConnectAnswer}
 use Rattle.sqlx_script.specs.declared.answers.ConnectAnswer.TheVariants as connect

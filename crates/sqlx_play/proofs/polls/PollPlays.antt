@@ -4,13 +4,13 @@ use Rattle.std.proofs.Math.Nat.{max-eq_right}
 use Rattle.std.proofs.lemmas.Bool.{eqb-true}
 use Rattle.sqlx_text.specs.declared.Moment.{Moment}
 use Rattle.sqlx_log.specs.declared.mark.Mark.{Mark}
-use Rattle.sqlx_pool_core.specs.declared.ticket.Phase.TheVariants as phase
-use Rattle.sqlx_pool_core.specs.declared.steps.Start.{Start}
+use Rattle.sqlx_pool_lists.specs.declared.ticket.Phase.TheVariants as phase
+use Rattle.sqlx_pool_lists.specs.declared.steps.Start.{Start}
 use Rattle.sqlx_log.specs.Marks.{idle_of}
-use Rattle.sqlx_pool_core.specs.Core.{Core}
-use Rattle.sqlx_pool_core.specs.PollSteps.{start_answer}
-use Rattle.sqlx_pool_core.specs.CoreTurn.{core_turn}
-use Rattle.sqlx_pool_core.proofs.Known.{ticket-number}
+use Rattle.sqlx_pool_lists.specs.Core.{Core}
+use Rattle.sqlx_pool_lists.specs.PollSteps.{start_answer}
+use Rattle.sqlx_pool_lists.specs.CoreTurn.{core_turn}
+use Rattle.sqlx_member.proofs.Known.{ticket-number}
 use Rattle.mem_store.specs.Store.{Link}
 use Rattle.sqlx_script.specs.declared.answers.PollAnswers.{PollAnswers}
 use Rattle.sqlx_script.specs.declared.reply.Reply.TheVariants as reply

@@ -9,20 +9,20 @@ use Rattle.sqlx_log.specs.Counts.{asked_in, is_asked_by, before_in}
 use Rattle.sqlx_log.specs.PollTable.{first_idle, turn_at_rest}
 use Rattle.sqlx_log.specs.View.{view_of, free as free_in}
 use Rattle.sqlx_log.proofs.ListFacts.{find-map, found_All}
-use Rattle.sqlx_pool_core.specs.declared.ticket.Ticket.{Ticket}
-use Rattle.sqlx_pool_core.specs.declared.ticket.Phase.{Phase}
-use Rattle.sqlx_pool_core.specs.declared.ticket.Phase.TheVariants as phase
-use Rattle.sqlx_pool_core.specs.declared.steps.Idle.{Idle}
-use Rattle.sqlx_pool_core.specs.declared.steps.Start.{Start}
-use Rattle.sqlx_pool_core.specs.declared.steps.Start.TheVariants as start
-use Rattle.sqlx_pool_core.specs.Core.{Core, asking, resting, is_out, is_of, ticket_of, free}
-use Rattle.sqlx_pool_core.specs.PollTable.{is_at_rest, backs_off_until}
-use Rattle.sqlx_pool_core.specs.CoreTurn.{core_turn, turn_of, is_first_in_line, before}
-use Rattle.sqlx_pool_core.specs.PollSteps.{start_answer}
-use Rattle.sqlx_pool_core.specs.StandsFor.{StandsFor}
-use Rattle.sqlx_pool_core.proofs.Known.{ticket-number}
-use Rattle.sqlx_pool_core.proofs.Stands.{stands-in}
-use Rattle.sqlx_pool_core.proofs.TurnAtMarks.{free-places, before-asking}
+use Rattle.sqlx_pool_lists.specs.declared.ticket.Ticket.{Ticket}
+use Rattle.sqlx_pool_lists.specs.declared.ticket.Phase.{Phase}
+use Rattle.sqlx_pool_lists.specs.declared.ticket.Phase.TheVariants as phase
+use Rattle.sqlx_pool_lists.specs.declared.steps.Idle.{Idle}
+use Rattle.sqlx_pool_lists.specs.declared.steps.Start.{Start}
+use Rattle.sqlx_pool_lists.specs.declared.steps.Start.TheVariants as start
+use Rattle.sqlx_pool_lists.specs.Core.{Core, asking, resting, is_out, is_of, ticket_of, free}
+use Rattle.sqlx_pool_lists.specs.PollTable.{is_at_rest, backs_off_until}
+use Rattle.sqlx_pool_lists.specs.CoreTurn.{core_turn, turn_of, is_first_in_line, before}
+use Rattle.sqlx_pool_lists.specs.PollSteps.{start_answer}
+use Rattle.sqlx_pool_lists.specs.StandsFor.{StandsFor}
+use Rattle.sqlx_member.proofs.Known.{ticket-number}
+use Rattle.sqlx_member.proofs.Stands.{stands-in}
+use Rattle.sqlx_member.proofs.TurnAtMarks.{free-places, before-asking}
 use Rattle.mem_store.specs.Store.{Link}
 use Rattle.sqlx_script.specs.declared.answers.PollAnswers.{PollAnswers}
 use Rattle.sqlx_script.specs.declared.pool_line.PoolLine.{PoolLine}

@@ -6,18 +6,18 @@ use Rattle.sqlx_log.specs.declared.mark.Mark.TheVariants as mark
 use Rattle.sqlx_log.specs.Marks.{IdleEntry}
 use Rattle.sqlx_log.proofs.ListFacts.{same_number, list_any-map, count_by-cons, or-true}
 use Rattle.sqlx_log.proofs.SoundViews.{any-counts}
-use Rattle.sqlx_pool_core.specs.declared.ticket.Ticket.{Ticket}
-use Rattle.sqlx_pool_core.specs.declared.ticket.Phase.{Phase}
-use Rattle.sqlx_pool_core.specs.declared.ticket.Phase.TheVariants as phase
-use Rattle.sqlx_pool_core.specs.declared.steps.Idle.{Idle}
-use Rattle.sqlx_pool_core.specs.declared.steps.Start.TheVariants as start
-use Rattle.sqlx_pool_core.specs.declared.steps.AfterTest.TheVariants as tested
-use Rattle.sqlx_pool_core.specs.Core.{Core, resting, ticket_of}
-use Rattle.sqlx_pool_core.specs.Edits.{core_without_ticket, lent_to, core_without_first, with_ticket, to_test, to_next, tested_so_far, to_connect, at_moment}
-use Rattle.sqlx_pool_core.specs.Sound.{IsNumbered, holds, rests}
-use Rattle.sqlx_pool_core.specs.PollSteps.{started, after_test}
-use Rattle.sqlx_pool_core.specs.Makes.{Makes}
-use Rattle.sqlx_pool_core.proofs.Known.{KeepsOwner, ticket-changed, ticket-number, gone-changed}
+use Rattle.sqlx_pool_lists.specs.declared.ticket.Ticket.{Ticket}
+use Rattle.sqlx_pool_lists.specs.declared.ticket.Phase.{Phase}
+use Rattle.sqlx_pool_lists.specs.declared.ticket.Phase.TheVariants as phase
+use Rattle.sqlx_pool_lists.specs.declared.steps.Idle.{Idle}
+use Rattle.sqlx_pool_lists.specs.declared.steps.Start.TheVariants as start
+use Rattle.sqlx_pool_lists.specs.declared.steps.AfterTest.TheVariants as tested
+use Rattle.sqlx_pool_lists.specs.Core.{Core, resting, ticket_of}
+use Rattle.sqlx_pool_lists.specs.Edits.{core_without_ticket, lent_to, core_without_first, with_ticket, to_test, to_next, tested_so_far, to_connect, at_moment}
+use Rattle.sqlx_pool_lists.specs.Sound.{IsNumbered, holds, rests}
+use Rattle.sqlx_pool_lists.specs.PollSteps.{started, after_test}
+use Rattle.sqlx_pool_lists.specs.Makes.{Makes}
+use Rattle.sqlx_member.proofs.Known.{KeepsOwner, ticket-changed, ticket-number, gone-changed}
 use Rattle.mem_store.specs.Store.{Link, Store, closed_at}
 use Rattle.sqlx_script.specs.declared.answers.PollAnswers.{PollAnswers}
 use Rattle.sqlx_script.specs.declared.reply.Reply.{Reply}

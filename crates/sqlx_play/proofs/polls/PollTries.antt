@@ -1,14 +1,14 @@
 -- The tries of every ticket behind a poll.
 use Rattle.std.proofs.Common.{◌≡◌, ℕ, ◌+◌, ◌-◌, ◌==◌, Bool, true, false, not, cond, List, [], ◌∷◌, Option, Some, None, nat_lt, All, refl, sym, ap, subst, ◌∙◌, inl, inr, ◌⊎◌, arith}
 use Rattle.std.proofs.lemmas.List.Elements.{All-nil, All-cons, All-head, All-tail}
-use Rattle.sqlx_pool_core.specs.declared.ticket.Ticket.{Ticket}
-use Rattle.sqlx_pool_core.specs.declared.ticket.Phase.{Phase}
-use Rattle.sqlx_pool_core.specs.declared.ticket.Phase.TheVariants as phase
-use Rattle.sqlx_pool_core.specs.declared.steps.Idle.{Idle}
+use Rattle.sqlx_pool_lists.specs.declared.ticket.Ticket.{Ticket}
+use Rattle.sqlx_pool_lists.specs.declared.ticket.Phase.{Phase}
+use Rattle.sqlx_pool_lists.specs.declared.ticket.Phase.TheVariants as phase
+use Rattle.sqlx_pool_lists.specs.declared.steps.Idle.{Idle}
 use Rattle.sqlx_log.specs.Backoff.{cap, next_wait}
-use Rattle.sqlx_pool_core.specs.Edits.{with_ticket, without_ticket, to_test, to_try, to_try_at, to_connect}
-use Rattle.sqlx_pool_core.specs.PollSteps.{wait_of}
-use Rattle.sqlx_pool_core.proofs.Known.{IsOnly, KeepsNumber}
+use Rattle.sqlx_pool_lists.specs.Edits.{with_ticket, without_ticket, to_test, to_try, to_try_at, to_connect}
+use Rattle.sqlx_pool_lists.specs.PollSteps.{wait_of}
+use Rattle.sqlx_member.proofs.Known.{IsOnly, KeepsNumber}
 use Rattle.sqlx_rules.specs.Tries.{Tries, tries_of, first_try, last_wait, backed_off, until_after}
 use Rattle.sqlx_play.specs.stage.StageStands.{IsTried, IsTriedAt}
 use Rattle.sqlx_play.proofs.events.TriesSame.{tried-alike}

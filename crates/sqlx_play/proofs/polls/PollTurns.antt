@@ -1,20 +1,20 @@
 -- What is known of a ticket whose poll comes to a test or to a connect.
 use Rattle.std.proofs.Common.{◌≡◌, ℕ, ◌^◌, Bool, true, false, cond, List, [], ◌∷◌, Option, Some, None, option_map, nat_le, nat_lt, refl, sym, ap, ◌∙◌, inl, inr, ◌⊎◌}
-use Rattle.sqlx_pool_core.specs.declared.ticket.Ticket.{Ticket}
-use Rattle.sqlx_pool_core.specs.declared.ticket.Phase.{Phase}
-use Rattle.sqlx_pool_core.specs.declared.ticket.Phase.TheVariants as phase
-use Rattle.sqlx_pool_core.specs.declared.steps.Idle.{Idle}
-use Rattle.sqlx_pool_core.specs.declared.steps.Start.TheVariants as start
+use Rattle.sqlx_pool_lists.specs.declared.ticket.Ticket.{Ticket}
+use Rattle.sqlx_pool_lists.specs.declared.ticket.Phase.{Phase}
+use Rattle.sqlx_pool_lists.specs.declared.ticket.Phase.TheVariants as phase
+use Rattle.sqlx_pool_lists.specs.declared.steps.Idle.{Idle}
+use Rattle.sqlx_pool_lists.specs.declared.steps.Start.TheVariants as start
 use Rattle.sqlx_log.specs.declared.turn.Turn.{Turn}
 use Rattle.sqlx_log.specs.declared.turn.Turn.TheVariants as turn
-use Rattle.sqlx_pool_core.specs.Core.{Core, is_out, ticket_of}
+use Rattle.sqlx_pool_lists.specs.Core.{Core, is_out, ticket_of}
 use Rattle.sqlx_log.specs.PollTable.{first_idle, in_time}
-use Rattle.sqlx_pool_core.specs.PollTable.{is_at_rest, backs_off_until}
-use Rattle.sqlx_pool_core.specs.CoreTurn.{core_turn, turn_of, is_first_in_line}
-use Rattle.sqlx_pool_core.specs.PollSteps.{start_answer, phase_for, tested_at}
-use Rattle.sqlx_pool_core.specs.Edits.{with_ticket, to_test, to_try, to_try_at, to_connect}
-use Rattle.sqlx_pool_core.proofs.TurnCases.{ConnectsFirst, ConnectsAgain, turn-test, turn-connect}
-use Rattle.sqlx_pool_core.proofs.Known.{KeepsOwner, ticket-changed}
+use Rattle.sqlx_pool_lists.specs.PollTable.{is_at_rest, backs_off_until}
+use Rattle.sqlx_pool_lists.specs.CoreTurn.{core_turn, turn_of, is_first_in_line}
+use Rattle.sqlx_pool_lists.specs.PollSteps.{start_answer, phase_for, tested_at}
+use Rattle.sqlx_pool_lists.specs.Edits.{with_ticket, to_test, to_try, to_try_at, to_connect}
+use Rattle.sqlx_member.proofs.TurnCases.{ConnectsFirst, ConnectsAgain, turn-test, turn-connect}
+use Rattle.sqlx_member.proofs.Known.{KeepsOwner, ticket-changed}
 use Rattle.sqlx_log.proofs.ListFacts.{same_number}
 
 -- The first idle connection is tested for a ticket that waits.

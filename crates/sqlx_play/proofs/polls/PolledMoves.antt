@@ -1,17 +1,17 @@
 -- What a poll of the pool leaves as it was, over the outside of a script.
 use Rattle.std.proofs.Common.{◌≡◌, Bool, ℕ, ◌+◌, ◌≤◌, List, [], ◌∷◌, refl, sym, ap, subst, ◌∙◌, arith}
 use Rattle.sqlx_log.specs.declared.mark.Mark.{Mark}
-use Rattle.sqlx_pool_core.specs.declared.ticket.Ticket.{Ticket}
-use Rattle.sqlx_pool_core.specs.declared.steps.Start.{Start}
-use Rattle.sqlx_pool_core.specs.declared.steps.Start.TheVariants as start
-use Rattle.sqlx_pool_core.specs.declared.steps.Verdict.{Verdict}
-use Rattle.sqlx_pool_core.specs.declared.steps.Verdict.TheVariants as verdict
-use Rattle.sqlx_pool_core.specs.declared.steps.AfterTest.{AfterTest}
-use Rattle.sqlx_pool_core.specs.declared.steps.AfterTest.TheVariants as tested
-use Rattle.sqlx_pool_core.specs.declared.steps.Polled.{Polled}
-use Rattle.sqlx_pool_core.specs.Core.{Core}
-use Rattle.sqlx_pool_core.specs.PollSteps.{started, after_test, after_connect}
-use Rattle.sqlx_pool_core.specs.declared.idle_check.Opening.{Opening}
+use Rattle.sqlx_pool_lists.specs.declared.ticket.Ticket.{Ticket}
+use Rattle.sqlx_pool_lists.specs.declared.steps.Start.{Start}
+use Rattle.sqlx_pool_lists.specs.declared.steps.Start.TheVariants as start
+use Rattle.sqlx_pool_lists.specs.declared.steps.Verdict.{Verdict}
+use Rattle.sqlx_pool_lists.specs.declared.steps.Verdict.TheVariants as verdict
+use Rattle.sqlx_pool_lists.specs.declared.steps.AfterTest.{AfterTest}
+use Rattle.sqlx_pool_lists.specs.declared.steps.AfterTest.TheVariants as tested
+use Rattle.sqlx_pool_lists.specs.declared.steps.Polled.{Polled}
+use Rattle.sqlx_pool_lists.specs.Core.{Core}
+use Rattle.sqlx_pool_lists.specs.PollSteps.{started, after_test, after_connect}
+use Rattle.sqlx_member.specs.declared.idle_check.Opening.{Opening}
 use Rattle.sqlx_pool_core.specs.Walk.{Next, Test, Connect, Answer, first, then_by, judges, tells, Connects, Goes, Polls}
 use Rattle.sqlx_script.specs.declared.answers.PollAnswers.{PollAnswers}
 use Rattle.mem_store.specs.Store.{Link, Store}

@@ -5,37 +5,37 @@ use Rattle.std.proofs.lemmas.List.Elements.{All-head}
 use Rattle.sqlx_script.specs.Letters.{answering}
 use Rattle.sqlx_brackets.specs.Links.{linked_after}
 use Rattle.sqlx_log.specs.Marks.{IdleEntry}
-use Rattle.sqlx_pool_core.proofs.Known.{ticket-changed}
+use Rattle.sqlx_member.proofs.Known.{ticket-changed}
 use Rattle.sqlx_text.specs.declared.Moment.{Moment}
 use Rattle.sqlx_text.specs.declared.error.Error.{Error}
 use Rattle.sqlx_log.specs.declared.mark.Mark.{Mark}
 use Rattle.sqlx_log.specs.declared.mark.Mark.TheVariants as mark
-use Rattle.sqlx_pool_core.specs.declared.options.PoolOptions.{PoolOptions}
-use Rattle.sqlx_pool_core.specs.declared.ticket.Ticket.{Ticket}
-use Rattle.sqlx_pool_core.specs.declared.ticket.Phase.TheVariants as phase
-use Rattle.sqlx_pool_core.specs.declared.steps.AfterTest.{AfterTest}
-use Rattle.sqlx_pool_core.specs.declared.steps.AfterTest.TheVariants as tested
-use Rattle.sqlx_pool_core.specs.Chain.{Tests}
-use Rattle.sqlx_pool_core.specs.declared.steps.Lent.{Lent}
-use Rattle.sqlx_pool_core.specs.declared.steps.Idle.{Idle}
-use Rattle.sqlx_pool_core.specs.declared.steps.Start.{Start}
-use Rattle.sqlx_pool_core.specs.declared.steps.Start.TheVariants as start
-use Rattle.sqlx_pool_core.specs.declared.steps.Verdict.{Verdict}
-use Rattle.sqlx_pool_core.specs.declared.steps.Verdict.TheVariants as verdict
-use Rattle.sqlx_pool_core.specs.declared.steps.Polled.{Polled}
-use Rattle.sqlx_pool_core.specs.declared.steps.Polled.TheVariants as polled
-use Rattle.sqlx_pool_core.specs.Core.{Core, resting, ticket_of}
-use Rattle.sqlx_pool_core.specs.Edits.{core_without_ticket, lent_to, with_ticket, to_connect}
-use Rattle.sqlx_pool_core.specs.Makes.{Makes}
+use Rattle.sqlx_pool_lists.specs.declared.options.PoolOptions.{PoolOptions}
+use Rattle.sqlx_pool_lists.specs.declared.ticket.Ticket.{Ticket}
+use Rattle.sqlx_pool_lists.specs.declared.ticket.Phase.TheVariants as phase
+use Rattle.sqlx_pool_lists.specs.declared.steps.AfterTest.{AfterTest}
+use Rattle.sqlx_pool_lists.specs.declared.steps.AfterTest.TheVariants as tested
+use Rattle.sqlx_member.specs.Chain.{Tests}
+use Rattle.sqlx_pool_lists.specs.declared.steps.Lent.{Lent}
+use Rattle.sqlx_pool_lists.specs.declared.steps.Idle.{Idle}
+use Rattle.sqlx_pool_lists.specs.declared.steps.Start.{Start}
+use Rattle.sqlx_pool_lists.specs.declared.steps.Start.TheVariants as start
+use Rattle.sqlx_pool_lists.specs.declared.steps.Verdict.{Verdict}
+use Rattle.sqlx_pool_lists.specs.declared.steps.Verdict.TheVariants as verdict
+use Rattle.sqlx_pool_lists.specs.declared.steps.Polled.{Polled}
+use Rattle.sqlx_pool_lists.specs.declared.steps.Polled.TheVariants as polled
+use Rattle.sqlx_pool_lists.specs.Core.{Core, resting, ticket_of}
+use Rattle.sqlx_pool_lists.specs.Edits.{core_without_ticket, lent_to, with_ticket, to_connect}
+use Rattle.sqlx_pool_lists.specs.Makes.{Makes}
 use Rattle.sqlx_log.specs.Marks.{tickets_of}
 use Rattle.sqlx_log.specs.Counts.{asked_in}
-use Rattle.sqlx_pool_core.specs.CoreTurn.{core_turn}
-use Rattle.sqlx_pool_core.specs.Sound.{IsNumbered}
-use Rattle.sqlx_pool_core.specs.StandsFor.{StandsFor}
-use Rattle.sqlx_pool_core.specs.PollSteps.{phase_for, start_answer, start_marks, started, wait_of, lent_since, may_test_next, after_refusal, test_marks, after_test}
-use Rattle.sqlx_pool_core.specs.PollSteps as steps
-use Rattle.sqlx_pool_core.specs.declared.idle_check.Opening.{Opening}
-use Rattle.sqlx_pool_core.specs.declared.idle_check.Opening.TheVariants as opening
+use Rattle.sqlx_pool_lists.specs.CoreTurn.{core_turn}
+use Rattle.sqlx_pool_lists.specs.Sound.{IsNumbered}
+use Rattle.sqlx_pool_lists.specs.StandsFor.{StandsFor}
+use Rattle.sqlx_pool_lists.specs.PollSteps.{phase_for, start_answer, start_marks, started, wait_of, lent_since, may_test_next, after_refusal, test_marks, after_test}
+use Rattle.sqlx_pool_lists.specs.PollSteps as steps
+use Rattle.sqlx_member.specs.declared.idle_check.Opening.{Opening}
+use Rattle.sqlx_member.specs.declared.idle_check.Opening.TheVariants as opening
 use Rattle.sqlx_pool_core.specs.Walk.{Test, Connect, first, then_by, last, judges, tells, Connects, Goes, Polls}
 use Rattle.sqlx_script.specs.declared.answers.ConnectAnswer.{ConnectAnswer}
 use Rattle.sqlx_script.specs.declared.answers.ConnectAnswer.TheVariants as letter

@@ -3,16 +3,16 @@ use Rattle.std.proofs.Common.{◌≡◌, ℕ, ◌+◌, ◌≤◌, ◌==◌, Bool
 use Rattle.std.proofs.lemmas.Bool.{ne_eqb}
 use Rattle.sqlx_text.specs.declared.Moment.{Moment}
 use Rattle.sqlx_log.specs.declared.mark.Mark.{Mark}
-use Rattle.sqlx_pool_core.specs.declared.ticket.Ticket.{Ticket}
-use Rattle.sqlx_pool_core.specs.declared.steps.Idle.{Idle}
-use Rattle.sqlx_pool_core.specs.declared.steps.Start.TheVariants as start
+use Rattle.sqlx_pool_lists.specs.declared.ticket.Ticket.{Ticket}
+use Rattle.sqlx_pool_lists.specs.declared.steps.Idle.{Idle}
+use Rattle.sqlx_pool_lists.specs.declared.steps.Start.TheVariants as start
 use Rattle.sqlx_log.specs.Marks.{IdleEntry, idle_of}
-use Rattle.sqlx_pool_core.specs.Core.{Core, resting, ticket_of}
-use Rattle.sqlx_pool_core.specs.Edits.{with_ticket, without_ticket, to_try, to_back_off}
-use Rattle.sqlx_pool_core.specs.Sound.{IsNumbered}
-use Rattle.sqlx_pool_core.specs.PollSteps.{started, wait_of}
-use Rattle.sqlx_pool_core.specs.Makes.{Makes}
-use Rattle.sqlx_pool_core.proofs.Known.{KeepsNumber, ticket-number, gone-changed}
+use Rattle.sqlx_pool_lists.specs.Core.{Core, resting, ticket_of}
+use Rattle.sqlx_pool_lists.specs.Edits.{with_ticket, without_ticket, to_try, to_back_off}
+use Rattle.sqlx_pool_lists.specs.Sound.{IsNumbered}
+use Rattle.sqlx_pool_lists.specs.PollSteps.{started, wait_of}
+use Rattle.sqlx_pool_lists.specs.Makes.{Makes}
+use Rattle.sqlx_member.proofs.Known.{KeepsNumber, ticket-number, gone-changed}
 use Rattle.sqlx_play.proofs.events.Numbers.{ticket-is_only, ticket-below}
 use Rattle.sqlx_log.proofs.ListFacts.{same_number, number_comm, none_any, list_any-map}
 use Rattle.mem_store.specs.Store.{Link}

@@ -1,18 +1,18 @@
 -- What the chains of calls of a test and of a try say over the outside of a script.
 use Rattle.std.proofs.Common.{◌≡◌, ℕ, ◌+◌, ◌-◌, ◌==◌, Bool, true, false, not, cond, ◌&&◌, ◌||◌, Option, None, Result, Ok, Err, if◌then◌else◌, refl, sym, ap, subst, ◌∙◌}
 use Rattle.sqlx_text.specs.declared.error.Error.{Error}
-use Rattle.sqlx_pool_core.specs.declared.outside.PoolConnectionMetadata.{PoolConnectionMetadata}
-use Rattle.sqlx_pool_core.specs.declared.options.PoolOptions.{PoolOptions}
-use Rattle.sqlx_pool_core.specs.declared.steps.Lent.{Lent}
-use Rattle.sqlx_pool_core.specs.declared.steps.Idle.{Idle}
-use Rattle.sqlx_pool_core.specs.declared.steps.Verdict.{Verdict}
-use Rattle.sqlx_pool_core.specs.declared.steps.Verdict.TheVariants as verdict
-use Rattle.sqlx_pool_core.specs.Outside.{is_transient, says_yes}
-use Rattle.sqlx_pool_core.specs.declared.idle_check.Check.{Check}
-use Rattle.sqlx_pool_core.specs.declared.idle_check.Check.TheVariants as check
-use Rattle.sqlx_pool_core.specs.declared.idle_check.Opening.{Opening}
-use Rattle.sqlx_pool_core.specs.declared.idle_check.Opening.TheVariants as opening
-use Rattle.sqlx_pool_core.specs.Chain.{check_by, Pings, LooksIf, Sorts, Tests, SetsUp, KeepsIf, Follows, Tries}
+use Rattle.sqlx_member.specs.declared.outside.PoolConnectionMetadata.{PoolConnectionMetadata}
+use Rattle.sqlx_pool_lists.specs.declared.options.PoolOptions.{PoolOptions}
+use Rattle.sqlx_pool_lists.specs.declared.steps.Lent.{Lent}
+use Rattle.sqlx_pool_lists.specs.declared.steps.Idle.{Idle}
+use Rattle.sqlx_pool_lists.specs.declared.steps.Verdict.{Verdict}
+use Rattle.sqlx_pool_lists.specs.declared.steps.Verdict.TheVariants as verdict
+use Rattle.sqlx_member.specs.Outside.{is_transient, says_yes}
+use Rattle.sqlx_member.specs.declared.idle_check.Check.{Check}
+use Rattle.sqlx_member.specs.declared.idle_check.Check.TheVariants as check
+use Rattle.sqlx_member.specs.declared.idle_check.Opening.{Opening}
+use Rattle.sqlx_member.specs.declared.idle_check.Opening.TheVariants as opening
+use Rattle.sqlx_member.specs.Chain.{check_by, Pings, LooksIf, Sorts, Tests, SetsUp, KeepsIf, Follows, Tries}
 use Rattle.sqlx_script.specs.declared.answers.ConnectAnswer.{ConnectAnswer}
 use Rattle.sqlx_script.specs.declared.answers.ConnectAnswer.TheVariants as letter
 use Rattle.sqlx_script.specs.declared.answers.PollAnswers.{PollAnswers}

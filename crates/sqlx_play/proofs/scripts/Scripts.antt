@@ -9,7 +9,7 @@ use Rattle.sqlx_script.specs.Words.{lines_of}
 use Rattle.sqlx_script.specs.Grammar.{Script, pool_of, script_after, script_lines, script_of, bad_line, limit}
 use Rattle.std.specs.FinMap.{get, get-empty}
 use Rattle.std.specs.Ordering.{int_cmp}
-use Rattle.sqlx_pool_core.specs.StandsFor.{StandsFor}
+use Rattle.sqlx_pool_lists.specs.StandsFor.{StandsFor}
 use Rattle.sqlx_rules.proofs.Holds.{headline-holds}
 use Rattle.sqlx_savepoints.specs.Rows.{Rows, seen, sees}
 use Rattle.sqlx_brackets.specs.Brackets.{value}

@@ -2,14 +2,14 @@
 use Rattle.std.proofs.Common.{◌≡◌, find, ℕ, ◌≤◌, ◌==◌, Bool, true, false, is_some, ◌⊎◌, inl, inr, List, [], ◌∷◌, ◌++◌, map, count_by, Option, Some, None, Result, Ok, Err, IfOk, refl, sym, ap, subst, ◌∙◌, arith}
 use Rattle.std.proofs.lemmas.List.Elements.{All-same}
 use Rattle.sqlx_log.specs.declared.mark.Mark.{Mark}
-use Rattle.sqlx_pool_core.specs.declared.ticket.OwnedConn.{OwnedConn}
-use Rattle.sqlx_pool_core.specs.declared.steps.Lent.{Lent}
-use Rattle.sqlx_pool_core.specs.Core.{Core, loan_of}
+use Rattle.sqlx_pool_lists.specs.declared.ticket.OwnedConn.{OwnedConn}
+use Rattle.sqlx_pool_lists.specs.declared.steps.Lent.{Lent}
+use Rattle.sqlx_pool_lists.specs.Core.{Core, loan_of}
 use Rattle.sqlx_log.specs.Marks.{owner_of}
-use Rattle.sqlx_pool_core.specs.Sound.{IsNumbered, holds}
-use Rattle.sqlx_pool_core.specs.StandsFor.{StandsFor}
-use Rattle.sqlx_pool_core.specs.Makes.{Makes}
-use Rattle.sqlx_pool_core.proofs.Fair.{makes-nothing}
+use Rattle.sqlx_pool_lists.specs.Sound.{IsNumbered, holds}
+use Rattle.sqlx_pool_lists.specs.StandsFor.{StandsFor}
+use Rattle.sqlx_pool_lists.specs.Makes.{Makes}
+use Rattle.sqlx_member.proofs.Fair.{makes-nothing}
 use Rattle.sqlx_log.proofs.ListFacts.{count_by-map}
 use Rattle.mem_store.specs.Store.{others_in_level, Store, Link, Session}
 use Rattle.sqlx_script.specs.declared.pool_line.PoolLine.{PoolLine}

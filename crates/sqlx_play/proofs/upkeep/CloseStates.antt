@@ -3,10 +3,10 @@ use Rattle.std.proofs.Common.{◌≡◌, ℕ, ◌+◌, ◌==◌, Bool, true, fal
 use Rattle.std.specs.List.{list_any}
 use Rattle.sqlx_text.specs.declared.Moment.{Moment}
 use Rattle.sqlx_log.specs.declared.mark.Mark.{Mark}
-use Rattle.sqlx_pool_core.specs.declared.steps.CloseState.{CloseState}
-use Rattle.sqlx_pool_core.specs.declared.steps.CloseState.TheVariants as state
+use Rattle.sqlx_pool_lists.specs.declared.steps.CloseState.{CloseState}
+use Rattle.sqlx_pool_lists.specs.declared.steps.CloseState.TheVariants as state
 use Rattle.sqlx_log.specs.Marks.{is_shut, loans_of, leaked_of, tickets_of}
-use Rattle.sqlx_pool_core.specs.MaintenanceSteps.{close_state_of}
+use Rattle.sqlx_pool_lists.specs.MaintenanceSteps.{close_state_of}
 use Rattle.sqlx_script.specs.declared.step.Step.TheVariants.{CloseState as AskState}
 use Rattle.sqlx_script.specs.declared.reply.Reply.{Reply}
 use Rattle.sqlx_script.specs.declared.reply.Reply.TheVariants as reply
@@ -30,7 +30,7 @@ told_by false a b c = refl
 told_by true a b c =
     elim (a + b + c == 0) as (λ (e : Bool). word_of (cond e state.Closed state.Closing) ≡ cond e reply.StateClosed reply.StateClosing) [ true ↦ refl | false ↦ refl ]
 
-state_cond : (shut : Bool) (a b c : ℕ) → word_of (Rattle.sqlx_pool_core.specs.MaintenanceSteps.close_state shut a b c) ≡ word_of (cond shut (cond (a + b + c == 0) state.Closed state.Closing) state.NotShut)
+state_cond : (shut : Bool) (a b c : ℕ) → word_of (Rattle.sqlx_pool_lists.specs.MaintenanceSteps.close_state shut a b c) ≡ word_of (cond shut (cond (a + b + c == 0) state.Closed state.Closing) state.NotShut)
 state_cond true a b c = refl
 state_cond false a b c = refl
 

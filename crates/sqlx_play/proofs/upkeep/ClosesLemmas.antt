@@ -3,15 +3,15 @@ use Rattle.std.proofs.Common.{◌≡◌, ℕ, ◌+◌, ◌≤◌, ◌==◌, Bool
 use Rattle.sqlx_text.specs.declared.moment.Moment.{Moment}
 use Rattle.sqlx_log.specs.declared.mark.Mark.{Mark}
 use Rattle.sqlx_log.specs.declared.mark.Mark.TheVariants as mark
-use Rattle.sqlx_pool_core.specs.declared.ticket.OwnedConn.{OwnedConn}
-use Rattle.sqlx_pool_core.specs.declared.steps.Idle.{Idle}
-use Rattle.sqlx_pool_core.specs.declared.steps.Lent.{Lent}
-use Rattle.sqlx_pool_core.specs.Core.{Core, resting}
-use Rattle.sqlx_pool_core.specs.Edits.{without_idle}
-use Rattle.sqlx_pool_core.specs.MaintenanceSteps.{close_marks, close_answer, closed_from, closed_idle}
-use Rattle.sqlx_pool_core.specs.Makes.{Makes}
+use Rattle.sqlx_pool_lists.specs.declared.ticket.OwnedConn.{OwnedConn}
+use Rattle.sqlx_pool_lists.specs.declared.steps.Idle.{Idle}
+use Rattle.sqlx_pool_lists.specs.declared.steps.Lent.{Lent}
+use Rattle.sqlx_pool_lists.specs.Core.{Core, resting}
+use Rattle.sqlx_pool_lists.specs.Edits.{without_idle}
+use Rattle.sqlx_pool_lists.specs.MaintenanceSteps.{close_marks, close_answer, closed_from, closed_idle}
+use Rattle.sqlx_pool_lists.specs.Makes.{Makes}
 use Rattle.sqlx_log.specs.Marks.{idle_of, is_open}
-use Rattle.sqlx_pool_core.specs.Sound.{IsNumbered, rests, holds}
+use Rattle.sqlx_pool_lists.specs.Sound.{IsNumbered, rests, holds}
 use Rattle.sqlx_log.proofs.ListFacts.{same_number, count_by-cons, filter_none, length_map}
 use Rattle.mem_store.specs.Store.{Store, Link}
 use Rattle.sqlx_brackets.specs.Changes.{leaves, History}

@@ -3,13 +3,13 @@ use Rattle.std.proofs.Common.{◌≡◌, ℕ, zero, suc, ◌+◌, ◌-◌, ◌�
 use Rattle.std.proofs.lemmas.Bool.{and_parts}
 use Rattle.sqlx_log.specs.declared.mark.Mark.{Mark}
 use Rattle.sqlx_log.specs.declared.mark.Mark.TheVariants.{Opened, Kept}
-use Rattle.sqlx_pool_core.specs.Core.{Core, free, size}
+use Rattle.sqlx_pool_lists.specs.Core.{Core, free, size}
 use Rattle.sqlx_log.specs.View.{view_of, free as free_in}
 use Rattle.sqlx_log.specs.Marks.{next_conn}
 use Rattle.sqlx_log.specs.EventTable.{may_pass, size_at}
-use Rattle.sqlx_pool_core.specs.StandsFor.{StandsFor}
-use Rattle.sqlx_pool_core.proofs.Stands.{stands-in}
-use Rattle.sqlx_pool_core.proofs.TurnAtMarks.{free-places, waiting-stands, size-stands}
+use Rattle.sqlx_pool_lists.specs.StandsFor.{StandsFor}
+use Rattle.sqlx_member.proofs.Stands.{stands-in}
+use Rattle.sqlx_member.proofs.TurnAtMarks.{free-places, waiting-stands, size-stands}
 use Rattle.mem_store.specs.Store.{Store, Link}
 use Rattle.sqlx_brackets.specs.Changes.{History}
 use Rattle.sqlx_script.specs.declared.pool_line.PoolLine.{PoolLine}

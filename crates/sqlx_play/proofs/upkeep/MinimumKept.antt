@@ -3,17 +3,17 @@ use Rattle.std.proofs.Common.{◌≡◌, ℕ, zero, suc, ◌+◌, ◌-◌, ◌^�
 use Rattle.std.proofs.lemmas.Bool.{lt-ltb}
 use Rattle.sqlx_text.specs.declared.error.Error.{Error}
 use Rattle.sqlx_log.specs.declared.mark.Mark.{Mark}
-use Rattle.sqlx_pool_core.specs.Core.{Core, size}
-use Rattle.sqlx_pool_core.specs.Makes.{Makes}
-use Rattle.sqlx_pool_core.specs.StandsFor.{StandsFor}
-use Rattle.sqlx_pool_core.specs.Edits.{at_moment}
-use Rattle.sqlx_pool_core.specs.MaintenanceSteps.{has_place, placed, placed_back, done_at}
-use Rattle.sqlx_pool_core.specs.Outside.{is_transient}
-use Rattle.sqlx_pool_core.specs.declared.idle_check.Opening.{Opening}
-use Rattle.sqlx_pool_core.specs.declared.idle_check.Opening.TheVariants as opening
-use Rattle.sqlx_pool_core.specs.Chain.{KeepsIf, Follows, Tries}
+use Rattle.sqlx_pool_lists.specs.Core.{Core, size}
+use Rattle.sqlx_pool_lists.specs.Makes.{Makes}
+use Rattle.sqlx_pool_lists.specs.StandsFor.{StandsFor}
+use Rattle.sqlx_pool_lists.specs.Edits.{at_moment}
+use Rattle.sqlx_pool_lists.specs.MaintenanceSteps.{has_place, placed, placed_back, done_at}
+use Rattle.sqlx_member.specs.Outside.{is_transient}
+use Rattle.sqlx_member.specs.declared.idle_check.Opening.{Opening}
+use Rattle.sqlx_member.specs.declared.idle_check.Opening.TheVariants as opening
+use Rattle.sqlx_member.specs.Chain.{KeepsIf, Follows, Tries}
 use Rattle.sqlx_pool_core.specs.Minimum.{filled, filled_marks, opened_of, is_short, Keeps}
-use Rattle.sqlx_pool_core.specs.Outside.{is_want}
+use Rattle.sqlx_member.specs.Outside.{is_want}
 use Rattle.sqlx_script.specs.declared.answers.ConnectAnswer.{ConnectAnswer}
 use Rattle.sqlx_script.specs.declared.answers.ConnectAnswer.TheVariants as letter
 use Rattle.sqlx_script.specs.Built.{sets_up}

@@ -4,15 +4,15 @@ use Rattle.std.proofs.Math.Nat.{max-eq_right}
 use Rattle.std.proofs.lemmas.Bool.{and_parts}
 use Rattle.sqlx_log.specs.declared.mark.Mark.{Mark}
 use Rattle.sqlx_log.specs.declared.mark.Mark.TheVariants.{Opened, Kept}
-use Rattle.sqlx_pool_core.specs.declared.steps.Idle.{Idle}
-use Rattle.sqlx_pool_core.specs.Core.{Core, waiting, free, gone, size}
+use Rattle.sqlx_pool_lists.specs.declared.steps.Idle.{Idle}
+use Rattle.sqlx_pool_lists.specs.Core.{Core, waiting, free, gone, size}
 use Rattle.sqlx_log.specs.Counts.{free_of}
 use Rattle.sqlx_log.specs.Marks.{next_conn}
-use Rattle.sqlx_pool_core.specs.Edits.{at_moment, opened, kept}
+use Rattle.sqlx_pool_lists.specs.Edits.{at_moment, opened, kept}
 use Rattle.sqlx_log.specs.EventTable.{may_pass}
-use Rattle.sqlx_pool_core.specs.MaintenanceSteps.{has_place, placed, placed_back, done_at, done, done_marks}
-use Rattle.sqlx_pool_core.specs.Makes.{Makes}
-use Rattle.sqlx_pool_core.specs.StandsFor.{StandsFor}
+use Rattle.sqlx_pool_lists.specs.MaintenanceSteps.{has_place, placed, placed_back, done_at, done, done_marks}
+use Rattle.sqlx_pool_lists.specs.Makes.{Makes}
+use Rattle.sqlx_pool_lists.specs.StandsFor.{StandsFor}
 use Rattle.sqlx_log.proofs.ListFacts.{length-push}
 use Rattle.mem_store.specs.Store.{Store, Link, new_link, connected}
 use Rattle.sqlx_play.specs.declared.outside.ScriptOutside.{ScriptOutside}

@@ -4,17 +4,17 @@ use Rattle.std.proofs.lemmas.List.Elements.{All-head, All-tail}
 use Rattle.sqlx_text.specs.declared.moment.Moment.{Moment}
 use Rattle.sqlx_log.specs.declared.mark.Mark.{Mark}
 use Rattle.sqlx_log.specs.declared.mark.Mark.TheVariants.{Reaped}
-use Rattle.sqlx_pool_core.specs.declared.options.PoolOptions.{PoolOptions}
-use Rattle.sqlx_pool_core.specs.declared.steps.Idle.{Idle}
-use Rattle.sqlx_pool_core.specs.Core.{Core, resting}
-use Rattle.sqlx_pool_core.specs.Edits.{at_moment, without_idle}
+use Rattle.sqlx_pool_lists.specs.declared.options.PoolOptions.{PoolOptions}
+use Rattle.sqlx_pool_lists.specs.declared.steps.Idle.{Idle}
+use Rattle.sqlx_pool_lists.specs.Core.{Core, resting}
+use Rattle.sqlx_pool_lists.specs.Edits.{at_moment, without_idle}
 use Rattle.sqlx_log.specs.EventTable.{is_idle_too_long, is_old_since, is_beyond_at}
-use Rattle.sqlx_pool_core.specs.MaintenanceSteps.{is_reaped_at, reap_answer}
-use Rattle.sqlx_pool_core.specs.Makes.{Makes}
+use Rattle.sqlx_pool_lists.specs.MaintenanceSteps.{is_reaped_at, reap_answer}
+use Rattle.sqlx_pool_lists.specs.Makes.{Makes}
 use Rattle.sqlx_log.specs.Marks.{idle_of, next_conn}
-use Rattle.sqlx_pool_core.specs.Sound.{IsNumbered, rests}
+use Rattle.sqlx_pool_lists.specs.Sound.{IsNumbered, rests}
 use Rattle.sqlx_log.specs.Born.{IsBorn}
-use Rattle.sqlx_pool_core.specs.StandsFor.{StandsFor}
+use Rattle.sqlx_pool_lists.specs.StandsFor.{StandsFor}
 use Rattle.sqlx_play.proofs.events.Numbers.{idle-found}
 use Rattle.sqlx_log.proofs.ListFacts.{same_number, count_by-cons, filter_none, found_counts, length-filter_not, map-append, length_map}
 use Rattle.mem_store.specs.Store.{Store, Link}

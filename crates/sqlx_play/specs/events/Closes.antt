@@ -1,6 +1,6 @@
 -- The store behind the closing of several links.
 use Rattle.std.specs.Prelude.{List, [], ◌∷◌}
-use Rattle.sqlx_pool_core.specs.declared.steps.Idle.{Idle}
+use Rattle.sqlx_pool_lists.specs.declared.steps.Idle.{Idle}
 use Rattle.mem_store.specs.Store.{Store, Link, closed_at}
 
 -- the links of these connections are closed, one by one

@@ -3,10 +3,10 @@ use Rattle.std.specs.Prelude.{ℕ, List, [], ◌∷◌}
 use Rattle.sqlx_text.specs.declared.Moment.{Moment}
 use Rattle.sqlx_log.specs.declared.mark.Mark.{Mark}
 use Rattle.sqlx_log.specs.declared.mark.Mark.TheVariants as mark
-use Rattle.sqlx_pool_core.specs.declared.ticket.Ticket.{Ticket}
-use Rattle.sqlx_pool_core.specs.Core.{Core}
-use Rattle.sqlx_pool_core.specs.Edits.{with_ticket, to_back_off, at_moment, core_without_ticket, lent_to, opened}
-use Rattle.sqlx_pool_core.specs.PollSteps.{wait_of}
+use Rattle.sqlx_pool_lists.specs.declared.ticket.Ticket.{Ticket}
+use Rattle.sqlx_pool_lists.specs.Core.{Core}
+use Rattle.sqlx_pool_lists.specs.Edits.{with_ticket, to_back_off, at_moment, core_without_ticket, lent_to, opened}
+use Rattle.sqlx_pool_lists.specs.PollSteps.{wait_of}
 use Rattle.sqlx_script.specs.declared.reply.Reply.{Reply}
 use Rattle.sqlx_script.specs.declared.reply.Reply.TheVariants as reply
 use Rattle.mem_store.specs.Store.{Store, connected, closed_at}

@@ -1,8 +1,8 @@
 -- What opening connections for the minimum is.
 use Rattle.std.specs.Prelude.{◌≡◌, ℕ, ◌+◌, ◌&&◌, Bool, if◌then◌else◌, nat_lt, min, List}
 use Rattle.sqlx_log.specs.declared.mark.Mark.{Mark}
-use Rattle.sqlx_pool_core.specs.declared.options.PoolOptions.{PoolOptions}
-use Rattle.sqlx_pool_core.specs.Core.{Core, waiting, free, size}
+use Rattle.sqlx_pool_lists.specs.declared.options.PoolOptions.{PoolOptions}
+use Rattle.sqlx_pool_lists.specs.Core.{Core, waiting, free, size}
 use Rattle.sqlx_log.specs.EventTable.{may_pass}
 use Rattle.sqlx_log.specs.Marks.{next_conn}
 use Rattle.mem_store.specs.Store.{Link}

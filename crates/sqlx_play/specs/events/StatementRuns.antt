@@ -1,7 +1,7 @@
 -- What a statement of a script does on a stage, by the database's statement.
 use Rattle.std.specs.Prelude.{◌≡◌, ◌⊎◌, Bool, true, false, find, is_some, pos, ℕ, Option, Some, None, List, ◌∷◌, ◌++◌}
-use Rattle.sqlx_pool_core.specs.declared.steps.Lent.{Lent}
-use Rattle.sqlx_pool_core.specs.Core.{loan_of}
+use Rattle.sqlx_pool_lists.specs.declared.steps.Lent.{Lent}
+use Rattle.sqlx_pool_lists.specs.Core.{loan_of}
 use Rattle.mem_store.specs.declared.answer.Answer.{Answer}
 use Rattle.mem_store.specs.declared.answer.Answer.TheVariants as answer
 use Rattle.mem_store.specs.Store.{Store, Link, Session}

@@ -1,8 +1,8 @@
 -- The reply to what a poll of the pool came to, and who owns what then.
 use Rattle.std.specs.Prelude.{List, [], ◌∷◌, ◌++◌, Option, Some, None}
-use Rattle.sqlx_pool_core.specs.declared.steps.Lent.{Lent}
-use Rattle.sqlx_pool_core.specs.declared.steps.Polled.{Polled}
-use Rattle.sqlx_pool_core.specs.declared.steps.Polled.TheVariants as polled
+use Rattle.sqlx_pool_lists.specs.declared.steps.Lent.{Lent}
+use Rattle.sqlx_pool_lists.specs.declared.steps.Polled.{Polled}
+use Rattle.sqlx_pool_lists.specs.declared.steps.Polled.TheVariants as polled
 use Rattle.sqlx_script.specs.declared.answers.ConnectAnswer.{ConnectAnswer}
 use Rattle.sqlx_script.specs.declared.answers.ConnectAnswer.TheVariants.{ConnectIo, ConnectDatabase}
 use Rattle.sqlx_script.specs.declared.reply.Reply.{Reply}

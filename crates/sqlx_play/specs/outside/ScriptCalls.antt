@@ -2,8 +2,8 @@
 use Rattle.std.specs.Prelude.{◌≡◌, ◌+◌, ◌-◌, ◌≤◌, Bool, true, false, ⊤, Result, IfOk, IfErr, OnOk, OnErr, is_ok}
 use Rattle.sqlx_text.specs.declared.error.Error.{Error}
 use Rattle.sqlx_text.specs.declared.error.Error.TheVariants.{OutOfMemory}
-use Rattle.sqlx_pool_core.specs.Outside.{is_transient, says_yes, says_ok}
-use Rattle.sqlx_pool_core.specs.Calls as call
+use Rattle.sqlx_member.specs.Outside.{is_transient, says_yes, says_ok}
+use Rattle.sqlx_member.specs.Calls as call
 use Rattle.sqlx_script.specs.declared.answers.ConnectAnswer.{ConnectAnswer}
 use Rattle.sqlx_script.specs.declared.answers.ConnectAnswer.TheVariants.{Connected, Transient}
 use Rattle.sqlx_script.specs.Letters.{answering}

@@ -1,7 +1,7 @@
 -- The lent links of a stage, by the numbers of their connections.
 use Rattle.std.specs.Prelude.{ℕ, ◌==◌, Bool, not, List, filter, refl}
 use Rattle.std.specs.Coded.{Coded, code_by, coded×, coded_ℕ, coded_list}
-use Rattle.sqlx_pool_core.specs.declared.steps.Lent.{Lent}
+use Rattle.sqlx_pool_lists.specs.declared.steps.Lent.{Lent}
 use Rattle.mem_store.specs.Store.{Link, link_code}
 
 -- Links in the order of lending.

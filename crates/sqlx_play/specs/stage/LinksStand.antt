@@ -1,10 +1,10 @@
 -- When the links and the store of a stage are what the transactions of a script come to.
 use Rattle.std.specs.Prelude.{◌≡◌, ℕ, ◌≤◌, ◌==◌, nat_lt, Bool, false, List, map, count_by, All}
 use Rattle.std.specs.List.{list_any}
-use Rattle.sqlx_pool_core.specs.declared.steps.Lent.{Lent}
-use Rattle.sqlx_pool_core.specs.declared.steps.Idle.{Idle}
-use Rattle.sqlx_pool_core.specs.declared.ticket.OwnedConn.{OwnedConn}
-use Rattle.sqlx_pool_core.specs.Core.{Core}
+use Rattle.sqlx_pool_lists.specs.declared.steps.Lent.{Lent}
+use Rattle.sqlx_pool_lists.specs.declared.steps.Idle.{Idle}
+use Rattle.sqlx_pool_lists.specs.declared.ticket.OwnedConn.{OwnedConn}
+use Rattle.sqlx_pool_lists.specs.Core.{Core}
 use Rattle.mem_store.specs.Store.{Store, Link}
 use Rattle.sqlx_brackets.specs.Changes.{History}
 use Rattle.sqlx_brackets.specs.Links.{Linked, linked_after, new_link}

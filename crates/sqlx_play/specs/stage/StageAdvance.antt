@@ -1,8 +1,8 @@
 -- What a part of an event makes of a stage, where it changes no ticket.
 use Rattle.std.specs.Prelude.{◌≡◌, List}
 use Rattle.sqlx_log.specs.declared.mark.Mark.{Mark}
-use Rattle.sqlx_pool_core.specs.StandsFor.{StandsFor}
-use Rattle.sqlx_pool_core.specs.Makes.{Makes}
+use Rattle.sqlx_pool_lists.specs.StandsFor.{StandsFor}
+use Rattle.sqlx_pool_lists.specs.Makes.{Makes}
 use Rattle.sqlx_brackets.specs.Changes.{History}
 use Rattle.sqlx_play.specs.declared.stage.Stage.{Stage}
 use Rattle.sqlx_play.specs.stage.LinksStand.{LinksStand}

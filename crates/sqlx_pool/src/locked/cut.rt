@@ -2,7 +2,7 @@
 
 ghost use Rattle.std.specs.Prelude.{◌≡◌, ◌+◌, ◌≤◌, ℕ, true, None, length, if◌then◌else◌};
 ghost use Rattle.sqlx_log.specs.Cut.{cut_of};
-ghost use Rattle.sqlx_pool_core.specs.Balance.{lents};
+ghost use Rattle.sqlx_pool_lists.specs.Balance.{lents};
 ghost use Rattle.sqlx_pool_parts.specs.LogStart.{is_long};
 ghost use Rattle.sqlx_pool_parts.specs.State.{IsWithinLimit};
 

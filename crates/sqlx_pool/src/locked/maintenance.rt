@@ -4,9 +4,9 @@ ghost use Rattle.std.specs.Prelude.{◌≡◌, ℕ, ◌+◌, ◌++◌, List, tru
 ghost use Rattle.std.specs.List.{list_any};
 ghost use Rattle.sqlx_log.specs.Marks.{is_shut, next_conn};
 ghost use Rattle.sqlx_log.specs.EventTable.{reaped_at, has_place_at, closed_at};
-ghost use Rattle.sqlx_pool_core.specs.MaintenanceSteps.{idle_conn, reap_marks, reaped, placed, close_marks, closed_from, close_answer};
-ghost use Rattle.sqlx_pool_core.specs.Limits.{limits_of};
-ghost use Rattle.sqlx_pool_core.specs.Logs.{moment_of};
+ghost use Rattle.sqlx_pool_lists.specs.MaintenanceSteps.{idle_conn, reap_marks, reaped, placed, close_marks, closed_from, close_answer};
+ghost use Rattle.sqlx_pool_lists.specs.Limits.{limits_of};
+ghost use Rattle.sqlx_member.specs.Logs.{moment_of};
 ghost use Rattle.sqlx_pool.specs.Places.{holds_place, done_if, done_if_marks, back_if};
 
 use super::Locked;

@@ -3,11 +3,11 @@
 ghost use Rattle.std.specs.Prelude.{◌≡◌, ℕ, ◌+◌, ◌^◌, ◌<◌, ◌≤◌, ◌++◌, List, is_some, false};
 ghost use Rattle.std.specs.List.{list_any};
 ghost use Rattle.sqlx_log.specs.Marks.{is_shut, next_conn};
-ghost use Rattle.sqlx_pool_core.specs.Core.{ticket_of};
-ghost use Rattle.sqlx_pool_core.specs.Logs.{moment_of};
+ghost use Rattle.sqlx_pool_lists.specs.Core.{ticket_of};
+ghost use Rattle.sqlx_member.specs.Logs.{moment_of};
 ghost use Rattle.sqlx_pool_core.specs.PollParts.{IfAccepted};
-ghost use Rattle.sqlx_pool_core.specs.PollTable.{phase_turn};
-ghost use Rattle.sqlx_pool_core.specs.PollSteps.{phase_for, judged, start_answer, start_marks, started, test_marks, after_test, connect_answer, connect_marks, after_connect, may_cancel, cancel_marks, cancelled};
+ghost use Rattle.sqlx_pool_lists.specs.PollTable.{phase_turn};
+ghost use Rattle.sqlx_pool_lists.specs.PollSteps.{phase_for, judged, start_answer, start_marks, started, test_marks, after_test, connect_answer, connect_marks, after_connect, may_cancel, cancel_marks, cancelled};
 ghost use Rattle.sqlx_pool_parts.specs.Answers.{test_answer_in, lends_tested, IfTestLends, lends_new, IfTryLends, IfTried, is_fatal, is_ended};
 ghost use Rattle.sqlx_pool_parts.specs.Booked.{CountsIf};
 

@@ -4,10 +4,10 @@ ghost use Rattle.std.specs.Prelude.{◌≡◌, ◌≤◌, ℕ, ◌+◌, ◌++◌
 ghost use Rattle.std.specs.List.{list_any};
 ghost use Rattle.sqlx_log.specs.Marks.{is_shut, is_open, idle_of};
 ghost use Rattle.sqlx_log.specs.EventTable.{closes, size_at};
-ghost use Rattle.sqlx_pool_core.specs.MaintenanceSteps.{close_state_of};
-ghost use Rattle.sqlx_pool_core.specs.Limits.{limits_of};
-ghost use Rattle.sqlx_pool_core.specs.Logs.{moment_of};
-ghost use Rattle.sqlx_pool_core.specs.Balance.{lents};
+ghost use Rattle.sqlx_pool_lists.specs.MaintenanceSteps.{close_state_of};
+ghost use Rattle.sqlx_pool_lists.specs.Limits.{limits_of};
+ghost use Rattle.sqlx_member.specs.Logs.{moment_of};
+ghost use Rattle.sqlx_pool_lists.specs.Balance.{lents};
 ghost use Rattle.sqlx_pool_parts.specs.State.{IsStanding, start_of, since_start};
 
 use super::Locked;

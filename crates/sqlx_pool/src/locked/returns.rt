@@ -4,10 +4,10 @@ ghost use Rattle.std.specs.Prelude.{◌≡◌, ℕ, ◌+◌, ◌++◌, true, fal
 ghost use Rattle.sqlx_log.specs.Marks.{owner_of};
 ghost use Rattle.sqlx_log.specs.Answers.{owns, is_kept_at};
 ghost use Rattle.sqlx_pool_core.specs.Answers.{is_kept, is_held};
-ghost use Rattle.sqlx_pool_core.specs.Core.{loan_of};
-ghost use Rattle.sqlx_pool_core.specs.Limits.{limits_of};
-ghost use Rattle.sqlx_pool_core.specs.Logs.{moment_of};
-ghost use Rattle.sqlx_pool_core.specs.ReturnSteps.{give_answer, give_marks, core_after_give, end_marks, detach_marks, leak_marks, released, leaked};
+ghost use Rattle.sqlx_pool_lists.specs.Core.{loan_of};
+ghost use Rattle.sqlx_pool_lists.specs.Limits.{limits_of};
+ghost use Rattle.sqlx_member.specs.Logs.{moment_of};
+ghost use Rattle.sqlx_member.specs.ReturnSteps.{give_answer, give_marks, core_after_give, end_marks, detach_marks, leak_marks, released, leaked};
 
 use super::Locked;
 use crate::{Held, Loans};

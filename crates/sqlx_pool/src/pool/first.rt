@@ -5,8 +5,8 @@ ghost use Rattle.sqlx_pool_parts.specs.Opened.{IsOpenRefusal};
 
 use super::PoolOf;
 use crate::Loans;
+use sqlx_member::idle_check::Check;
 use sqlx_pool_core::Outside;
-use sqlx_pool_core::idle_check::Check;
 use sqlx_pool_parts::checks::{self, close_all, close_by};
 use sqlx_pool_parts::filled::Filled;
 use sqlx_text::{Depth, Error, Moment};

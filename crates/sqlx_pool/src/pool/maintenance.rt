@@ -2,7 +2,7 @@
 
 ghost use Rattle.std.specs.Prelude.{◌≡◌, ◌⊎◌, ℕ, ◌≤◌, true, false, None, length};
 ghost use Rattle.sqlx_log.specs.EventTable.{closed_at};
-ghost use Rattle.sqlx_pool_core.specs.Giving.{is_pass};
+ghost use Rattle.sqlx_member.specs.Giving.{is_pass};
 ghost use Rattle.sqlx_pool_parts.specs.Checks.{IfPassed};
 ghost use Rattle.sqlx_pool_parts.specs.Opened.{IsCounted, TellsLevels};
 ghost use Rattle.sqlx_pool.specs.Seen.{Saw};
@@ -10,7 +10,7 @@ ghost use Rattle.sqlx_pool.specs.Upkeep.{EndsKeeping, IfUnfilled, IsFilled, to_r
 
 use super::PoolOf;
 use crate::{Loans, Locked};
-use sqlx_pool_core::idle_check::{Check, Opening};
+use sqlx_member::idle_check::{Check, Opening};
 use sqlx_pool_core::{Openings, Outside, PoolConnectionMetadata, PoolOptions};
 use sqlx_pool_parts::checks;
 use sqlx_pool_parts::filled::Filled;

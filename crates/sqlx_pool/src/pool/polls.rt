@@ -1,7 +1,7 @@
 //! The parts of a poll that take the lock, and what is asked of the outside between them.
 
 ghost use Rattle.std.specs.Prelude.{◌≡◌, ℕ, ◌+◌, ◌<◌, ◌≤◌, ◌⊎◌, false};
-ghost use Rattle.sqlx_pool_core.specs.Balance.{one_if};
+ghost use Rattle.sqlx_pool_lists.specs.Balance.{one_if};
 ghost use Rattle.sqlx_pool_core.specs.PollParts.{IfOpened, IfFailed, IsForGood};
 ghost use Rattle.sqlx_pool_parts.specs.Answers.{IfTried, is_fatal};
 ghost use Rattle.sqlx_pool_parts.specs.Booked.{CountsIf};
@@ -12,7 +12,7 @@ ghost use Rattle.sqlx_pool.specs.Stage.{has_lent, IfLent, IfEnded, wants_test, w
 use super::PoolOf;
 use crate::stage::{Stage, after_test, after_try};
 use crate::{Held, Loans, Tally};
-use sqlx_pool_core::idle_check::Opening;
+use sqlx_member::idle_check::Opening;
 use sqlx_pool_core::{AfterConnect, Idle, Outside, Tried};
 use sqlx_pool_parts::checks;
 use sqlx_text::{Depth, Error, Moment};

@@ -4,13 +4,13 @@ ghost use Rattle.std.specs.Prelude.{◌≡◌, ℕ, List, true, not, map, length
 ghost use Rattle.sqlx_log.specs.declared.mark.Mark.{Mark};
 ghost use Rattle.sqlx_log.specs.Marks.{is_open};
 ghost use Rattle.sqlx_log.specs.EventTable.{closed_at};
-ghost use Rattle.sqlx_pool_core.specs.Logs.{Logs};
-ghost use Rattle.sqlx_pool_core.specs.MaintenanceSteps.{idle_conn, close_marks, close_answer, closed_from, close_state, close_state_of};
-ghost use Rattle.sqlx_pool_core.specs.Balance.{Balance};
-ghost use Rattle.sqlx_pool_core.specs.StandsFor.{StandsFor};
+ghost use Rattle.sqlx_member.specs.Logs.{Logs};
+ghost use Rattle.sqlx_pool_lists.specs.MaintenanceSteps.{idle_conn, close_marks, close_answer, closed_from, close_state, close_state_of};
+ghost use Rattle.sqlx_pool_lists.specs.Balance.{Balance};
+ghost use Rattle.sqlx_pool_lists.specs.StandsFor.{StandsFor};
 
 use super::PoolCore;
-use crate::steps::{CloseState, Idle};
+use sqlx_pool_lists::{CloseState, Idle};
 use std::collections::VecDeque;
 
 impl<C> PoolCore<C> {

@@ -6,13 +6,13 @@ ghost use Rattle.sqlx_log.specs.Marks.{owner_of, tickets_of, loans_of, leaked_of
 ghost use Rattle.sqlx_log.specs.Counts.{asked_in};
 ghost use Rattle.sqlx_log.specs.EventTable.{may_pass};
 ghost use Rattle.sqlx_log.specs.Answers.{owns, lent_past_at, waits_if};
-ghost use Rattle.sqlx_pool_core.specs.StandsFor.{StandsFor};
-ghost use Rattle.sqlx_pool_core.specs.Core.{loan_of, waiting, free};
-ghost use Rattle.sqlx_pool_core.specs.PollSteps.{phase_for, is_in_line, try_lent};
+ghost use Rattle.sqlx_pool_lists.specs.StandsFor.{StandsFor};
+ghost use Rattle.sqlx_pool_lists.specs.Core.{loan_of, waiting, free};
+ghost use Rattle.sqlx_pool_lists.specs.PollSteps.{phase_for, is_in_line, try_lent};
 ghost use Rattle.sqlx_pool_core.specs.KeptLine.{let_in};
 
 use super::PoolCore;
-use crate::steps::Numbers;
+use sqlx_pool_lists::Numbers;
 
 impl<C> PoolCore<C> {
     /// Whether the client owns the connection of this number.

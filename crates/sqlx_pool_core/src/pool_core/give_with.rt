@@ -1,14 +1,14 @@
 //! A whole giving back, with the outside asked.
 
 ghost use Rattle.std.specs.Prelude.{◌≡◌, ℕ, max};
-ghost use Rattle.sqlx_pool_core.specs.Core.{loan_of};
-ghost use Rattle.sqlx_pool_core.specs.Giving.{Ends, TestsIf, GivesBack, returned_by};
-ghost use Rattle.sqlx_pool_core.specs.Logs.{moment_of};
+ghost use Rattle.sqlx_pool_lists.specs.Core.{loan_of};
+ghost use Rattle.sqlx_member.specs.Giving.{Ends, TestsIf, GivesBack, returned_by};
+ghost use Rattle.sqlx_member.specs.Logs.{moment_of};
 
 use super::PoolCore;
-use crate::idle_check::{self, Check};
-use crate::outside::{Outside, PoolConnectionMetadata};
-use crate::steps::{Given, Lent, Returned};
+use sqlx_member::idle_check::{self, Check};
+use sqlx_member::{Outside, PoolConnectionMetadata};
+use sqlx_pool_lists::{Given, Lent, Returned};
 use sqlx_text::Moment;
 
 // The tests, where it comes to them.

@@ -3,17 +3,17 @@
 ghost use Rattle.std.specs.Prelude.{◌≡◌, ℕ, ◌≤◌, ◌⊎◌, nat_lt, max, true, false, List, Option, Some, None};
 ghost use Rattle.sqlx_log.specs.declared.mark.Mark.{Mark};
 ghost use Rattle.sqlx_log.specs.EventTable.{lacking_at};
-ghost use Rattle.sqlx_pool_core.specs.Limits.{limits_of};
-ghost use Rattle.sqlx_pool_core.specs.StandsFor.{StandsFor};
-ghost use Rattle.sqlx_pool_core.specs.Logs.{Logs, moment_of};
-ghost use Rattle.sqlx_pool_core.specs.MaintenanceSteps.{done, done_marks, has_place, lacks};
+ghost use Rattle.sqlx_pool_lists.specs.Limits.{limits_of};
+ghost use Rattle.sqlx_pool_lists.specs.StandsFor.{StandsFor};
+ghost use Rattle.sqlx_member.specs.Logs.{Logs, moment_of};
+ghost use Rattle.sqlx_pool_lists.specs.MaintenanceSteps.{done, done_marks, has_place, lacks};
 ghost use Rattle.sqlx_pool_core.specs.Minimum.{KeepsMinimum, Opens, openings_made};
-ghost use Rattle.sqlx_pool_core.specs.Outside.{HasRisen, is_want};
+ghost use Rattle.sqlx_member.specs.Outside.{HasRisen, is_want};
 
 use super::PoolCore;
-use crate::idle_check::{self, Opening};
-use crate::outside::Outside;
-use crate::steps::Openings;
+use sqlx_member::Outside;
+use sqlx_member::idle_check::{self, Opening};
+use sqlx_pool_lists::Openings;
 use sqlx_text::{Error, Moment};
 use std::alloc::Global;
 

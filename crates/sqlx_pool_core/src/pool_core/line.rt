@@ -3,11 +3,11 @@
 ghost use Rattle.std.specs.Prelude.{◌≡◌, ◌+◌, ◌-◌, ◌<◌, ◌≤◌, ◌^◌, ◌&&◌, ◌⊎◌, if◌then◌else◌};
 ghost use Rattle.sqlx_line.specs.Line.{ComesLast, beyond, entitled, is_below_edge, pushed};
 ghost use Rattle.sqlx_pool_core.specs.KeptLine.{IsLined, IsNearlyLined, EntitlesBeyond, leaves, taken_out};
-ghost use Rattle.sqlx_pool_core.specs.PollSteps.{phase_for, is_in_line};
+ghost use Rattle.sqlx_pool_lists.specs.PollSteps.{phase_for, is_in_line};
 
-use crate::member::Member;
-use crate::steps::Start;
 use sqlx_line::{Line, Steps};
+use sqlx_member::Member;
+use sqlx_pool_lists::Start;
 use std::sync::ledger::Ledger;
 
 // How many waiting tickets are entitled.

@@ -2,16 +2,16 @@
 
 ghost use Rattle.std.specs.Prelude.{◌≡◌, ◌<◌, ℕ, max, List, Option};
 ghost use Rattle.sqlx_log.specs.declared.mark.Mark.{Mark};
-ghost use Rattle.sqlx_pool_core.specs.Logs.{Logs, moment_of};
-ghost use Rattle.sqlx_pool_core.specs.CoreTurn.{core_turn, turn_at_marks};
-ghost use Rattle.sqlx_pool_core.specs.PollSteps.{start_answer, start_marks, started, phase_for};
-ghost use Rattle.sqlx_pool_core.specs.Balance.{Balance};
-ghost use Rattle.sqlx_pool_core.specs.StandsFor.{StandsFor};
+ghost use Rattle.sqlx_member.specs.Logs.{Logs, moment_of};
+ghost use Rattle.sqlx_pool_lists.specs.CoreTurn.{core_turn, turn_at_marks};
+ghost use Rattle.sqlx_pool_lists.specs.PollSteps.{start_answer, start_marks, started, phase_for};
+ghost use Rattle.sqlx_pool_lists.specs.Balance.{Balance};
+ghost use Rattle.sqlx_pool_lists.specs.StandsFor.{StandsFor};
 ghost use Rattle.sqlx_pool_core.specs.KeptLine.{Looks};
 
 use super::{PoolCore, line};
-use crate::steps::Start;
 use sqlx_line::Steps;
+use sqlx_pool_lists::Start;
 use sqlx_text::Moment;
 use std::marker::Brand;
 use std::sync::ledger::{Blank, Ledger};

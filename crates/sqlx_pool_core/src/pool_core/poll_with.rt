@@ -2,19 +2,19 @@
 
 ghost use Rattle.std.specs.Prelude.{◌≡◌, ◌<◌, ◌≤◌, drop, ℕ, max, false, List, Some};
 ghost use Rattle.sqlx_log.specs.declared.mark.Mark.{Mark};
-ghost use Rattle.sqlx_pool_core.specs.declared.ticket.Phase.TheVariants.{Connecting};
-ghost use Rattle.sqlx_pool_core.specs.Core.{ticket_of};
-ghost use Rattle.sqlx_pool_core.specs.Logs.{Logs, moment_of};
-ghost use Rattle.sqlx_pool_core.specs.StandsFor.{StandsFor};
-ghost use Rattle.sqlx_pool_core.specs.CoreTurn.{core_turn, turn_at_marks};
+ghost use Rattle.sqlx_pool_lists.specs.declared.ticket.Phase.TheVariants.{Connecting};
+ghost use Rattle.sqlx_pool_lists.specs.Core.{ticket_of};
+ghost use Rattle.sqlx_member.specs.Logs.{Logs, moment_of};
+ghost use Rattle.sqlx_pool_lists.specs.StandsFor.{StandsFor};
+ghost use Rattle.sqlx_pool_lists.specs.CoreTurn.{core_turn, turn_at_marks};
 ghost use Rattle.sqlx_pool_core.specs.PollParts.{IfReady, IfRefused, IsForGood, WhereIdleRests, first_depth, tried_answer, next_try_at};
-ghost use Rattle.sqlx_pool_core.specs.PollSteps.{phase_for, judged, tested_at, may_test_next, test_answer, test_marks, after_test, connect_answer, connect_marks, after_connect};
+ghost use Rattle.sqlx_pool_lists.specs.PollSteps.{phase_for, judged, tested_at, may_test_next, test_answer, test_marks, after_test, connect_answer, connect_marks, after_connect};
 ghost use Rattle.sqlx_pool_core.specs.Walk.{GoesOn, Polls, Test, Connect, last, tried_of};
 
 use super::PoolCore;
-use crate::idle_check::{self, Opening};
-use crate::outside::Outside;
-use crate::steps::{AfterConnect, AfterTest, Idle, Polled, Start, Tried, Verdict};
+use sqlx_member::Outside;
+use sqlx_member::idle_check::{self, Opening};
+use sqlx_pool_lists::{AfterConnect, AfterTest, Idle, Polled, Start, Tried, Verdict};
 use sqlx_text::Moment;
 use std::alloc::Global;
 

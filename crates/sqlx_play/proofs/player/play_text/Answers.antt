@@ -3,7 +3,7 @@ use Rattle.sqlx_script.specs.Words.{first_line, behind_line}
 use Rattle.sqlx_script.specs.declared.pool_line.PoolLine.{PoolLine}
 use Rattle.sqlx_script.proofs.FirstLines.{lines_are}
 use Rattle.sqlx_script.proofs.ToldLines.{told_some, told_none}
-use Rattle.sqlx_pool_core.specs.Core.{Core}
+use Rattle.sqlx_pool_lists.specs.Core.{Core}
 use Rattle.mem_store.specs.Store.{Store, Link}
 use Rattle.sqlx_play.specs.Plays.{Plays}
 use Rattle.sqlx_play.proofs.scripts.Lines.{no_element, some_element}

@@ -1,6 +1,6 @@
 use Rattle.std.proofs.Common.{sym, ap, subst, [], ◌∙◌, arith}
 use Rattle.std.proofs.lemmas.List.Elements.{All-nil, All-same}
-use Rattle.sqlx_pool_core.specs.StandsFor.{StandsFor}
+use Rattle.sqlx_pool_lists.specs.StandsFor.{StandsFor}
 use Rattle.mem_store.specs.Store.{Store}
 use Rattle.sqlx_play.specs.stage.StageStands.{IsSetUp, IsTried}
 use Rattle.sqlx_play.specs.stage.LinksStand.{LinksStand}

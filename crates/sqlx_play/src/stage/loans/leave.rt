@@ -1,8 +1,8 @@
 //! The events `end`, `detach` and `leak`: a client's connection leaves the pool.
 ghost use Rattle.std.specs.Prelude.{◌≡◌, ◌^◌, ◌≤◌, find, Some, IfOk};
 ghost use Rattle.sqlx_log.specs.declared.mark.Mark.{Mark};
-ghost use Rattle.sqlx_pool_core.specs.declared.steps.Lent.{Lent};
-ghost use Rattle.sqlx_pool_core.specs.MaintenanceSteps.{without_first};
+ghost use Rattle.sqlx_pool_lists.specs.declared.steps.Lent.{Lent};
+ghost use Rattle.sqlx_pool_lists.specs.MaintenanceSteps.{without_first};
 ghost use Rattle.mem_store.specs.Store.{Link, closed_at};
 ghost use Rattle.sqlx_script.specs.declared.step.Step.{Step};
 ghost use Rattle.sqlx_play.specs.events.PlaysEvent.{PlaysEvent};

@@ -3,7 +3,7 @@
 ghost use Rattle.std.specs.Prelude.{◌≡◌, ◌∷◌, ◌++◌, [], ◌<◌, find, length, vec_capacity, IfOk, OnOk, OnErr, IfErr, IfSome, IfNone};
 ghost use Rattle.sqlx_numbered.specs.Numbered.{items_at};
 ghost use Rattle.sqlx_numbered.specs.Notes.{Tells};
-ghost use Rattle.sqlx_pool_core.specs.MaintenanceSteps.{without_first};
+ghost use Rattle.sqlx_pool_lists.specs.MaintenanceSteps.{without_first};
 ghost use Rattle.sqlx_play.specs.declared.error.PlayError.TheVariants as error;
 ghost use Rattle.sqlx_play.specs.events.StatementRuns.{RunsThere, RunsNowhere};
 ghost use Rattle.sqlx_play.specs.stage.LentLinks.{is_lent, number_of};

@@ -1,6 +1,6 @@
 //! The events that are statements on a connection of the client's.
 ghost use Rattle.std.specs.Prelude.{◌≡◌, ◌≤◌, true, false, Some, IfOk, IfErr, IfSome, IfNone};
-ghost use Rattle.sqlx_pool_core.specs.Sound.{IsNumbered};
+ghost use Rattle.sqlx_pool_lists.specs.Sound.{IsNumbered};
 ghost use Rattle.sqlx_rules.specs.ScriptLevels as levels;
 ghost use Rattle.sqlx_play.specs.events.StatementRuns.{IsMet, said, acts, done_by, Runs};
 ghost use Rattle.sqlx_play.specs.events.PlaysEvent.{PlaysEvent};

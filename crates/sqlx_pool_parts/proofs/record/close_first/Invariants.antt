@@ -1,6 +1,6 @@
 use Rattle.std.proofs.Common.{◌≡◌, ◌∷◌, ◌++◌, map, take, vec_capacity}
 use Rattle.sqlx_log.specs.declared.mark.Mark.TheVariants.{Shut}
-use Rattle.sqlx_pool_core.specs.MaintenanceSteps.{closed_idle}
+use Rattle.sqlx_pool_lists.specs.MaintenanceSteps.{closed_idle}
 use Rattle.sqlx_pool_parts.proofs.record.close_first.Given as goal
 
 abbrev pub invariant-loop-at : goal.invariant-loop-at

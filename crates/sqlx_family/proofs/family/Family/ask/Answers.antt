@@ -1,7 +1,7 @@
 use Rattle.std.proofs.Common.{◌<◌, length}
-use Rattle.sqlx_pool_core.specs.Balance.{ask_room}
-use Rattle.sqlx_pool_core.specs.PollSteps.{asked_marks}
-use Rattle.sqlx_pool_core.specs.Core.{Core}
+use Rattle.sqlx_pool_lists.specs.Balance.{ask_room}
+use Rattle.sqlx_pool_lists.specs.PollSteps.{asked_marks}
+use Rattle.sqlx_pool_lists.specs.Core.{Core}
 use Rattle.sqlx_family.proofs.FamilyLemmas.{family-asked}
 use Rattle.sqlx_family.proofs.LogLemmas.{logs-asked}
 use Rattle.sqlx_family.proofs.BalanceLemmas.{balance-asked}

@@ -1,8 +1,8 @@
 use Rattle.std.proofs.Common.{◌≡◌, ℕ, ◌+◌, ◌<◌, [], ◌∷◌, ◌++◌, length, refl, ap, ◌∙◌, inr, arith, vec_items}
 use Rattle.sqlx_log.specs.declared.mark.Mark.TheVariants.{Asked}
-use Rattle.sqlx_pool_core.specs.declared.options.PoolOptions.{PoolOptions}
-use Rattle.sqlx_pool_core.specs.Logs.{moment_of}
-use Rattle.sqlx_pool_core.specs.PollSteps.{asked_marks}
+use Rattle.sqlx_pool_lists.specs.declared.options.PoolOptions.{PoolOptions}
+use Rattle.sqlx_member.specs.Logs.{moment_of}
+use Rattle.sqlx_pool_lists.specs.PollSteps.{asked_marks}
 use Rattle.sqlx_family.specs.Pools.{pool_in}
 use Rattle.sqlx_pool.proofs.LeavesLemmas.{asked-leaves}
 use Rattle.sqlx_pool.proofs.StepLemmas.{kept-books}

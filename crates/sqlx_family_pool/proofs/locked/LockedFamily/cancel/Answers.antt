@@ -2,7 +2,7 @@ use Rattle.std.proofs.Common.{◌<◌, ◌++◌, length, ap, ◌∙◌, arith, v
 use Rattle.sqlx_log.specs.declared.mark.Mark.TheVariants.{Ended}
 use Rattle.sqlx_family.specs.Pools.{pool_in}
 use Rattle.sqlx_family_pool.proofs.StepLemmas.{in-logs, room-there, room-made, logs-grow, written, one-long}
-use Rattle.sqlx_pool_core.specs.PollSteps.{cancel_marks}
+use Rattle.sqlx_pool_lists.specs.PollSteps.{cancel_marks}
 use Rattle.sqlx_pool.proofs.LeavesLemmas.{cancel-leaves}
 use Rattle.sqlx_pool.proofs.StepLemmas.{kept-books, cancel-made, cancel-lends}
 use Rattle.sqlx_family_pool.proofs.Replaces.{replaces-step}

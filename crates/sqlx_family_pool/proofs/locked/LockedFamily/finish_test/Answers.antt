@@ -1,10 +1,10 @@
 use Rattle.std.proofs.Common.{◌≡◌, ℕ, ◌<◌, ◌++◌, length, ap, ◌∙◌, sym, subst, inl, arith, vec_items}
 use Rattle.sqlx_family.specs.Pools.{pool_in}
 use Rattle.sqlx_family_pool.proofs.StepLemmas.{in-logs, room-there, room-made, logs-grow, written, few-held, test-flat}
-use Rattle.sqlx_pool_core.specs.PollSteps.{judged, test_marks, tested_at, may_test_next, phase_for}
-use Rattle.sqlx_pool_core.specs.declared.steps.AfterTest.{AfterTest}
+use Rattle.sqlx_pool_lists.specs.PollSteps.{judged, test_marks, tested_at, may_test_next, phase_for}
+use Rattle.sqlx_pool_lists.specs.declared.steps.AfterTest.{AfterTest}
 use Rattle.sqlx_pool_parts.specs.Answers.{IfTestLends}
-use Rattle.sqlx_pool_core.specs.Balance.{one_if}
+use Rattle.sqlx_pool_lists.specs.Balance.{one_if}
 use Rattle.sqlx_pool.proofs.LeavesLemmas.{test-leaves}
 use Rattle.sqlx_pool.proofs.StepLemmas.{test-lends, test-few}
 use Rattle.sqlx_family_pool.proofs.Replaces.{replaces-step}

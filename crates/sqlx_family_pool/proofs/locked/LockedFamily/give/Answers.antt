@@ -1,11 +1,11 @@
 use Rattle.std.proofs.Common.{ℕ, ◌<◌, ◌++◌, length, ap, ◌∙◌, inl, arith, vec_items}
 use Rattle.sqlx_family.specs.Pools.{pool_in}
 use Rattle.sqlx_family_pool.proofs.StepLemmas.{in-logs, room-there, room-made, logs-grow, written}
-use Rattle.sqlx_pool_core.specs.Logs.{moment_of}
-use Rattle.sqlx_pool_core.specs.ReturnSteps.{give_marks}
-use Rattle.sqlx_pool_core.specs.Core.{loan_of}
+use Rattle.sqlx_member.specs.Logs.{moment_of}
+use Rattle.sqlx_member.specs.ReturnSteps.{give_marks}
+use Rattle.sqlx_pool_lists.specs.Core.{loan_of}
 use Rattle.sqlx_pool_core.specs.Answers.{is_kept}
-use Rattle.sqlx_pool_core.specs.Balance.{one_if}
+use Rattle.sqlx_pool_lists.specs.Balance.{one_if}
 use Rattle.sqlx_pool.proofs.LeavesLemmas.{give-leaves}
 use Rattle.sqlx_pool.proofs.StepLemmas.{give-lends, given-back, refused-give}
 use Rattle.sqlx_family_pool.proofs.Replaces.{replaces-step}

@@ -2,7 +2,7 @@ use Rattle.std.proofs.Common.{◌<◌, ◌++◌, length, ap, ◌∙◌, inl, ari
 use Rattle.sqlx_log.specs.declared.mark.Mark.TheVariants.{Leaked}
 use Rattle.sqlx_family.specs.Pools.{pool_in}
 use Rattle.sqlx_family_pool.proofs.StepLemmas.{in-logs, room-there, room-made, logs-grow, written, one-long}
-use Rattle.sqlx_pool_core.specs.ReturnSteps.{leak_marks}
+use Rattle.sqlx_member.specs.ReturnSteps.{leak_marks}
 use Rattle.sqlx_pool.proofs.LeavesLemmas.{leaked-leaves}
 use Rattle.sqlx_pool.proofs.StepLemmas.{leak-made, leak-lends}
 use Rattle.sqlx_family_pool.proofs.Replaces.{replaces-put}

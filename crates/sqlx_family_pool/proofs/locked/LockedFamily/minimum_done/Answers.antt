@@ -1,6 +1,6 @@
 use Rattle.std.proofs.Common.{◌<◌, ◌≤◌, ◌++◌, not, ◌&&◌, is_some, length, ap, ◌∙◌, sym, arith, vec_items}
-use Rattle.sqlx_pool_core.specs.Logs.{moment_of}
-use Rattle.sqlx_pool_core.specs.MaintenanceSteps.{done_marks}
+use Rattle.sqlx_member.specs.Logs.{moment_of}
+use Rattle.sqlx_pool_lists.specs.MaintenanceSteps.{done_marks}
 use Rattle.sqlx_family.specs.Pools.{pool_in}
 use Rattle.sqlx_pool.specs.Places.{holds_place, done_if_marks}
 use Rattle.sqlx_pool.proofs.LeavesLemmas.{done-leaves}

@@ -1,7 +1,7 @@
 use Rattle.std.proofs.Common.{◌<◌, ◌++◌, length, ap, ◌∙◌, arith, vec_items}
 use Rattle.sqlx_family.specs.Pools.{pool_in}
 use Rattle.sqlx_family_pool.proofs.StepLemmas.{in-logs, room-there, room-made, logs-grow, written}
-use Rattle.sqlx_pool_core.specs.MaintenanceSteps.{close_marks}
+use Rattle.sqlx_pool_lists.specs.MaintenanceSteps.{close_marks}
 use Rattle.sqlx_pool.proofs.LeavesLemmas.{closed-leaves}
 use Rattle.sqlx_pool.proofs.StepLemmas.{kept-books, close-lends}
 use Rattle.sqlx_family_pool.proofs.Replaces.{replaces-retire}

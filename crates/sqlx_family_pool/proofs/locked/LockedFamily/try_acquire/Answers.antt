@@ -1,7 +1,7 @@
 use Rattle.std.proofs.Common.{◌<◌, [], ◌∷◌, ◌++◌, List, Some, inr, length, refl, sym, ap, ◌∙◌, arith}
 use Rattle.sqlx_log.specs.declared.mark.Mark.{Mark}
 use Rattle.sqlx_log.specs.declared.mark.Mark.TheVariants.{Taken, Lent}
-use Rattle.sqlx_pool_core.specs.Logs.{moment_of}
+use Rattle.sqlx_member.specs.Logs.{moment_of}
 use Rattle.sqlx_family.specs.Pools.{pool_in}
 use Rattle.sqlx_family.specs.RootLine.{passes_in}
 use Rattle.sqlx_pool.proofs.LeavesLemmas.{try-leaves, try-flat}

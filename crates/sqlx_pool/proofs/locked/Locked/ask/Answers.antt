@@ -1,8 +1,8 @@
 use Rattle.std.proofs.Common.{ℕ, ◌+◌, ◌^◌, ◌≤◌, not, refl, sym, subst, ap, ◌∙◌}
 use Rattle.sqlx_log.specs.Marks.{is_open, next_ticket}
-use Rattle.sqlx_pool_core.specs.declared.steps.Numbers.{Numbers}
-use Rattle.sqlx_pool_core.specs.Logs.{moment_of}
-use Rattle.sqlx_pool_core.specs.PollSteps.{asked_marks}
+use Rattle.sqlx_pool_lists.specs.declared.steps.Numbers.{Numbers}
+use Rattle.sqlx_member.specs.Logs.{moment_of}
+use Rattle.sqlx_pool_lists.specs.PollSteps.{asked_marks}
 use Rattle.sqlx_pool.proofs.AskLemmas.{closed_shut, exhausted_shut, closed_exhausted, closed_short, closed_ok, exhausted_short, exhausted_ok}
 use Rattle.sqlx_pool.proofs.LeavesLemmas.{leaves-along, asked-leaves}
 use Rattle.sqlx_pool.proofs.StepLemmas.{stepped, kept-books}

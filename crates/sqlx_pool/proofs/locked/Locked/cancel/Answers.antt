@@ -1,5 +1,5 @@
 use Rattle.std.proofs.Common.{◌++◌, ap, ◌∙◌, arith}
-use Rattle.sqlx_pool_core.specs.PollSteps.{cancel_marks}
+use Rattle.sqlx_pool_lists.specs.PollSteps.{cancel_marks}
 use Rattle.sqlx_pool.proofs.LeavesLemmas.{leaves-along, cancel-leaves}
 use Rattle.sqlx_pool.proofs.StepLemmas.{stepped, kept-books, cancel-made, cancel-lends}
 use Rattle.sqlx_pool.proofs.locked.Locked.cancel.Goals as goal

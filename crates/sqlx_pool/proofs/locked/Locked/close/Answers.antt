@@ -1,5 +1,5 @@
 use Rattle.std.proofs.Common.{◌++◌, ap, ◌∙◌, arith}
-use Rattle.sqlx_pool_core.specs.MaintenanceSteps.{close_marks}
+use Rattle.sqlx_pool_lists.specs.MaintenanceSteps.{close_marks}
 use Rattle.sqlx_pool.proofs.LeavesLemmas.{leaves-along, closed-leaves}
 use Rattle.sqlx_pool.proofs.StepLemmas.{stepped, kept-books, close-lends}
 use Rattle.sqlx_pool.proofs.locked.Locked.close.Goals as goal

@@ -1,7 +1,7 @@
 use Rattle.std.proofs.Common.{◌-◌, ap, ◌∙◌, arith}
 use Rattle.sqlx_log.specs.Cut.{needed_of}
-use Rattle.sqlx_pool_core.specs.declared.steps.Numbers.{Numbers}
-use Rattle.sqlx_pool_core.specs.Balance.{lents}
+use Rattle.sqlx_pool_lists.specs.declared.steps.Numbers.{Numbers}
+use Rattle.sqlx_pool_lists.specs.Balance.{lents}
 use Rattle.sqlx_pool.proofs.CutLemmas.{lents-cut, cut-kept}
 use Rattle.sqlx_pool.proofs.locked.Locked.cut.Goals as goal
 

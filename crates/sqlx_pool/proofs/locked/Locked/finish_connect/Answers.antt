@@ -1,8 +1,8 @@
 use Rattle.std.proofs.Common.{ℕ, ◌++◌, inl, ap, ◌∙◌, arith}
-use Rattle.sqlx_pool_core.specs.Logs.{moment_of}
-use Rattle.sqlx_pool_core.specs.Balance.{one_if}
-use Rattle.sqlx_pool_core.specs.PollSteps.{connect_marks}
-use Rattle.sqlx_pool_core.specs.Core.{ticket_of}
+use Rattle.sqlx_member.specs.Logs.{moment_of}
+use Rattle.sqlx_pool_lists.specs.Balance.{one_if}
+use Rattle.sqlx_pool_lists.specs.PollSteps.{connect_marks}
+use Rattle.sqlx_pool_lists.specs.Core.{ticket_of}
 use Rattle.sqlx_pool_parts.specs.Answers.{is_ended}
 use Rattle.sqlx_pool.proofs.LeavesLemmas.{leaves-along, connect-leaves}
 use Rattle.sqlx_pool.proofs.StepLemmas.{stepped, connect-lends, connect-few, calm-answer}

@@ -1,6 +1,6 @@
 use Rattle.std.proofs.Common.{ℕ, ◌++◌, inl, ap, ◌∙◌, arith}
-use Rattle.sqlx_pool_core.specs.Balance.{one_if}
-use Rattle.sqlx_pool_core.specs.PollSteps.{judged, test_marks}
+use Rattle.sqlx_pool_lists.specs.Balance.{one_if}
+use Rattle.sqlx_pool_lists.specs.PollSteps.{judged, test_marks}
 use Rattle.sqlx_pool.proofs.LeavesLemmas.{leaves-along, test-leaves}
 use Rattle.sqlx_pool.proofs.StepLemmas.{stepped, test-lends, test-few}
 use Rattle.sqlx_pool.proofs.locked.Locked.finish_test.Goals as goal

@@ -1,8 +1,8 @@
 use Rattle.std.proofs.Common.{ℕ, ◌++◌, inl, ap, ◌∙◌, arith}
-use Rattle.sqlx_pool_core.specs.Core.{loan_of}
-use Rattle.sqlx_pool_core.specs.Logs.{moment_of}
-use Rattle.sqlx_pool_core.specs.Balance.{one_if}
-use Rattle.sqlx_pool_core.specs.ReturnSteps.{give_marks}
+use Rattle.sqlx_pool_lists.specs.Core.{loan_of}
+use Rattle.sqlx_member.specs.Logs.{moment_of}
+use Rattle.sqlx_pool_lists.specs.Balance.{one_if}
+use Rattle.sqlx_member.specs.ReturnSteps.{give_marks}
 use Rattle.sqlx_pool_core.specs.Answers.{is_kept}
 use Rattle.sqlx_pool.proofs.LeavesLemmas.{leaves-along, give-leaves}
 use Rattle.sqlx_pool.proofs.StepLemmas.{stepped, give-lends, given-back, refused-give}

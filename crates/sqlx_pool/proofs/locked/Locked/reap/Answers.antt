@@ -1,6 +1,6 @@
 use Rattle.std.proofs.Common.{arith}
-use Rattle.sqlx_pool_core.specs.Logs.{moment_of}
-use Rattle.sqlx_pool_core.specs.MaintenanceSteps.{reap_marks}
+use Rattle.sqlx_member.specs.Logs.{moment_of}
+use Rattle.sqlx_pool_lists.specs.MaintenanceSteps.{reap_marks}
 use Rattle.sqlx_pool.proofs.LeavesLemmas.{leaves-along, reaped-leaves}
 use Rattle.sqlx_pool.proofs.StepLemmas.{stepped, kept-books, reap-lends}
 use Rattle.sqlx_pool.proofs.locked.Locked.reap.Goals as goal

@@ -1,5 +1,5 @@
 use Rattle.std.proofs.Common.{true, Some, inl, sym, arith}
-use Rattle.sqlx_pool_core.specs.Logs.{moment_of}
+use Rattle.sqlx_member.specs.Logs.{moment_of}
 use Rattle.sqlx_pool.proofs.LeavesLemmas.{leaves-along, serve-leaves, try-flat}
 use Rattle.sqlx_pool.proofs.StepLemmas.{stepped}
 use Rattle.sqlx_pool.proofs.locked.Locked.serve_new.Goals as goal

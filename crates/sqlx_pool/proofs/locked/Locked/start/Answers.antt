@@ -1,5 +1,5 @@
 use Rattle.std.proofs.Common.{◌++◌, ◌∙◌, inl, ap, arith}
-use Rattle.sqlx_pool_core.specs.PollSteps.{phase_for}
+use Rattle.sqlx_pool_lists.specs.PollSteps.{phase_for}
 use Rattle.sqlx_pool.proofs.LeavesLemmas.{leaves-along, start-leaves}
 use Rattle.sqlx_pool.proofs.StepLemmas.{stepped, start-waited, start-lends}
 use Rattle.sqlx_pool.proofs.locked.Locked.start.Goals as goal

@@ -1,7 +1,7 @@
 use Rattle.std.proofs.Common.{Some, inr, sym, arith}
 use Rattle.sqlx_log.specs.EventTable.{may_pass}
-use Rattle.sqlx_pool_core.specs.Core.{waiting, free}
-use Rattle.sqlx_pool_core.specs.Logs.{moment_of}
+use Rattle.sqlx_pool_lists.specs.Core.{waiting, free}
+use Rattle.sqlx_member.specs.Logs.{moment_of}
 use Rattle.sqlx_pool.proofs.LeavesLemmas.{leaves-along, try-leaves, try-flat}
 use Rattle.sqlx_pool.proofs.StepLemmas.{stepped}
 use Rattle.sqlx_pool.proofs.locked.Locked.try_acquire.Goals as goal

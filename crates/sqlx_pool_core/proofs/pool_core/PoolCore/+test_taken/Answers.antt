@@ -1,8 +1,8 @@
 use Rattle.std.proofs.Common.{◌≡◌, ◌<◌, length, refl, sym, ap, ◌∙◌, [], Some, false, rules}
-use Rattle.sqlx_pool_core.specs.declared.steps.AfterTest.TheVariants as tested
-use Rattle.sqlx_pool_core.specs.Core.{Core}
-use Rattle.sqlx_pool_core.specs.PollSteps.{phase_for, tested_at}
-use Rattle.sqlx_pool_core.proofs.Fair.{makes-nothing}
+use Rattle.sqlx_pool_lists.specs.declared.steps.AfterTest.TheVariants as tested
+use Rattle.sqlx_pool_lists.specs.Core.{Core}
+use Rattle.sqlx_pool_lists.specs.PollSteps.{phase_for, tested_at}
+use Rattle.sqlx_member.proofs.Fair.{makes-nothing}
 use Rattle.sqlx_pool_core.proofs.Polling.{tests-judged, untested-connects, next-found, fewer-idle, tested-goes}
 use Rattle.sqlx_pool_core.proofs.pool_core.PoolCore.+test_taken.Goals as goal
 

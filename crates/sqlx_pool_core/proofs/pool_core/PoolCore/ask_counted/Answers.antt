@@ -2,7 +2,7 @@ use Rattle.std.proofs.Common.{ℕ, [], ◌∷◌, Ok, sym, subst, ◌∙◌}
 use Rattle.sqlx_text.specs.declared.Error.{Error}
 use Rattle.sqlx_log.specs.declared.mark.Mark.TheVariants.{Asked}
 use Rattle.sqlx_line.specs.Line.{ComesLast}
-use Rattle.sqlx_pool_core.specs.Sound.{IsSound}
+use Rattle.sqlx_pool_lists.specs.Sound.{IsSound}
 use Rattle.sqlx_pool_core.specs.KeptLine.{IsNearlyLined}
 use Rattle.sqlx_pool_core.proofs.Alone.{ask-alone, ask-moves-alone}
 use Rattle.sqlx_pool_core.proofs.KeptLine.{comes-last}

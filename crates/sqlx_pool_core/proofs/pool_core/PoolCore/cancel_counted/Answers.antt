@@ -1,6 +1,6 @@
 use Rattle.sqlx_pool_core.proofs.Alone.{plain-alone, moves-alone}
 use Rattle.std.proofs.Common.{rules, refl, ◌∙◌, sym, subst}
-use Rattle.sqlx_pool_core.specs.PollSteps.{cancel_marks}
+use Rattle.sqlx_pool_lists.specs.PollSteps.{cancel_marks}
 use Rattle.sqlx_pool_core.proofs.AnswersAtMarks.{cancel-at}
 use Rattle.sqlx_pool_core.proofs.pool_core.PoolCore.cancel_counted.Goals as goal
 use Rattle.sqlx_pool_core.specs.KeptLine.{IsNearlyLined}

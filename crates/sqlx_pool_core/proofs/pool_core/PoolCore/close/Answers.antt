@@ -1,8 +1,8 @@
 use Rattle.std.proofs.Common.{Bool, true, false, refl, sym, ap, subst, ◌≡◌, ◌∙◌}
 use Rattle.sqlx_line.specs.Line.{TicketLine}
-use Rattle.sqlx_pool_core.specs.Core.{Core}
+use Rattle.sqlx_pool_lists.specs.Core.{Core}
 use Rattle.sqlx_pool_core.specs.KeptLine.{IsLined}
-use Rattle.sqlx_pool_core.specs.MaintenanceSteps.{close_answer, close_marks, closed_from}
+use Rattle.sqlx_pool_lists.specs.MaintenanceSteps.{close_answer, close_marks, closed_from}
 use Rattle.sqlx_pool_core.proofs.Alone.{alone-closed, close-alone, moves-alone}
 use Rattle.sqlx_pool_core.proofs.MaintenanceAtMarks.{close-at}
 use Rattle.sqlx_pool_core.proofs.pool_core.PoolCore.close.Goals as goal

@@ -1,8 +1,8 @@
 use Rattle.std.proofs.Common.{Bool, [], sym, ap, ◌∙◌, refl, subst}
-use Rattle.sqlx_pool_core.specs.declared.options.PoolOptions.{PoolOptions}
-use Rattle.sqlx_pool_core.specs.declared.steps.AfterConnect.{AfterConnect}
-use Rattle.sqlx_pool_core.specs.PollSteps.{connect_marks, after_connect}
-use Rattle.sqlx_pool_core.specs.Chain.{Tries}
+use Rattle.sqlx_pool_lists.specs.declared.options.PoolOptions.{PoolOptions}
+use Rattle.sqlx_pool_lists.specs.declared.steps.AfterConnect.{AfterConnect}
+use Rattle.sqlx_pool_lists.specs.PollSteps.{connect_marks, after_connect}
+use Rattle.sqlx_member.specs.Chain.{Tries}
 use Rattle.sqlx_pool_core.specs.Walk.{last, tells}
 use Rattle.sqlx_pool_core.proofs.Polling.{is-connecting, tells-is, logs-by}
 use Rattle.sqlx_pool_core.proofs.pool_core.PoolCore.connect.Goals as goal

@@ -1,7 +1,7 @@
 use Rattle.std.proofs.Common.{ap, ◌∙◌, subst, ℕ, max, ◌≡◌, arith}
-use Rattle.sqlx_pool_core.specs.Core.{ticket_of}
-use Rattle.sqlx_pool_core.specs.Makes.{Makes}
-use Rattle.sqlx_pool_core.specs.PollSteps.{connect_answer, connect_marks, after_connect}
+use Rattle.sqlx_pool_lists.specs.Core.{ticket_of}
+use Rattle.sqlx_pool_lists.specs.Makes.{Makes}
+use Rattle.sqlx_pool_lists.specs.PollSteps.{connect_answer, connect_marks, after_connect}
 use Rattle.sqlx_pool_core.proofs.WholePoll.{connecting-answer}
 use Rattle.sqlx_pool_core.proofs.pool_core.PoolCore.connect_ended.Goals as goal
 

@@ -1,8 +1,8 @@
 use Rattle.sqlx_pool_core.proofs.Alone.{plain-alone, moves-alone}
 use Rattle.std.proofs.Common.{rules, subst, refl, ◌∙◌}
-use Rattle.sqlx_pool_core.specs.Sound.{IsSound}
-use Rattle.sqlx_pool_core.specs.Balance.{one_if}
-use Rattle.sqlx_pool_core.specs.ReturnSteps.{end_marks}
+use Rattle.sqlx_pool_lists.specs.Sound.{IsSound}
+use Rattle.sqlx_pool_lists.specs.Balance.{one_if}
+use Rattle.sqlx_member.specs.ReturnSteps.{end_marks}
 use Rattle.sqlx_pool_core.proofs.AnswersAtMarks.{owner-at}
 use Rattle.sqlx_pool_core.proofs.Looks.{looks-beside}
 use Rattle.sqlx_pool_core.proofs.pool_core.PoolCore.end_counted.Goals as goal

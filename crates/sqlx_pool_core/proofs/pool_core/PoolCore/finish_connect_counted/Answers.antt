@@ -1,7 +1,7 @@
 use Rattle.sqlx_pool_core.proofs.Alone.{plain-alone, moves-alone}
 use Rattle.std.proofs.Common.{rules, ◌≡◌, ◌∙◌, ap, ℕ, max}
-use Rattle.sqlx_pool_core.specs.Core.{ticket_of}
-use Rattle.sqlx_pool_core.specs.PollSteps.{connect_answer, connect_marks}
+use Rattle.sqlx_pool_lists.specs.Core.{ticket_of}
+use Rattle.sqlx_pool_lists.specs.PollSteps.{connect_answer, connect_marks}
 use Rattle.sqlx_pool_core.proofs.pool_core.PoolCore.finish_connect_counted.Goals as goal
 use Rattle.sqlx_pool_core.proofs.Looks.{looks-beside}
 use Rattle.sqlx_pool_core.proofs.LineSteps.{nearly-from, connect-beside}

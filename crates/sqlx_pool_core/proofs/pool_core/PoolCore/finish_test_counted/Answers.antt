@@ -1,6 +1,6 @@
 use Rattle.sqlx_pool_core.proofs.Alone.{plain-alone, moves-alone}
 use Rattle.std.proofs.Common.{rules, refl, ◌≡◌, ◌∙◌, ap, Bool}
-use Rattle.sqlx_pool_core.specs.PollSteps.{phase_for, judged, tested_at, may_test_next, test_answer, test_marks}
+use Rattle.sqlx_pool_lists.specs.PollSteps.{phase_for, judged, tested_at, may_test_next, test_answer, test_marks}
 use Rattle.sqlx_pool_core.proofs.pool_core.PoolCore.finish_test_counted.Goals as goal
 use Rattle.sqlx_pool_core.proofs.Looks.{looks-beside}
 use Rattle.sqlx_pool_core.proofs.LineSteps.{nearly-from, test-beside}

@@ -1,9 +1,9 @@
 use Rattle.sqlx_pool_core.proofs.Alone.{plain-alone, moves-alone}
 use Rattle.std.proofs.Common.{rules, subst, ◌≡◌, ap, ℕ, max}
-use Rattle.sqlx_pool_core.specs.Core.{loan_of}
-use Rattle.sqlx_pool_core.specs.Sound.{IsSound}
-use Rattle.sqlx_pool_core.specs.Balance.{given_back}
-use Rattle.sqlx_pool_core.specs.ReturnSteps.{give_answer, give_marks}
+use Rattle.sqlx_pool_lists.specs.Core.{loan_of}
+use Rattle.sqlx_pool_lists.specs.Sound.{IsSound}
+use Rattle.sqlx_pool_lists.specs.Balance.{given_back}
+use Rattle.sqlx_member.specs.ReturnSteps.{give_answer, give_marks}
 use Rattle.sqlx_pool_core.proofs.AnswersAtMarks.{give-at}
 use Rattle.sqlx_pool_core.proofs.Looks.{looks-beside}
 use Rattle.sqlx_pool_core.proofs.pool_core.PoolCore.give_counted.Goals as goal

@@ -1,12 +1,12 @@
 use Rattle.std.proofs.Common.{◌≡◌, ◌+◌, ◌≤◌, max, ℕ, Bool, true, false, [], ◌∷◌, None, Option, refl, sym, ap, ◌∙◌, subst, arith, inl, inr}
-use Rattle.sqlx_pool_core.specs.Core.{Core}
-use Rattle.sqlx_pool_core.specs.MaintenanceSteps.{done, done_marks, placed, has_place}
-use Rattle.sqlx_pool_core.specs.declared.options.PoolOptions.{PoolOptions}
-use Rattle.sqlx_pool_core.specs.declared.idle_check.Opening.{Opening}
-use Rattle.sqlx_pool_core.specs.declared.idle_check.Opening.TheVariants.{Opened, Rejected, Transient, Failed}
-use Rattle.sqlx_pool_core.specs.Chain.{Tries}
+use Rattle.sqlx_pool_lists.specs.Core.{Core}
+use Rattle.sqlx_pool_lists.specs.MaintenanceSteps.{done, done_marks, placed, has_place}
+use Rattle.sqlx_pool_lists.specs.declared.options.PoolOptions.{PoolOptions}
+use Rattle.sqlx_member.specs.declared.idle_check.Opening.{Opening}
+use Rattle.sqlx_member.specs.declared.idle_check.Opening.TheVariants.{Opened, Rejected, Transient, Failed}
+use Rattle.sqlx_member.specs.Chain.{Tries}
 use Rattle.sqlx_pool_core.specs.Minimum.{filled, raw_of}
-use Rattle.sqlx_pool_core.specs.Logs.{Logs}
+use Rattle.sqlx_member.specs.Logs.{Logs}
 use Rattle.sqlx_pool_core.proofs.Polling.{logs-by}
 use Rattle.sqlx_pool_core.proofs.CallsKeep.{minimum-more}
 use Rattle.sqlx_pool_core.proofs.KeepRuns.{kept-so, kept-place}

@@ -1,5 +1,5 @@
 use Rattle.std.proofs.Common.{◌≡◌, ◌-◌, ◌≤◌}
-use Rattle.sqlx_pool_core.specs.Core.{size}
+use Rattle.sqlx_pool_lists.specs.Core.{size}
 use Rattle.sqlx_pool_core.proofs.Maintenance.{Before}
 use Rattle.sqlx_pool_core.proofs.pool_core.PoolCore.keep_minimum.Given as goal
 

@@ -1,6 +1,6 @@
 use Rattle.sqlx_pool_core.proofs.Alone.{plain-alone, moves-alone}
 use Rattle.std.proofs.Common.{ap₂, ℕ, Bool, max}
-use Rattle.sqlx_pool_core.specs.MaintenanceSteps.{done_marks}
+use Rattle.sqlx_pool_lists.specs.MaintenanceSteps.{done_marks}
 use Rattle.sqlx_pool_core.proofs.Looks.{looks-beside}
 use Rattle.sqlx_pool_core.proofs.pool_core.PoolCore.minimum_done_counted.Goals as goal
 

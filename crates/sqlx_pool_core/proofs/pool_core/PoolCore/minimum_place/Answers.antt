@@ -1,7 +1,7 @@
 use Rattle.sqlx_pool_core.proofs.Alone.{plain-alone, moves-alone}
 use Rattle.std.proofs.Common.{rules, refl, ◌≡◌, ◌∙◌, []}
-use Rattle.sqlx_pool_core.specs.Balance.{place_room}
-use Rattle.sqlx_pool_core.specs.MaintenanceSteps.{has_place}
+use Rattle.sqlx_pool_lists.specs.Balance.{place_room}
+use Rattle.sqlx_pool_lists.specs.MaintenanceSteps.{has_place}
 use Rattle.sqlx_pool_core.proofs.MaintenanceAtMarks.{place-at}
 use Rattle.sqlx_pool_core.proofs.pool_core.PoolCore.minimum_place.Goals as goal
 use Rattle.sqlx_pool_core.proofs.Alone.{alone-step}

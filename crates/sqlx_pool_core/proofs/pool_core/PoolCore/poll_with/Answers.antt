@@ -1,8 +1,8 @@
 use Rattle.std.proofs.Common.{ℕ, max, ap, refl, subst}
-use Rattle.sqlx_pool_core.specs.declared.steps.Start.TheVariants as start
-use Rattle.sqlx_pool_core.specs.Core.{Core}
+use Rattle.sqlx_pool_lists.specs.declared.steps.Start.TheVariants as start
+use Rattle.sqlx_pool_lists.specs.Core.{Core}
 use Rattle.sqlx_pool_core.specs.Walk.{Test, Connect, GoesOn}
-use Rattle.sqlx_pool_core.proofs.TurnAtMarks.{core_turn-stands}
+use Rattle.sqlx_member.proofs.TurnAtMarks.{core_turn-stands}
 use Rattle.sqlx_pool_core.proofs.WholePoll.{takes, tries, taken-phase, trying-phase}
 use Rattle.sqlx_pool_core.proofs.Polling.{tested-found, plain-polls, begun-polls}
 use Rattle.sqlx_pool_core.proofs.CallsKeep.{polls-more}

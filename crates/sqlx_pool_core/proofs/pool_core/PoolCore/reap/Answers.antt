@@ -1,8 +1,8 @@
 use Rattle.sqlx_pool_core.proofs.Alone.{plain-alone, moves-alone}
 use Rattle.std.proofs.Common.{rules, refl, ◌≡◌, max}
-use Rattle.sqlx_pool_core.specs.Core.{waiting, free}
+use Rattle.sqlx_pool_lists.specs.Core.{waiting, free}
 use Rattle.sqlx_log.specs.EventTable.{may_pass}
-use Rattle.sqlx_pool_core.specs.MaintenanceSteps.{reap_answer, reap_marks}
+use Rattle.sqlx_pool_lists.specs.MaintenanceSteps.{reap_answer, reap_marks}
 use Rattle.sqlx_pool_core.proofs.MaintenanceAtMarks.{reap-at}
 use Rattle.sqlx_pool_core.proofs.pool_core.PoolCore.reap.Goals as goal
 

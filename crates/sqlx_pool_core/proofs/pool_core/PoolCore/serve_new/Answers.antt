@@ -1,5 +1,5 @@
 use Rattle.std.proofs.Common.{ap, ◌∙◌}
-use Rattle.sqlx_pool_core.specs.PollSteps.{try_lent}
+use Rattle.sqlx_pool_lists.specs.PollSteps.{try_lent}
 use Rattle.sqlx_pool_core.proofs.Served.{serve-balance, serve-alone, serve-lone, serve-first}
 use Rattle.sqlx_pool_core.proofs.pool_core.PoolCore.serve_new.Goals as goal
 

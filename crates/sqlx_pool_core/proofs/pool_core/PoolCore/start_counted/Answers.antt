@@ -1,8 +1,8 @@
 use Rattle.sqlx_pool_core.proofs.Alone.{start-alone, moves-alone, turn-alone}
 use Rattle.std.proofs.Common.{refl, ◌<◌, max, sym, subst, arith}
-use Rattle.sqlx_pool_core.specs.Core.{free}
-use Rattle.sqlx_pool_core.specs.CoreTurn.{before}
-use Rattle.sqlx_pool_core.specs.PollSteps.{phase_for, start_marks}
+use Rattle.sqlx_pool_lists.specs.Core.{free}
+use Rattle.sqlx_pool_lists.specs.CoreTurn.{before}
+use Rattle.sqlx_pool_lists.specs.PollSteps.{phase_for, start_marks}
 use Rattle.sqlx_pool_core.specs.KeptLine.{IsNearlyLined, taken_out}
 use Rattle.sqlx_pool_core.proofs.LineSteps.{told-first, start-told, start-nearly}
 use Rattle.sqlx_pool_core.proofs.Looks.{looks-without}

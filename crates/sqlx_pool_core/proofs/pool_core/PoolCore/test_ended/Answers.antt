@@ -1,5 +1,5 @@
 use Rattle.std.proofs.Common.{◌∙◌}
-use Rattle.sqlx_pool_core.specs.PollSteps.{phase_for, may_test_next, test_answer}
+use Rattle.sqlx_pool_lists.specs.PollSteps.{phase_for, may_test_next, test_answer}
 use Rattle.sqlx_pool_core.proofs.pool_core.PoolCore.test_ended.Goals as goal
 
 pub returns-clause-answer : goal.returns-clause-answer

@@ -1,10 +1,10 @@
 use Rattle.sqlx_pool_core.proofs.Alone.{try-alone, moves-alone}
 use Rattle.std.proofs.Common.{rules, refl, ◌≡◌, ◌∙◌, ap, option_map}
-use Rattle.sqlx_pool_core.specs.Core.{waiting, free}
+use Rattle.sqlx_pool_lists.specs.Core.{waiting, free}
 use Rattle.sqlx_log.specs.EventTable.{may_pass}
 use Rattle.sqlx_pool_core.specs.Answers.{lent_conn}
-use Rattle.sqlx_pool_core.specs.Balance.{try_room}
-use Rattle.sqlx_pool_core.specs.PollSteps.{try_marks, try_lent}
+use Rattle.sqlx_pool_lists.specs.Balance.{try_room}
+use Rattle.sqlx_pool_lists.specs.PollSteps.{try_marks, try_lent}
 use Rattle.sqlx_pool_core.proofs.AnswersAtMarks.{try-at}
 use Rattle.sqlx_pool_core.proofs.pool_core.PoolCore.try_acquire.Goals as goal
 use Rattle.sqlx_pool_core.proofs.Alone.{alone-step}

@@ -1,10 +1,10 @@
 use Rattle.std.proofs.Common.{◌≡◌, Bool, max, refl, sym, ap, subst, ◌∙◌}
 use Rattle.std.proofs.Math.Nat.{max-eq_right}
-use Rattle.sqlx_pool_core.specs.Core.{loan_of}
-use Rattle.sqlx_pool_core.specs.Logs.{Logs}
-use Rattle.sqlx_pool_core.specs.ReturnSteps.{give_answer, give_marks, core_after_give}
-use Rattle.sqlx_pool_core.specs.declared.steps.Given.{Given}
-use Rattle.sqlx_pool_core.specs.declared.steps.Given.TheVariants as given
+use Rattle.sqlx_pool_lists.specs.Core.{loan_of}
+use Rattle.sqlx_member.specs.Logs.{Logs}
+use Rattle.sqlx_member.specs.ReturnSteps.{give_answer, give_marks, core_after_give}
+use Rattle.sqlx_pool_lists.specs.declared.steps.Given.{Given}
+use Rattle.sqlx_pool_lists.specs.declared.steps.Given.TheVariants as given
 use Rattle.mem_store.specs.Store.{Link}
 use Rattle.sqlx_play.proofs.links.LinksGone.{closed_in}
 use Rattle.sqlx_play.proofs.leaving.GivesBackLemmas.{returns-unowned, returns-unlent, returns-kept, returns-closed, returns-owned}

@@ -1,8 +1,8 @@
 use Rattle.std.proofs.Common.{Bool, true, sym, ap, subst, ◌∙◌}
 use Rattle.sqlx_log.specs.declared.mark.Mark.TheVariants as mark
-use Rattle.sqlx_pool_core.specs.Core.{Core}
-use Rattle.sqlx_pool_core.specs.Makes.{Makes}
-use Rattle.sqlx_pool_core.specs.ReturnSteps.{detach_marks, released}
+use Rattle.sqlx_pool_lists.specs.Core.{Core}
+use Rattle.sqlx_pool_lists.specs.Makes.{Makes}
+use Rattle.sqlx_member.specs.ReturnSteps.{detach_marks, released}
 use Rattle.mem_store.specs.Store.{Link}
 use Rattle.sqlx_play.proofs.leaving.LoanEndsLemmas.{departs-not, departs, ends-loan}
 use Rattle.sqlx_play.proofs.stage.loans.leave.detach_loan.Goals as goal

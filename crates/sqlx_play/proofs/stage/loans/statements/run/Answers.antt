@@ -1,5 +1,5 @@
 use Rattle.std.proofs.Common.{◌≡◌, Result, Ok, Err, IfOk, is_some, true, inl}
-use Rattle.sqlx_pool_core.specs.Core.{loan_of}
+use Rattle.sqlx_pool_lists.specs.Core.{loan_of}
 use Rattle.sqlx_script.specs.declared.reply.Reply.{Reply}
 use Rattle.sqlx_play.specs.declared.stage.Stage.{Stage}
 use Rattle.sqlx_play.specs.declared.stage.loans.statements.Statement.{Statement}

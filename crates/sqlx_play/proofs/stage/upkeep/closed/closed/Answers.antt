@@ -1,4 +1,4 @@
-use Rattle.sqlx_pool_core.specs.declared.steps.CloseState.TheVariants.{NotShut, Closing, Closed}
+use Rattle.sqlx_pool_lists.specs.declared.steps.CloseState.TheVariants.{NotShut, Closing, Closed}
 use Rattle.sqlx_rules.specs.Answer.{answer}
 use Rattle.sqlx_rules.specs.ScriptMarks.{marks_of}
 use Rattle.sqlx_play.proofs.upkeep.CloseStates.{state-told, asked-state}

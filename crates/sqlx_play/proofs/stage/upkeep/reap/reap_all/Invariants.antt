@@ -1,5 +1,5 @@
 use Rattle.std.proofs.Common.{◌≡◌, List, length}
-use Rattle.sqlx_pool_core.specs.declared.steps.Idle.{Idle}
+use Rattle.sqlx_pool_lists.specs.declared.steps.Idle.{Idle}
 use Rattle.mem_store.specs.Store.{Link}
 use Rattle.sqlx_play.specs.events.Reaps.{Reaps, reapable}
 use Rattle.sqlx_play.specs.stage.EventFrame.{Frame}

@@ -2,7 +2,7 @@ use Rattle.std.proofs.Common.{◌≡◌, ◌∷◌, ◌++◌, List, Result, Ok, 
 use Rattle.std.specs.HashMap.{get}
 use Rattle.sqlx_numbered.specs.Numbered.{items_at}
 use Rattle.sqlx_numbered.proofs.Places.{find-none, noted-changed, got-within, Sides, sides}
-use Rattle.sqlx_pool_core.specs.declared.steps.Lent.{Lent}
+use Rattle.sqlx_pool_lists.specs.declared.steps.Lent.{Lent}
 use Rattle.mem_store.specs.Store.{Link, Store}
 use Rattle.sqlx_script.specs.declared.reply.Reply.{Reply}
 use Rattle.sqlx_play.specs.declared.stage.loans.statements.Statement.{Statement}

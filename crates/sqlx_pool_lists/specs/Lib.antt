@@ -1,0 +1,17 @@
+pub mod Defaults
+pub mod Limits
+pub mod Core
+pub mod Sound
+pub mod Shared
+pub mod StandsFor
+pub mod Makes
+pub mod PollTable
+pub mod CoreTurn
+pub mod Edits
+pub mod Tickets
+pub mod IdleList
+pub mod HeldList
+pub mod Place
+pub mod PollSteps
+pub mod MaintenanceSteps
+pub mod Balance
