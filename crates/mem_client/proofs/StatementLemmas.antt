@@ -18,7 +18,7 @@ use Rattle.mem_driver.specs.Answers.{Answers, IsI64, RowsFit, done, found as fou
 use Rattle.mem_driver.specs.Backend.{Runs, answer_met, left_met}
 use Rattle.mem_driver.specs.Session.{Session, noted_if}
 use Rattle.mem_client.specs.Bound.{Executes, FindsNumber, ReadsRow}
-use Rattle.mem_client.specs.Told.{Comes, Finds, after_met, by_refusal, found}
+use Rattle.mem_levels.specs.Told.{Comes, Finds, after_met, by_refusal, found}
 
 -- the results of a run as one
 abbrev combined_of : Answers → Result AnyQueryResult Error

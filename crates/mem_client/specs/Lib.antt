@@ -1,3 +1,1 @@
 pub mod Bound
-pub mod Ends
-pub mod Told

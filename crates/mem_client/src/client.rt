@@ -2,10 +2,10 @@
 ghost use Rattle.std.specs.Prelude.{◌≡◌};
 ghost use Rattle.mem_acts.specs.ClientActs.{Gives};
 
-use crate::levels::{begin, commit, custom, give_up, rollback};
 use crate::statements::{delete, get, put};
 use mem_acts::Act;
 use mem_driver::MemSession;
+use mem_levels::{begin, commit, custom, give_up, rollback};
 use sqlx_any::AnyConnection;
 use sqlx_script::Reply;
 use sqlx_text::{Depth, OutOfMemory};

@@ -5,9 +5,7 @@
 mod bound;
 mod by_driver;
 mod client;
-mod levels;
 mod statements;
-mod told;
 
 pub use by_driver::ByDriver;
 pub use client::run_act;

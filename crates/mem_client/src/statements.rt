@@ -4,12 +4,12 @@ ghost use Rattle.mem_store.specs.Acts.{seen_by};
 ghost use Rattle.mem_store.specs.declared.act.Act.{Act as Doing};
 ghost use Rattle.mem_driver.specs.Answers.{result_of};
 ghost use Rattle.mem_acts.specs.ClientActs.{Gives};
-ghost use Rattle.mem_client.specs.Told.{Comes, Finds};
+ghost use Rattle.mem_levels.specs.Told.{Comes, Finds};
 
 use crate::bound::{asks, asks_number, executes, finds, number_with, with};
-use crate::told::{read, written};
 use mem_acts::Act;
 use mem_driver::{DELETE, GET, MemSession, PUT};
+use mem_levels::{read, written};
 use sqlx_any::{AnyConnection, AnyQueryResult};
 use sqlx_script::Reply;
 use sqlx_text::{Error, OutOfMemory};

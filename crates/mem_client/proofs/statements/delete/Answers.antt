@@ -1,5 +1,5 @@
 use Rattle.std.proofs.Common.{to_z-of_z}
-use Rattle.mem_client.proofs.ReplyLemmas.{delete_gives}
+use Rattle.mem_levels.proofs.ReplyLemmas.{delete_gives}
 use Rattle.mem_client.proofs.statements.delete.Goals as goal
 
 pub returns : goal.returns

@@ -1,5 +1,5 @@
 use Rattle.std.proofs.Common.{to_z-of_z}
-use Rattle.mem_client.proofs.ReplyLemmas.{get_gives}
+use Rattle.mem_levels.proofs.ReplyLemmas.{get_gives}
 use Rattle.mem_client.proofs.statements.get.Goals as goal
 
 pub returns : goal.returns

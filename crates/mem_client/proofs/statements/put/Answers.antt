@@ -1,5 +1,5 @@
 use Rattle.std.proofs.Common.{to_z-of_z}
-use Rattle.mem_client.proofs.ReplyLemmas.{put_gives}
+use Rattle.mem_levels.proofs.ReplyLemmas.{put_gives}
 use Rattle.mem_client.proofs.statements.put.Goals as goal
 
 pub returns : goal.returns

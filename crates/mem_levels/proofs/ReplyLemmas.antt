@@ -13,7 +13,7 @@ use Rattle.mem_store.specs.Acts.{refusal_of, seen_by}
 use Rattle.mem_store.specs.Errors.{error_of}
 use Rattle.mem_driver.specs.Answers.{result_of}
 use Rattle.mem_acts.specs.ClientActs.{Gives, GivesThis, LeavesWanting, found_reply, left_by, left_met, ran_reply, refused_reply, reply_met, reply_on}
-use Rattle.mem_client.specs.Told.{Answered, Comes, Finds, after_met, by_refusal, found, reply_to, told_reply, written_reply}
+use Rattle.mem_levels.specs.Told.{Answered, Comes, Finds, after_met, by_refusal, found, reply_to, told_reply, written_reply}
 use Rattle.mem_acts.specs.declared.act.Act.{Act}
 use Rattle.mem_acts.specs.declared.act.Act.TheVariants.{Put, Delete, Get}
 

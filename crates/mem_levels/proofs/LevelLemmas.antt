@@ -18,10 +18,10 @@ use Rattle.mem_store.specs.Acts.{refusal_of}
 use Rattle.mem_driver.specs.Backend.{BeginsAt, BeginsBy, Does, Goes, HasBegun}
 use Rattle.mem_driver.specs.Session.{Session, acted, depth, refused, rolled_back}
 use Rattle.mem_acts.specs.ClientActs.{Gives, GivesThis, LeavesWanting, left_by, left_met, left_refused, left_within, needs_level, ran_reply, refused_reply, reply_met, reply_on, reply_within, statement_at}
-use Rattle.mem_client.specs.Told.{Answered, reply_to}
+use Rattle.mem_levels.specs.Told.{Answered, reply_to}
 use Rattle.mem_acts.specs.declared.act.Act.{Act}
 use Rattle.mem_acts.specs.declared.act.Act.TheVariants.{Begin, Custom, Commit, Rollback, GiveUp}
-use Rattle.mem_client.proofs.ReplyLemmas.{gives_none, gives_some, told_refused}
+use Rattle.mem_levels.proofs.ReplyLemmas.{gives_none, gives_some, told_refused}
 
 pub pred-less : (d : ℕ) → d - 1 ≡ pred d
 pred-less zero = refl

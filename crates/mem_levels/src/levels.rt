@@ -6,9 +6,9 @@ ghost use Rattle.mem_driver.specs.Asked.{asked};
 ghost use Rattle.mem_driver.specs.Backend.{Does};
 ghost use Rattle.mem_driver.specs.Session.{depth};
 ghost use Rattle.mem_acts.specs.ClientActs.{Gives, left_by, reply_on, statement_at};
-ghost use Rattle.mem_client.specs.Ends.{call_of};
-ghost use Rattle.mem_client.specs.Told.{Answered, reply_to};
-ghost use Rattle.mem_client.specs.declared.levels.End.{End};
+ghost use Rattle.mem_levels.specs.Ends.{call_of};
+ghost use Rattle.mem_levels.specs.Told.{Answered, reply_to};
+ghost use Rattle.mem_levels.specs.declared.levels.End.{End};
 
 use crate::told::told;
 use mem_acts::Act;
@@ -99,10 +99,7 @@ fn level_reply(answer: Result<(), Error>, depth: u64, text: LevelText) -> Result
 }
 
 /// Begins a level.
-pub(crate) fn begin(
-    alloc: Global,
-    conn: &mut AnyConnection<MemSession>,
-) -> Result<Reply, OutOfMemory>
+pub fn begin(alloc: Global, conn: &mut AnyConnection<MemSession>) -> Result<Reply, OutOfMemory>
     ensures { Gives Act.Begin conn.old.backend.work result conn.new.backend.work }
 {
     let text = begin_at(conn.depth());
@@ -122,7 +119,7 @@ fn custom_text(starts: bool) -> &'static str
 }
 
 /// Begins a transaction by a statement that begins one, or by one that doesn't.
-pub(crate) fn custom(
+pub fn custom(
     alloc: Global,
     conn: &mut AnyConnection<MemSession>,
     starts: bool,
@@ -136,10 +133,7 @@ pub(crate) fn custom(
 
 /// Commits the innermost level.
 #[tactic(auto, using(crate::proofs::LevelLemmas::commit_gives))]
-pub(crate) fn commit(
-    alloc: Global,
-    conn: &mut AnyConnection<MemSession>,
-) -> Result<Reply, OutOfMemory>
+pub fn commit(alloc: Global, conn: &mut AnyConnection<MemSession>) -> Result<Reply, OutOfMemory>
     requires { 0 < depth conn.old.backend }
     ensures { Gives Act.Commit conn.old.backend.work result conn.new.backend.work }
 {
@@ -150,10 +144,7 @@ pub(crate) fn commit(
 
 /// Rolls the innermost level back.
 #[tactic(auto, using(crate::proofs::LevelLemmas::rollback_gives))]
-pub(crate) fn rollback(
-    alloc: Global,
-    conn: &mut AnyConnection<MemSession>,
-) -> Result<Reply, OutOfMemory>
+pub fn rollback(alloc: Global, conn: &mut AnyConnection<MemSession>) -> Result<Reply, OutOfMemory>
     requires { 0 < depth conn.old.backend }
     ensures { Gives Act.Rollback conn.old.backend.work result conn.new.backend.work }
 {
@@ -164,7 +155,7 @@ pub(crate) fn rollback(
 
 /// Leaves the innermost level.
 #[tactic(auto, using(crate::proofs::LevelLemmas::give_up_gives))]
-pub(crate) fn give_up(alloc: Global, conn: &mut AnyConnection<MemSession>) -> Reply
+pub fn give_up(alloc: Global, conn: &mut AnyConnection<MemSession>) -> Reply
     requires { 0 < depth conn.old.backend }
     ensures reply { result ≡ reply_on Act.GiveUp conn.old.backend.work }
     ensures left { conn.new.backend.work ≡ left_by Act.GiveUp conn.old.backend.work }

@@ -1,7 +1,7 @@
 -- How a level ends.
 use Rattle.sqlx_traits.specs.Calls.{Call, commit, rollback, start_rollback}
-use Rattle.mem_client.specs.declared.levels.End.{End}
-use Rattle.mem_client.specs.declared.levels.End.TheVariants.{Commit, Rollback, GiveUp}
+use Rattle.mem_levels.specs.declared.levels.End.{End}
+use Rattle.mem_levels.specs.declared.levels.End.TheVariants.{Commit, Rollback, GiveUp}
 
 -- the call by which a transaction ends a level so
 abbrev pub call_of : End → Call

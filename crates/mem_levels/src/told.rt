@@ -1,7 +1,7 @@
 //! How an error of the database is told as a reply.
 ghost use Rattle.std.specs.Prelude.{◌≡◌};
-ghost use Rattle.mem_client.specs.Told as spec;
-ghost use Rattle.mem_client.specs.Told.{Answered, reply_to, written_reply};
+ghost use Rattle.mem_levels.specs.Told as spec;
+ghost use Rattle.mem_levels.specs.Told.{Answered, reply_to, written_reply};
 
 use sqlx_any::AnyQueryResult;
 use sqlx_script::Reply;
@@ -35,7 +35,7 @@ fn reply_of(error: &Error) -> Option<Reply>
 }
 
 /// Tells an error as a reply.
-pub(crate) fn told(error: Error) -> Result<Reply, OutOfMemory>
+pub fn told(error: Error) -> Result<Reply, OutOfMemory>
     ensures { Answered (spec.told_reply error) result }
 {
     let reply = reply_of(&error);
@@ -47,7 +47,7 @@ pub(crate) fn told(error: Error) -> Result<Reply, OutOfMemory>
 }
 
 /// Tells how many rows were written.
-pub(crate) fn written(answer: Result<AnyQueryResult, Error>) -> Result<Reply, OutOfMemory>
+pub fn written(answer: Result<AnyQueryResult, Error>) -> Result<Reply, OutOfMemory>
     ensures { Answered (reply_to written_reply answer) result }
 {
     match answer {
@@ -57,7 +57,7 @@ pub(crate) fn written(answer: Result<AnyQueryResult, Error>) -> Result<Reply, Ou
 }
 
 /// Tells the value that was read.
-pub(crate) fn read(answer: Result<i64, Error>) -> Result<Reply, OutOfMemory>
+pub fn read(answer: Result<i64, Error>) -> Result<Reply, OutOfMemory>
     ensures { Answered (reply_to (λ value. Reply.Value value) answer) result }
 {
     match answer {

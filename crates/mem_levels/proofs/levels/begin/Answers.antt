@@ -1,7 +1,7 @@
 use Rattle.std.proofs.Common.{◌∙◌, ap}
 use Rattle.sqlx_savepoints.specs.Texts.{begin_at}
-use Rattle.mem_client.proofs.LevelLemmas.{begin_gives}
-use Rattle.mem_client.proofs.levels.begin.Goals as goal
+use Rattle.mem_levels.proofs.LevelLemmas.{begin_gives}
+use Rattle.mem_levels.proofs.levels.begin.Goals as goal
 
 pub returns : goal.returns
 returns c =

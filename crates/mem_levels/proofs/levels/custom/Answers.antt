@@ -1,7 +1,7 @@
 use Rattle.std.proofs.Common.{None, ◌∙◌, ap}
 use Rattle.mem_driver.specs.Asked.{asked}
-use Rattle.mem_client.proofs.LevelLemmas.{custom_gives}
-use Rattle.mem_client.proofs.levels.custom.Goals as goal
+use Rattle.mem_levels.proofs.LevelLemmas.{custom_gives}
+use Rattle.mem_levels.proofs.levels.custom.Goals as goal
 
 pub returns : goal.returns
 returns c =
