@@ -122,18 +122,22 @@ fn gather<L: Loans>(parts: Vec<Part<L>>, all: &mut Tally<L>)
 
 // Lets the workers work, each in a thread of its own, and gathers their parts.
 fn work_all<
+    DB: Database,
     H: Ledger + Send + Sync + 'static,
     L: Loans + Send + Sync + 'static,
-    R: Wait + Threads + Copy + Drop + Send + Sync + 'static,
-    X: Outside<AnyConnection<SharedMemConnection<R>>, AnyConnectOptions> + Send + Drop,
+    R: Wait + Threads + Sync,
+    X: Outside<DB::Connection, DB::Options> + Send + Drop,
 >(
     rt: &R,
     alloc: Global,
-    pool: &Pool<SharedMem<R>, H, L>,
+    pool: &Pool<DB, H, L>,
     loans: u32,
     outs: Vec<X>,
     all: &mut Tally<L>,
 ) -> Result<(), OutOfMemory>
+where
+    DB::Connection: Executor<DB> + Drop + Send + 'static,
+    DB::Options: Drop + Send + Sync + 'static,
     requires few { vec_len outs < 2 ^ 16 }
     requires parts { vec_len outs < all.old.parts }
     requires none { all.old.loans ≡ 0 }
@@ -141,7 +145,7 @@ fn work_all<
 {
     let jobs = jobs_of(alloc, outs, all)?;
     let work = |job: Job<L, X>| -> Part<L> {
-        work_off::<SharedMem<R>, H, L, R, X>(rt, alloc, pool, loans, job)
+        work_off::<DB, H, L, R, X>(rt, alloc, pool, loans, job)
     };
     let Ok(parts) = thread::map_vec(rt, jobs, &work) else {
         return Err(OutOfMemory);
@@ -173,18 +177,22 @@ where
 
 // A crowd on a new pool, whose tally with every part is handed in.
 fn crowd_on<
+    DB: Database,
     H: Ledger + Send + Sync + 'static,
     L: Loans + Send + Sync + 'static,
-    R: Wait + Threads + Copy + Drop + Send + Sync + 'static,
-    X: Outside<AnyConnection<SharedMemConnection<R>>, AnyConnectOptions> + Send + Drop,
+    R: Wait + Threads + Sync,
+    X: Outside<DB::Connection, DB::Options> + Send + Drop,
 >(
     rt: &R,
     alloc: Global,
-    pool: &Pool<SharedMem<R>, H, L>,
+    pool: &Pool<DB, H, L>,
     loans: u32,
     outs: Vec<X>,
     tally: Tally<L>,
 ) -> Result<Crowd<L>, OutOfMemory>
+where
+    DB::Connection: Executor<DB> + Drop + Send + 'static,
+    DB::Options: Drop + Send + Sync + 'static,
     requires few { vec_len outs < 2 ^ 16 }
     requires parts { vec_len outs < L.parts }
     requires whole { tally ≡ record { parts = L.parts; loans = 0 } }
@@ -194,11 +202,11 @@ fn crowd_on<
 {
     let mut all = tally;
     let due = outs.len() as u64 * u64::from(loans);
-    work_all::<H, L, R, X>(rt, alloc, pool, loans, outs, &mut all)?;
+    work_all::<DB, H, L, R, X>(rt, alloc, pool, loans, outs, &mut all)?;
     if all.loans() != due {
         return Err(OutOfMemory);
     }
-    let text = audited::<SharedMem<R>, H, L, R>(rt, alloc, pool, &mut all)?;
+    let text = audited::<DB, H, L, R>(rt, alloc, pool, &mut all)?;
     Ok(Crowd { text, tally: all })
 }
 
@@ -245,5 +253,5 @@ pub fn crowd_with<
         H,
         L,
     >(alloc, connect, held, made)?;
-    crowd_on::<H, L, R, X>(rt, alloc, &pool, loans, outs, tally)
+    crowd_on::<SharedMem<R>, H, L, R, X>(rt, alloc, &pool, loans, outs, tally)
 }

@@ -57,12 +57,12 @@ impl<H: Ledger, L: Loans> Books<H, L> {
         self.made
     }
 
-    // A loan past the line may be made: fewer loans were made than are numbered.
-    pub fn may_lend(&self) -> bool
-        ensures few { result ≡ true → self.now.made < 2 ^ 62 }
-        ensures all { result ≡ false → 2 ^ 62 ≤ self.now.made }
+    // As many loans were made as are numbered: none is made past the line any more.
+    pub fn is_full(&self) -> bool
+        ensures full { result ≡ true → 2 ^ 62 ≤ self.now.made }
+        ensures few { result ≡ false → self.now.made < 2 ^ 62 }
     {
-        self.made < LOANS
+        self.made >= LOANS
     }
 
     // The tally with every part has counted all loans that were made.

@@ -90,7 +90,7 @@ impl<C: Depth, O, H: Ledger, L: Loans> LockedFamily<C, O, H, L> {
         if !self.is_named(pool) || !self.family.may_lend(pool) {
             return Ok(None);
         }
-        if !self.books.may_lend() {
+        if self.books.is_full() {
             return Err(Error::Exhausted);
         }
         let due = self.family.due(pool);

@@ -224,7 +224,7 @@ impl<C: Depth, O, H: Ledger, L: Loans> Locked<C, O, H, L> {
         if !self.core.may_lend() {
             return Ok(None);
         }
-        if !self.books.may_lend() {
+        if self.books.is_full() {
             return Err(Error::Exhausted);
         }
         self.core.bounds();

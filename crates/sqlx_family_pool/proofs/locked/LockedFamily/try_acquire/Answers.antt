@@ -23,8 +23,7 @@ invariant_of-self-2 g c =
     let lent = c.in-Some.lent in
     let owned = c.lend-held.ensures.owned in
     let made = c.lend-held.ensures.made in
-    let few = c.if-made-ge-LOANS.false in
-    let made_is = c.made.ensures in
+    let few = c.is_full.ensures.few c.if-is_full.false in
     let room = c.in-Ok.ensures.ok in
     let due = c.due-due.ensures in
     let len = c.in-Ok.ensures.len in
@@ -32,7 +31,7 @@ invariant_of-self-2 g c =
     written c.self.inside.logs.items c.self.invariant c.args.pool here c.index_mut-log.result.now c.index_mut-log.ensures.value
     (replaces-put c.args.pool c.self.inside.family here c.in-Some.ensures.becomes) c.in-Some.ensures.makes c.in-Some.ensures.balance
     (try-leaves g.C.Depth.levels c.args.client (moment_of core c.args.now) (Some lent) core)
-    c.self.inside.connect (record { owned = omega (arith, owned); made_is = made; few = inr (omega (arith, made, few, made_is)) })
+    c.self.inside.connect (record { owned = omega (arith, owned); made_is = made; few = inr (omega (arith, made, few)) })
     c.lend_past.new.log (c.lend_past.ensures.marks ∙ ap (λ l. l ++ Taken lent.id ∷ Lent c.args.client lent.id ∷ []) c.in-Ok.ensures.items)
     (omega (arith, room, due, len, capacity))
 

@@ -12,11 +12,10 @@ invariant_of-self g c =
     let lent = c.in-Some.lent in
     let owned = c.lend-held.ensures.owned in
     let made = c.lend-held.ensures.made in
-    let few = c.if-made-ge-LOANS.false in
-    let made_is = c.made.ensures in
+    let few = c.is_full.ensures.few c.if-is_full.false in
     stepped c.self.invariant c.in-Some.ensures.balance c.in-Some.ensures.makes
     (leaves-along g.C.Depth.levels core _ _ c.in-Some.ensures.becomes (try-leaves g.C.Depth.levels c.args.client (moment_of core c.args.now) (Some lent) core))
-    c.self.inside.connect c.lend-held.new.self (record { owned = omega (arith, owned); made_is = made; few = inr (omega (arith, made, few, made_is)) })
+    c.self.inside.connect c.lend-held.new.self (record { owned = omega (arith, owned); made_is = made; few = inr (omega (arith, made, few)) })
     _ _ c.in-Some.ensures.marks c.in-Some.ensures.room
 
 pub returns-in-Some-clause-flat : goal.returns-in-Some-clause-flat
