@@ -7,9 +7,9 @@ use Rattle.sqlx_traits.specs.StepList.{Steps}
 use Rattle.sqlx_any.specs.Rows.{RowParts}
 use Rattle.sqlx_any.specs.Runs.{RunsArguments, RunsOver}
 use Rattle.sqlx_any.specs.declared.arguments.AnyArguments.{AnyArguments}
-use Rattle.sqlx_any.specs.declared.query_result.AnyQueryResult.{AnyQueryResult}
-use Rattle.sqlx_any.specs.declared.value.AnyValueKind.{AnyValueKind}
-use Rattle.sqlx_any.specs.declared.value.AnyValueKind.TheVariants.{BigInt}
+use Rattle.sqlx_any_values.specs.declared.query_result.AnyQueryResult.{AnyQueryResult}
+use Rattle.sqlx_any_values.specs.declared.value.AnyValueKind.{AnyValueKind}
+use Rattle.sqlx_any_values.specs.declared.value.AnyValueKind.TheVariants.{BigInt}
 use Rattle.sqlx_query.specs.Binding.{AddsOrFails, Binds}
 use Rattle.sqlx_query.specs.Query.{Asked, BeginsEmpty, handed_over, turned}
 use Rattle.mem_client.specs.Bound.{AreValues, IsBound, Ran, arguments_of}

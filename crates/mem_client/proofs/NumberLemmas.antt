@@ -8,12 +8,12 @@ use Rattle.sqlx_text.specs.declared.kind.AnyTypeInfoKind.TheVariants as kind
 use Rattle.sqlx_traits.specs.Places.{at_place, place_of_position}
 use Rattle.sqlx_traits.specs.Reads.{Checked, ReadAt, Reads, RowRead, column_error, with_error}
 use Rattle.sqlx_query.specs.Mapping.{ReadsOne}
-use Rattle.sqlx_any.specs.Kinds.{is_null_kind, kind_of}
+use Rattle.sqlx_any_values.specs.Kinds.{is_null_kind, kind_of}
 use Rattle.sqlx_any.specs.Rows.{RowParts}
-use Rattle.sqlx_any.specs.TypedRead.{read_i64}
-use Rattle.sqlx_any.specs.declared.type_info.AnyTypeInfo.{AnyTypeInfo}
-use Rattle.sqlx_any.specs.declared.value.AnyValue.{AnyValue}
-use Rattle.sqlx_any.specs.declared.value.AnyValueKind.TheVariants.{BigInt}
+use Rattle.sqlx_any_values.specs.TypedRead.{read_i64}
+use Rattle.sqlx_any_values.specs.declared.type_info.AnyTypeInfo.{AnyTypeInfo}
+use Rattle.sqlx_any_values.specs.declared.value.AnyValue.{AnyValue}
+use Rattle.sqlx_any_values.specs.declared.value.AnyValueKind.TheVariants.{BigInt}
 use Rattle.mem_driver.specs.Answers.{value_of}
 use Rattle.mem_client.specs.Bound.{ReadsNumber, ReadsRow}
 

@@ -3,11 +3,11 @@ use Rattle.std.proofs.Common.{◌≡◌, ◌⊎◌, inl, inr, true, cond, is_som
 use Rattle.sqlx_text.specs.declared.error.Error.{Error}
 use Rattle.sqlx_text.specs.declared.error.Error.TheVariants as error
 use Rattle.sqlx_traits.specs.StepList.{combined, results_of, rows_of, first_of, one_or}
-use Rattle.sqlx_any.specs.Results.{no_result, with_next}
-use Rattle.sqlx_any.specs.TypedRead.{read_i64}
-use Rattle.sqlx_any.specs.declared.query_result.AnyQueryResult.{AnyQueryResult}
-use Rattle.sqlx_any.specs.declared.value.AnyValue.{AnyValue}
-use Rattle.sqlx_any.specs.declared.value.AnyValueKind.TheVariants.{BigInt}
+use Rattle.sqlx_any_values.specs.Results.{no_result, with_next}
+use Rattle.sqlx_any_values.specs.TypedRead.{read_i64}
+use Rattle.sqlx_any_values.specs.declared.query_result.AnyQueryResult.{AnyQueryResult}
+use Rattle.sqlx_any_values.specs.declared.value.AnyValue.{AnyValue}
+use Rattle.sqlx_any_values.specs.declared.value.AnyValueKind.TheVariants.{BigInt}
 use Rattle.mem_store.specs.declared.act.Act.{Act}
 use Rattle.mem_store.specs.declared.act.Act.TheVariants.{Put, Delete, Get}
 use Rattle.mem_store.specs.declared.refusal.Refusal.{Refusal}

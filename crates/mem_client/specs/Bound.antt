@@ -5,13 +5,13 @@ use Rattle.sqlx_text.specs.declared.error.Error.TheVariants as error
 use Rattle.sqlx_text.specs.declared.fault.Fault.{Fault}
 use Rattle.sqlx_text.specs.declared.fault.Fault.TheVariants as fault
 use Rattle.sqlx_traits.specs.StepList.{Steps, combined, results_of, rows_of, first_of, one_or}
-use Rattle.sqlx_any.specs.Results.{no_result, with_next}
+use Rattle.sqlx_any_values.specs.Results.{no_result, with_next}
 use Rattle.sqlx_any.specs.Rows.{RowParts}
-use Rattle.sqlx_any.specs.TypedRead.{read_i64}
+use Rattle.sqlx_any_values.specs.TypedRead.{read_i64}
 use Rattle.sqlx_any.specs.declared.arguments.AnyArguments.{AnyArguments}
-use Rattle.sqlx_any.specs.declared.query_result.AnyQueryResult.{AnyQueryResult}
-use Rattle.sqlx_any.specs.declared.value.AnyValueKind.{AnyValueKind}
-use Rattle.sqlx_any.specs.declared.value.AnyValueKind.TheVariants.{BigInt}
+use Rattle.sqlx_any_values.specs.declared.query_result.AnyQueryResult.{AnyQueryResult}
+use Rattle.sqlx_any_values.specs.declared.value.AnyValueKind.{AnyValueKind}
+use Rattle.sqlx_any_values.specs.declared.value.AnyValueKind.TheVariants.{BigInt}
 use Rattle.sqlx_query.specs.Query.{Asked}
 
 -- these values as arguments

@@ -1,6 +1,6 @@
 //! Queries of a text with whole numbers as arguments, over any backend, and what running one comes to.
 ghost use Rattle.std.specs.Prelude.{◌≡◌, ◌++◌, ◌∷◌, [], ℕ, IfOk, List};
-ghost use Rattle.sqlx_any.specs.declared.value.AnyValueKind.{AnyValueKind as Kind};
+ghost use Rattle.sqlx_any_values.specs.declared.value.AnyValueKind.{AnyValueKind as Kind};
 ghost use Rattle.mem_client.specs.Bound.{Executes, FindsNumber, IsBound};
 
 use sqlx_any::{Any, AnyArguments, AnyConnection, AnyConnectionBackend, AnyQueryResult};

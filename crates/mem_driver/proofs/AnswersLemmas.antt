@@ -7,9 +7,9 @@ use Rattle.either.specs.declared.Either.TheVariants.{Left, Right}
 use Rattle.sqlx_text.specs.declared.fault.Fault.TheVariants as fault
 use Rattle.sqlx_traits.specs.StepList.{StepCauses}
 use Rattle.sqlx_any.specs.Rows.{RowParts}
-use Rattle.sqlx_any.specs.TypedRead.{read_i64}
+use Rattle.sqlx_any_values.specs.TypedRead.{read_i64}
 use Rattle.sqlx_any.specs.declared.arguments.AnyArguments.{AnyArguments}
-use Rattle.sqlx_any.specs.declared.value.AnyValueKind.TheVariants.{BigInt}
+use Rattle.sqlx_any_values.specs.declared.value.AnyValueKind.TheVariants.{BigInt}
 use Rattle.mem_store.specs.Acts.{rows_seen, seen_by}
 use Rattle.mem_store.specs.Store.{Session as Work}
 use Rattle.mem_store.specs.declared.act.Act.{Act}

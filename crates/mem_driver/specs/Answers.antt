@@ -7,13 +7,13 @@ use Rattle.either.specs.declared.Either.TheVariants.{Left, Right}
 use Rattle.sqlx_text.specs.declared.error.Error.{Error}
 use Rattle.sqlx_text.specs.declared.kind.AnyTypeInfoKind.TheVariants as kind
 use Rattle.sqlx_traits.specs.StepList.{Steps}
-use Rattle.sqlx_any.specs.Names.{Names, with_position}
+use Rattle.sqlx_any_values.specs.Names.{Names, with_position}
 use Rattle.sqlx_any.specs.Rows.{RowParts}
-use Rattle.sqlx_any.specs.TypedRead.{read_i64}
+use Rattle.sqlx_any_values.specs.TypedRead.{read_i64}
 use Rattle.sqlx_any.specs.declared.column.AnyColumn.{AnyColumn}
-use Rattle.sqlx_any.specs.declared.query_result.AnyQueryResult.{AnyQueryResult}
-use Rattle.sqlx_any.specs.declared.value.AnyValue.{AnyValue}
-use Rattle.sqlx_any.specs.declared.value.AnyValueKind.TheVariants.{BigInt}
+use Rattle.sqlx_any_values.specs.declared.query_result.AnyQueryResult.{AnyQueryResult}
+use Rattle.sqlx_any_values.specs.declared.value.AnyValue.{AnyValue}
+use Rattle.sqlx_any_values.specs.declared.value.AnyValueKind.TheVariants.{BigInt}
 use Rattle.mem_store.specs.Store.{Session as Work}
 use Rattle.mem_store.specs.Acts.{rows_seen, seen_by}
 use Rattle.mem_store.specs.declared.act.Act.{Act}

@@ -1,7 +1,7 @@
 -- What a text asks for with its arguments.
 use Rattle.std.specs.Prelude.{ℕ, ℤ, List, [], ◌∷◌, Option, Some, None, option_map}
-use Rattle.sqlx_any.specs.declared.value.AnyValueKind.{AnyValueKind}
-use Rattle.sqlx_any.specs.declared.value.AnyValueKind.TheVariants.{SmallInt, Integer, BigInt}
+use Rattle.sqlx_any_values.specs.declared.value.AnyValueKind.{AnyValueKind}
+use Rattle.sqlx_any_values.specs.declared.value.AnyValueKind.TheVariants.{SmallInt, Integer, BigInt}
 use Rattle.sqlx_any.specs.declared.arguments.AnyArguments.{AnyArguments}
 use Rattle.mem_store.specs.Statements.{read_statement}
 use Rattle.mem_store.specs.declared.statement.Statement.{Statement}

@@ -4,7 +4,7 @@ use Rattle.std.specs.Str.{bytes_eq}
 use Rattle.sqlx_text.specs.declared.error.Error.{Error}
 use Rattle.sqlx_text.specs.declared.error.Error.TheVariants as error
 use Rattle.sqlx_traits.specs.Reads.{Answers}
-use Rattle.sqlx_any.specs.Drivers.{no_driver}
+use Rattle.sqlx_any_values.specs.Drivers.{no_driver}
 use Rattle.sqlx_any.specs.declared.options.AnyConnectOptions.{AnyConnectOptions}
 use Rattle.mem_store.specs.declared.answer.Answer.TheVariants.{Accept}
 use Rattle.mem_store.specs.Store.{connected, new_link, new_store}

@@ -4,7 +4,7 @@ use Rattle.either.specs.declared.Either.TheVariants.{Right}
 use Rattle.sqlx_text.specs.declared.error.Error.{Error}
 use Rattle.sqlx_text.specs.declared.error.Error.TheVariants as error
 use Rattle.sqlx_any.specs.Rows.{StatementParts}
-use Rattle.sqlx_any.specs.declared.type_info.AnyTypeInfo.{AnyTypeInfo}
+use Rattle.sqlx_any_values.specs.declared.type_info.AnyTypeInfo.{AnyTypeInfo}
 use Rattle.mem_store.specs.Errors.{error_of}
 use Rattle.mem_store.specs.Statements.{read_statement}
 use Rattle.mem_store.specs.declared.refusal.Refusal.TheVariants.{Unread}

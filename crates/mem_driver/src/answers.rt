@@ -4,7 +4,7 @@ ghost use Rattle.either.specs.declared.Either.TheVariants.{Right};
 ghost use Rattle.std.specs.List.{AllByRecursion};
 ghost use Rattle.mem_driver.specs.Answers.{IsI64, RowsFit, columns_from, column_at, done, listed, named_from, oks, one_names, pair_names, pair_row, row_of, value_names};
 ghost use Rattle.mem_driver.specs.Answers as answer;
-ghost use Rattle.sqlx_any.specs.Names.{with_position};
+ghost use Rattle.sqlx_any_values.specs.Names.{with_position};
 
 use either::Either;
 use sqlx_any::{

@@ -1,7 +1,7 @@
 -- The reply to a statement with arguments, by what the statement comes to.
 use Rattle.std.proofs.Common.{◌≡◌, inl, inr, cond, is_some, ℤ, Option, Some, None, Result, Ok, Err, refl, ap, ◌∙◌}
 use Rattle.sqlx_text.specs.declared.error.Error.{Error}
-use Rattle.sqlx_any.specs.declared.query_result.AnyQueryResult.{AnyQueryResult}
+use Rattle.sqlx_any_values.specs.declared.query_result.AnyQueryResult.{AnyQueryResult}
 use Rattle.sqlx_script.specs.declared.reply.Reply.{Reply}
 use Rattle.sqlx_script.specs.declared.reply.Reply.TheVariants as reply
 use Rattle.mem_store.specs.declared.act.Act.{Act as Doing}

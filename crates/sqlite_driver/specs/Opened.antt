@@ -10,7 +10,7 @@ use Rattle.sqlite.specs.Steps.{IsEmpty, over_memory}
 use Rattle.sqlx_text.specs.declared.error.Error.{Error}
 use Rattle.sqlx_text.specs.declared.error.Error.TheVariants as error
 use Rattle.sqlx_text.specs.declared.fault.Fault.TheVariants as fault
-use Rattle.sqlx_any.specs.Drivers.{of_scheme}
+use Rattle.sqlx_any_values.specs.Drivers.{of_scheme}
 use Rattle.sqlx_any.specs.declared.options.AnyConnectOptions.{AnyConnectOptions}
 use Rattle.sqlite_driver.specs.Ran.{Ran}
 use Rattle.sqlite_driver.specs.Refusals.{IsRefusal, IsToldBy}

@@ -17,13 +17,13 @@ use Rattle.sqlx_text.specs.declared.error.Error.{Error}
 use Rattle.sqlx_text.specs.declared.error.Error.TheVariants as error
 use Rattle.sqlx_text.specs.declared.kind.AnyTypeInfoKind.TheVariants as null
 use Rattle.sqlx_traits.specs.StepList.{Steps}
-use Rattle.sqlx_any.specs.Kinds.{kind_of}
-use Rattle.sqlx_any.specs.Names.{with_position}
+use Rattle.sqlx_any_values.specs.Kinds.{kind_of}
+use Rattle.sqlx_any_values.specs.Names.{with_position}
 use Rattle.sqlx_any.specs.Rows.{RowParts}
 use Rattle.sqlx_any.specs.declared.arguments.AnyArguments.{AnyArguments}
-use Rattle.sqlx_any.specs.declared.query_result.AnyQueryResult.{AnyQueryResult}
-use Rattle.sqlx_any.specs.declared.value.AnyValueKind.{AnyValueKind}
-use Rattle.sqlx_any.specs.declared.value.AnyValueKind.TheVariants as kind
+use Rattle.sqlx_any_values.specs.declared.query_result.AnyQueryResult.{AnyQueryResult}
+use Rattle.sqlx_any_values.specs.declared.value.AnyValueKind.{AnyValueKind}
+use Rattle.sqlx_any_values.specs.declared.value.AnyValueKind.TheVariants as kind
 use Rattle.sqlite_driver.specs.Refusals.{IsToldBy, no_kind}
 use Rattle.sqlite_driver.specs.Ran.{Refuses, Settled, Unsettled}
 use Rattle.sqlite_driver.specs.declared.base.Base.{Base}

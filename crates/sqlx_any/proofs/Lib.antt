@@ -1,4 +1,3 @@
 pub mod ReadBack
-pub mod NamesLemmas
 pub mod FormsLemmas
 pub mod CellsLemmas

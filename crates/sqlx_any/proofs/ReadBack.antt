@@ -2,9 +2,9 @@
 use Rattle.std.proofs.Common.{◌≡◌, ℤ, pos, negsuc, inl, inr, refl, ap, subst, ◌∙◌, arith, Result, Ok, Err, Option, Some, option_map, FitsSigned, w16, w32, w64, Bool, true, false}
 use Rattle.sqlx_text.specs.declared.fault.Fault.{Fault}
 use Rattle.sqlx_traits.specs.Reads.{Reads, ReadsOption, option_of}
-use Rattle.sqlx_any.specs.declared.value.AnyValueKind.{AnyValueKind}
-use Rattle.sqlx_any.specs.Kinds.{kind_of}
-use Rattle.sqlx_any.specs.TypedRead.{Reader, may_read, typed_read, within}
+use Rattle.sqlx_any_values.specs.declared.value.AnyValueKind.{AnyValueKind}
+use Rattle.sqlx_any_values.specs.Kinds.{kind_of}
+use Rattle.sqlx_any_values.specs.TypedRead.{Reader, may_read, typed_read, within}
 
 -- what is read of a value that isn't null is read of it as an option
 read_as_some : {T A : Type 0} (seen : T → A) (a : A) (r : Result (Option T) Fault)

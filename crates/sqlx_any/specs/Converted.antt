@@ -4,8 +4,8 @@ use Rattle.sqlx_text.specs.declared.fault.Fault.{Fault}
 use Rattle.sqlx_text.specs.declared.kind.AnyTypeInfoKind.{AnyTypeInfoKind}
 use Rattle.sqlx_text.specs.declared.kind.AnyTypeInfoKind.TheVariants as kind
 use Rattle.sqlx_traits.specs.Arguments.{IsWantOfMemory}
-use Rattle.sqlx_any.specs.declared.value.AnyValueKind.{AnyValueKind}
-use Rattle.sqlx_any.specs.declared.value.AnyValueKind.TheVariants as value
+use Rattle.sqlx_any_values.specs.declared.value.AnyValueKind.{AnyValueKind}
+use Rattle.sqlx_any_values.specs.declared.value.AnyValueKind.TheVariants as value
 
 -- a list of arguments became another by a value
 abbrev pub Step : Type 0 → Type 1

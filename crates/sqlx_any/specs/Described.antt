@@ -7,7 +7,7 @@ use Rattle.sqlx_text.specs.declared.kind.AnyTypeInfoKind.{AnyTypeInfoKind}
 use Rattle.sqlx_any.specs.Native.{native_columns, native_parameters}
 use Rattle.sqlx_any.specs.Rows.{parameters_held}
 use Rattle.sqlx_any.specs.declared.column.AnyColumn.{AnyColumn}
-use Rattle.sqlx_any.specs.declared.type_info.AnyTypeInfo.{AnyTypeInfo}
+use Rattle.sqlx_any_values.specs.declared.type_info.AnyTypeInfo.{AnyTypeInfo}
 
 -- its columns, its parameters, and for each column whether it can be null, as far as that is known
 pub record DescribeParts (C I : Type 0) : Type 0 where

@@ -8,13 +8,13 @@ use Rattle.sqlx_text.specs.declared.kind.AnyTypeInfoKind.{AnyTypeInfoKind}
 use Rattle.sqlx_text.specs.declared.kind.AnyTypeInfoKind.TheVariants as kind
 use Rattle.sqlx_traits.specs.Places.{at_place}
 use Rattle.sqlx_traits.specs.Reads.{ValueRead, column_error}
-use Rattle.sqlx_any.specs.Names.{Names}
+use Rattle.sqlx_any_values.specs.Names.{Names}
 use Rattle.sqlx_any.specs.Native.{native_column}
 use Rattle.sqlx_any.specs.Rows.{RowParts}
 use Rattle.sqlx_any.specs.declared.column.AnyColumn.{AnyColumn}
-use Rattle.sqlx_any.specs.declared.value.AnyValue.{AnyValue}
-use Rattle.sqlx_any.specs.declared.value.AnyValueKind.{AnyValueKind}
-use Rattle.sqlx_any.specs.declared.value.AnyValueKind.TheVariants as value
+use Rattle.sqlx_any_values.specs.declared.value.AnyValue.{AnyValue}
+use Rattle.sqlx_any_values.specs.declared.value.AnyValueKind.{AnyValueKind}
+use Rattle.sqlx_any_values.specs.declared.value.AnyValueKind.TheVariants as value
 
 -- an answer of which the fact holds, or the error of no memory
 abbrev pub OrNoMemory : {T : Type 0} → (Result T Error → Type 0) → Result T Error → Type 0

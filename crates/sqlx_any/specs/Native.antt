@@ -8,10 +8,10 @@ use Rattle.sqlx_text.specs.declared.kind.AnyTypeInfoKind.{AnyTypeInfoKind}
 use Rattle.sqlx_traits.specs.Parameters.{Parameters}
 use Rattle.sqlx_traits.specs.Reads.{Answers}
 use Rattle.sqlx_traits.specs.StepList.{all_of}
-use Rattle.sqlx_any.specs.Names.{Names}
+use Rattle.sqlx_any_values.specs.Names.{Names}
 use Rattle.sqlx_any.specs.Rows.{StatementParts}
 use Rattle.sqlx_any.specs.declared.column.AnyColumn.{AnyColumn}
-use Rattle.sqlx_any.specs.declared.type_info.AnyTypeInfo.{AnyTypeInfo}
+use Rattle.sqlx_any_values.specs.declared.type_info.AnyTypeInfo.{AnyTypeInfo}
 
 -- the type of a kind, and the refusal of a type of this name that has none
 abbrev pub any_type : Option AnyTypeInfoKind → List ℕ → Result AnyTypeInfo Error

@@ -3,10 +3,10 @@ use Rattle.std.specs.Prelude.{◌≡◌, ℕ, List, Vec, Option, Some, None}
 use Rattle.either.specs.declared.Either.{Either}
 use Rattle.either.specs.declared.Either.TheVariants.{Left, Right}
 use Rattle.sqlx_traits.specs.Parameters.{Parameters}
-use Rattle.sqlx_any.specs.Names.{Names, AreBelow}
+use Rattle.sqlx_any_values.specs.Names.{Names, AreBelow}
 use Rattle.sqlx_any.specs.declared.column.AnyColumn.{AnyColumn}
-use Rattle.sqlx_any.specs.declared.type_info.AnyTypeInfo.{AnyTypeInfo}
-use Rattle.sqlx_any.specs.declared.value.AnyValue.{AnyValue}
+use Rattle.sqlx_any_values.specs.declared.type_info.AnyTypeInfo.{AnyTypeInfo}
+use Rattle.sqlx_any_values.specs.declared.value.AnyValue.{AnyValue}
 
 -- a row: the names by which its columns are found, with their positions, its columns, and their values
 pub record RowParts : Type 0 where

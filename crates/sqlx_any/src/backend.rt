@@ -15,8 +15,8 @@ use std::alloc::Global;
 /// `Executor` say of an [`crate::AnyConnection`] over it.
 pub trait AnyConnectionBackend: Faults + Sized {
     ghost use Rattle.sqlx_any.specs.declared.arguments.AnyArguments.{AnyArguments};
-    ghost use Rattle.sqlx_any.specs.declared.query_result.AnyQueryResult.{AnyQueryResult};
-    ghost use Rattle.sqlx_any.specs.declared.type_info.AnyTypeInfo.{AnyTypeInfo};
+    ghost use Rattle.sqlx_any_values.specs.declared.query_result.AnyQueryResult.{AnyQueryResult};
+    ghost use Rattle.sqlx_any_values.specs.declared.type_info.AnyTypeInfo.{AnyTypeInfo};
 
     /// The name of the driver.
     ghost called: { Self → List ℕ };

@@ -3,7 +3,7 @@ ghost use Rattle.std.specs.Prelude.{◌≡◌, ◌⊎◌, ◌∷◌, [], IfErr, 
 ghost use Rattle.sqlx_text.specs.declared.fault.Fault.{Fault};
 ghost use Rattle.sqlx_traits.specs.Arguments.{AddsOne, IsWantOfMemory};
 ghost use Rattle.sqlx_any.specs.Converted.{Adds, AddsInOrder, Refuses, RefusesOne, Step};
-ghost use Rattle.sqlx_any.specs.declared.value.AnyValueKind.{AnyValueKind};
+ghost use Rattle.sqlx_any_values.specs.declared.value.AnyValueKind.{AnyValueKind};
 
 use crate::{AnyArguments, AnyBlob, AnyValueKind};
 use sqlx_text::{AnyTypeInfoKind, Fault, UStr};

@@ -2,47 +2,38 @@
 //! backend shares. It exports the traits of a driver too.
 #![tactic(auto)]
 
-mod any_read;
 mod arguments;
 mod backend;
-mod blob;
 mod column;
-mod column_names;
 mod connection;
 mod convert;
 mod database;
 mod describe;
-mod driver;
-mod drivers;
 mod executor;
 pub mod laws;
 mod mapped;
 mod native;
 mod options;
-mod query_result;
 mod row;
 mod statement;
 mod transaction;
-mod type_info;
 mod types;
 mod value;
 
-pub use any_read::AnyRead;
-pub use arguments::{AnyArgumentBuffer, AnyArguments};
+pub use arguments::AnyArguments;
 pub use backend::{AnyConnectionBackend, AnyOpen};
-pub use blob::AnyBlob;
 pub use column::AnyColumn;
-pub use column_names::ColumnNames;
 pub use connection::AnyConnection;
 pub use convert::TakesAnyValues;
 pub use database::Any;
 pub use describe::Describe;
-pub use driver::AnyDriver;
-pub use drivers::{expect_scheme, find_driver};
 pub use mapped::ReadsAnyKinds;
 pub use options::AnyConnectOptions;
-pub use query_result::AnyQueryResult;
 pub use row::AnyRow;
+pub use sqlx_any_values::{
+    AnyArgumentBuffer, AnyBlob, AnyDriver, AnyQueryResult, AnyRead, AnyTypeInfo, AnyValue,
+    AnyValueKind, ColumnNames, expect_scheme, find_driver,
+};
 pub use sqlx_text::AnyTypeInfoKind;
 pub use sqlx_traits::{
     ArgumentList, Arguments, Column, ColumnIndex, ColumnOrigin, Connect, ConnectOptions,
@@ -54,5 +45,3 @@ pub use sqlx_traits::{
 };
 pub use statement::AnyStatement;
 pub use transaction::AnyTransactionManager;
-pub use type_info::AnyTypeInfo;
-pub use value::{AnyValue, AnyValueKind};

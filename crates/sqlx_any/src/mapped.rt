@@ -3,8 +3,8 @@ ghost use Rattle.std.specs.Prelude.{◌≡◌, ◌⊎◌, Result, decimal, lengt
 ghost use Rattle.sqlx_text.specs.declared.fault.Fault.{Fault};
 ghost use Rattle.sqlx_text.specs.declared.kind.AnyTypeInfoKind.{AnyTypeInfoKind};
 ghost use Rattle.sqlx_any.specs.Mapped.{NativeCell, NativeRow, NativeValue, OrNoMemory};
-ghost use Rattle.sqlx_any.specs.Names.{AreBelow};
-ghost use Rattle.sqlx_any.specs.declared.value.AnyValueKind.{AnyValueKind};
+ghost use Rattle.sqlx_any_values.specs.Names.{AreBelow};
+ghost use Rattle.sqlx_any_values.specs.declared.value.AnyValueKind.{AnyValueKind};
 
 use crate::native::keep;
 use crate::{AnyBlob, AnyColumn, AnyRow, AnyValue, AnyValueKind, ColumnNames};

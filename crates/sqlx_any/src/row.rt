@@ -279,7 +279,7 @@ impl ColumnIndex<AnyRow> for usize {
 
 impl ColumnIndex<AnyRow> for &str {
     ghost use Rattle.sqlx_traits.specs.Places.{in_quotes, place_of_name};
-    ghost use Rattle.sqlx_any.specs.Names.{position_of};
+    ghost use Rattle.sqlx_any_values.specs.Names.{position_of};
 
     ghost place = { λ name row. place_of_name (position_of name.now row.names) name.now };
 

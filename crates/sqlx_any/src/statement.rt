@@ -3,7 +3,7 @@ ghost use Rattle.std.specs.Prelude.{◌≡◌, ◌↔◌, IfErr, IfOk, IsOk, Ok,
 ghost use Rattle.sqlx_traits.specs.Parameters.{parameters_seen};
 ghost use Rattle.sqlx_traits.specs.Places.{IsGiven, at_place};
 ghost use Rattle.sqlx_traits.specs.Reads.{Answers};
-ghost use Rattle.sqlx_any.specs.Names.{AreBelow};
+ghost use Rattle.sqlx_any_values.specs.Names.{AreBelow};
 ghost use Rattle.sqlx_any.specs.Native.{FormsStatement};
 ghost use Rattle.sqlx_any.specs.Rows.{parameters_held};
 
@@ -29,7 +29,7 @@ pub struct AnyStatement {
 
 impl Model for AnyStatement {
     ghost use Rattle.std.specs.Prelude.{length};
-    ghost use Rattle.sqlx_any.specs.Names.{AreBelow};
+    ghost use Rattle.sqlx_any_values.specs.Names.{AreBelow};
     ghost use Rattle.sqlx_any.specs.Rows.{StatementParts, parameters_held};
 
     ghost Value = { StatementParts };
@@ -252,7 +252,7 @@ impl ColumnIndex<AnyStatement> for usize {
 
 impl ColumnIndex<AnyStatement> for &str {
     ghost use Rattle.sqlx_traits.specs.Places.{in_quotes, place_of_name};
-    ghost use Rattle.sqlx_any.specs.Names.{position_of};
+    ghost use Rattle.sqlx_any_values.specs.Names.{position_of};
 
     ghost place = { λ name statement. place_of_name (position_of name.now statement.names) name.now };
 

@@ -1,7 +1,7 @@
 //! Callers as a user writes them, with their contracts; each is called once.
 ghost use Rattle.std.specs.Prelude.{◌≡◌, true};
 ghost use Rattle.sqlx_traits.specs.Reads.{RowRead};
-ghost use Rattle.sqlx_any.specs.TypedRead.{TypedRead, an_i64};
+ghost use Rattle.sqlx_any_values.specs.TypedRead.{TypedRead, an_i64};
 
 use crate::says::*;
 use sqlx_any::{AnyRow, ColumnIndex, Database, Executor, RowList, TransactionManager};

@@ -1,6 +1,6 @@
 //! The forms in `Any` of what a database has of its own, and what it takes of `Any`'s arguments.
 ghost use Rattle.std.specs.Prelude.{IfOk};
-ghost use Rattle.sqlx_any.specs.Names.{AreBelow};
+ghost use Rattle.sqlx_any_values.specs.Names.{AreBelow};
 
 use crate::parts::parameters;
 use crate::samples::{Sample, toy_statement, value_of};

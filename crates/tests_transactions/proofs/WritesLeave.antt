@@ -7,7 +7,7 @@ use Rattle.sqlx_text.specs.declared.fault.Fault.{Fault}
 use Rattle.sqlx_traits.specs.Handed.{Handed}
 use Rattle.sqlx_traits.specs.StepList.{Ran}
 use Rattle.sqlx_any.specs.declared.arguments.AnyArguments.{AnyArguments}
-use Rattle.sqlx_any.specs.declared.value.AnyValueKind.{AnyValueKind}
+use Rattle.sqlx_any_values.specs.declared.value.AnyValueKind.{AnyValueKind}
 use Rattle.sqlx_any.specs.Runs.{RunsOver, RunsArguments}
 use Rattle.mem_store.specs.declared.act.Act.{Act}
 use Rattle.mem_store.specs.declared.act.Act.TheVariants.{Put, Delete, Get, SelectAll, SelectOne, Level}

@@ -1,24 +1,12 @@
 //! Truth values.
 ghost use Rattle.std.specs.Prelude.{◌≡◌};
-ghost use Rattle.sqlx_any.specs.TypedRead.{read_bool};
 
-use super::{misfit, put, unexpected};
-use crate::{
-    Any, AnyArgumentBuffer, AnyConnectionBackend, AnyRead, AnyTypeInfo, AnyValue, AnyValueKind,
-};
+use crate::{Any, AnyArgumentBuffer, AnyConnectionBackend, AnyTypeInfo, AnyValue, AnyValueKind};
+use sqlx_any_values::types::bool::truth;
+use sqlx_any_values::types::put;
 use sqlx_text::{AnyTypeInfoKind, Fault};
 use sqlx_traits::{Decode, DecodeOwned, Encode, IsNull, SqlType, TypeInfo};
 use std::alloc::Global;
-
-// The truth value that a value is.
-fn truth(value: &AnyValue) -> Result<bool, Fault>
-    ensures { result ≡ read_bool value.now.kind }
-{
-    match value.kind {
-        AnyValueKind::Bool(b) => Ok(b),
-        _ => Err(unexpected(AnyTypeInfoKind::Bool, value)),
-    }
-}
 
 impl<B: AnyConnectionBackend> SqlType<Any<B>> for bool {
     ghost use Rattle.std.specs.Prelude.{codes};
@@ -47,7 +35,7 @@ impl<B: AnyConnectionBackend> SqlType<Any<B>> for bool {
 
 impl<'q, B: AnyConnectionBackend> Encode<'q, Any<B>> for bool {
     ghost use Rattle.std.specs.Prelude.{◌++◌, ◌∷◌, [], None};
-    ghost use Rattle.sqlx_any.specs.declared.value.AnyValueKind.TheVariants as value;
+    ghost use Rattle.sqlx_any_values.specs.declared.value.AnyValueKind.TheVariants as value;
     ghost use Rattle.sqlx_traits.specs.Arguments.{IsWantOfMemory};
     ghost use Rattle.sqlx_traits.specs.declared.encode.IsNull.TheVariants.{No};
 
@@ -80,7 +68,7 @@ impl<'q, B: AnyConnectionBackend> Encode<'q, Any<B>> for bool {
 
 impl<'r, B: AnyConnectionBackend> Decode<'r, Any<B>> for bool {
     ghost use Rattle.sqlx_traits.specs.Reads.{Reads};
-    ghost use Rattle.sqlx_any.specs.TypedRead.{read_bool};
+    ghost use Rattle.sqlx_any_values.specs.TypedRead.{read_bool};
 
     ghost reads = { λ value r. Reads (λ b. b) (read_bool value.kind) r };
 
@@ -91,31 +79,11 @@ impl<'r, B: AnyConnectionBackend> Decode<'r, Any<B>> for bool {
 
 impl<B: AnyConnectionBackend> DecodeOwned<Any<B>> for bool {
     ghost use Rattle.sqlx_traits.specs.Reads.{Reads};
-    ghost use Rattle.sqlx_any.specs.TypedRead.{read_bool};
+    ghost use Rattle.sqlx_any_values.specs.TypedRead.{read_bool};
 
     ghost reads = { λ value r. Reads (λ b. b) (read_bool value.kind) r };
 
     fn decode_owned(alloc: Global, value: &AnyValue) -> Result<bool, Fault> {
         <bool as Decode<Any<B>>>::decode(alloc, value)
-    }
-}
-
-impl<'r> AnyRead<'r> for bool {
-    ghost use Rattle.sqlx_any.specs.TypedRead.{TypedRead, a_bool};
-
-    ghost reads = { TypedRead (λ b. b) a_bool };
-
-    fn read(
-        _alloc: Global,
-        value: &'r AnyValue,
-        checked: bool,
-        in_row: bool,
-    ) -> Result<bool, Fault> {
-        let kind = value.kind.kind();
-        let takes = matches!(kind, AnyTypeInfoKind::Bool);
-        match misfit("bool", AnyTypeInfoKind::Bool, takes, checked, in_row, kind) {
-            Some(fault) => Err(fault),
-            None => truth(value),
-        }
     }
 }

@@ -1,39 +1,14 @@
 //! Bytes, owned and borrowed.
 ghost use Rattle.std.specs.Prelude.{◌≡◌, codes};
-ghost use Rattle.sqlx_traits.specs.Reads.{Reads};
-ghost use Rattle.sqlx_any.specs.TypedRead.{read_bytes};
 
-use super::{misfit, put, unexpected};
 use crate::{
-    Any, AnyArgumentBuffer, AnyBlob, AnyConnectionBackend, AnyRead, AnyTypeInfo, AnyValue,
-    AnyValueKind,
+    Any, AnyArgumentBuffer, AnyBlob, AnyConnectionBackend, AnyTypeInfo, AnyValue, AnyValueKind,
 };
+use sqlx_any_values::types::bytes::{bytes_of, copy_of};
+use sqlx_any_values::types::put;
 use sqlx_text::{AnyTypeInfoKind, Fault};
 use sqlx_traits::{Decode, DecodeOwned, Encode, IsNull, SqlType, TypeInfo};
 use std::alloc::Global;
-
-// The bytes that a value is.
-fn bytes_of<'r>(value: &'r AnyValue) -> Result<&'r [u8], Fault>
-    ensures { Reads (λ bytes. bytes.now) (read_bytes value.now.kind) result }
-{
-    match &value.kind {
-        AnyValueKind::Blob(blob) => Ok(blob.as_slice()),
-        _ => Err(unexpected(AnyTypeInfoKind::Blob, value)),
-    }
-}
-
-// A copy of the bytes that a value is.
-fn copy_of(alloc: Global, value: &AnyValue) -> Result<Vec<u8>, Fault>
-    ensures { Reads (λ bytes. bytes.items) (read_bytes value.now.kind) result }
-{
-    match &value.kind {
-        AnyValueKind::Blob(blob) => match Vec::from_slice(alloc, blob.as_slice()) {
-            Ok(bytes) => Ok(bytes),
-            Err(_) => Err(Fault::OutOfMemory),
-        },
-        _ => Err(unexpected(AnyTypeInfoKind::Blob, value)),
-    }
-}
 
 impl<'s, B: AnyConnectionBackend> SqlType<Any<B>> for &'s [u8] {
     ghost use Rattle.std.specs.Prelude.{codes};
@@ -68,7 +43,7 @@ impl<'s, B: AnyConnectionBackend> SqlType<Any<B>> for &'s [u8] {
 
 impl<'q, B: AnyConnectionBackend> Encode<'q, Any<B>> for &[u8] {
     ghost use Rattle.std.specs.Prelude.{◌++◌, ◌∷◌, [], None, length};
-    ghost use Rattle.sqlx_any.specs.declared.value.AnyValueKind.TheVariants.{Blob};
+    ghost use Rattle.sqlx_any_values.specs.declared.value.AnyValueKind.TheVariants.{Blob};
     ghost use Rattle.sqlx_traits.specs.Arguments.{IsWantOfMemory};
     ghost use Rattle.sqlx_traits.specs.declared.encode.IsNull.TheVariants.{No};
 
@@ -103,7 +78,7 @@ impl<'q, B: AnyConnectionBackend> Encode<'q, Any<B>> for &[u8] {
 
 impl<'r, B: AnyConnectionBackend> Decode<'r, Any<B>> for &'r [u8] {
     ghost use Rattle.sqlx_traits.specs.Reads.{Reads};
-    ghost use Rattle.sqlx_any.specs.TypedRead.{read_bytes};
+    ghost use Rattle.sqlx_any_values.specs.TypedRead.{read_bytes};
 
     ghost reads = { λ value r. Reads (λ bytes. bytes.now) (read_bytes value.kind) r };
 
@@ -139,7 +114,7 @@ impl<B: AnyConnectionBackend> SqlType<Any<B>> for Vec<u8> {
 
 impl<'q, B: AnyConnectionBackend> Encode<'q, Any<B>> for Vec<u8> {
     ghost use Rattle.std.specs.Prelude.{◌++◌, ◌∷◌, [], None, length};
-    ghost use Rattle.sqlx_any.specs.declared.value.AnyValueKind.TheVariants.{Blob};
+    ghost use Rattle.sqlx_any_values.specs.declared.value.AnyValueKind.TheVariants.{Blob};
     ghost use Rattle.sqlx_traits.specs.Arguments.{IsWantOfMemory};
     ghost use Rattle.sqlx_traits.specs.declared.encode.IsNull.TheVariants.{No};
 
@@ -173,7 +148,7 @@ impl<'q, B: AnyConnectionBackend> Encode<'q, Any<B>> for Vec<u8> {
 
 impl<'r, B: AnyConnectionBackend> Decode<'r, Any<B>> for Vec<u8> {
     ghost use Rattle.sqlx_traits.specs.Reads.{Reads};
-    ghost use Rattle.sqlx_any.specs.TypedRead.{read_bytes};
+    ghost use Rattle.sqlx_any_values.specs.TypedRead.{read_bytes};
 
     ghost reads = { λ value r. Reads (λ bytes. bytes.items) (read_bytes value.kind) r };
 
@@ -184,60 +159,11 @@ impl<'r, B: AnyConnectionBackend> Decode<'r, Any<B>> for Vec<u8> {
 
 impl<B: AnyConnectionBackend> DecodeOwned<Any<B>> for Vec<u8> {
     ghost use Rattle.sqlx_traits.specs.Reads.{Reads};
-    ghost use Rattle.sqlx_any.specs.TypedRead.{read_bytes};
+    ghost use Rattle.sqlx_any_values.specs.TypedRead.{read_bytes};
 
     ghost reads = { λ value r. Reads (λ bytes. bytes.items) (read_bytes value.kind) r };
 
     fn decode_owned(alloc: Global, value: &AnyValue) -> Result<Vec<u8>, Fault> {
         <Vec<u8> as Decode<Any<B>>>::decode(alloc, value)
-    }
-}
-
-impl<'r> AnyRead<'r> for &'r [u8] {
-    ghost use Rattle.sqlx_any.specs.TypedRead.{TypedRead, a_blob};
-    ghost use Rattle.std.specs.Prelude.{codes};
-
-    ghost reads = { TypedRead (λ bytes. bytes.now) (a_blob (codes "&[u8]")) };
-
-    fn read(
-        _alloc: Global,
-        value: &'r AnyValue,
-        checked: bool,
-        in_row: bool,
-    ) -> Result<&'r [u8], Fault> {
-        let kind = value.kind.kind();
-        let takes = matches!(kind, AnyTypeInfoKind::Blob);
-        match misfit("&[u8]", AnyTypeInfoKind::Blob, takes, checked, in_row, kind) {
-            Some(fault) => Err(fault),
-            None => bytes_of(value),
-        }
-    }
-}
-
-impl<'r> AnyRead<'r> for Vec<u8> {
-    ghost use Rattle.sqlx_any.specs.TypedRead.{TypedRead, a_blob};
-    ghost use Rattle.std.specs.Prelude.{codes};
-
-    ghost reads = { TypedRead (λ bytes. bytes.items) (a_blob (codes "Vec<u8>")) };
-
-    fn read(
-        alloc: Global,
-        value: &'r AnyValue,
-        checked: bool,
-        in_row: bool,
-    ) -> Result<Vec<u8>, Fault> {
-        let kind = value.kind.kind();
-        let takes = matches!(kind, AnyTypeInfoKind::Blob);
-        match misfit(
-            "Vec<u8>",
-            AnyTypeInfoKind::Blob,
-            takes,
-            checked,
-            in_row,
-            kind,
-        ) {
-            Some(fault) => Err(fault),
-            None => copy_of(alloc, value),
-        }
     }
 }

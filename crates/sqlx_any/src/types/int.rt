@@ -1,52 +1,11 @@
 //! Whole numbers: each type reads each kind of them, as far as its range goes.
-ghost use Rattle.std.specs.Prelude.{◌≡◌};
-ghost use Rattle.sqlx_any.specs.TypedRead.{read_i16, read_i32, read_i64, read_whole, within};
 
-use super::{misfit, put, unexpected};
-use crate::{
-    Any, AnyArgumentBuffer, AnyConnectionBackend, AnyRead, AnyTypeInfo, AnyValue, AnyValueKind,
-};
+use crate::{Any, AnyArgumentBuffer, AnyConnectionBackend, AnyTypeInfo, AnyValue, AnyValueKind};
+use sqlx_any_values::types::int::{whole_i16, whole_i32, whole_i64};
+use sqlx_any_values::types::put;
 use sqlx_text::{AnyTypeInfoKind, Fault};
 use sqlx_traits::{Decode, DecodeOwned, Encode, IsNull, SqlType};
 use std::alloc::Global;
-
-// The number, if it is one of low to high.
-fn in_range(n: i64, low: i64, high: i64) -> Result<i64, Fault>
-    ensures { result ≡ within low high n }
-{
-    if n < low || high < n {
-        Err(Fault::OutOfRange)
-    } else {
-        Ok(n)
-    }
-}
-
-// The number that a value is, if it is one of low to high.
-fn whole(own: AnyTypeInfoKind, low: i64, high: i64, value: &AnyValue) -> Result<i64, Fault>
-    ensures { result ≡ read_whole own low high value.now.kind }
-{
-    match value.kind {
-        AnyValueKind::SmallInt(n) => in_range(n as i64, low, high),
-        AnyValueKind::Integer(n) => in_range(n as i64, low, high),
-        AnyValueKind::BigInt(n) => in_range(n, low, high),
-        _ => Err(unexpected(own, value)),
-    }
-}
-
-// The number of 16 bits that a value is.
-fn whole_i16(value: &AnyValue) -> Result<i16, Fault>
-    ensures { result ≡ read_i16 value.now.kind }
-{
-    match whole(
-        AnyTypeInfoKind::SmallInt,
-        i16::MIN as i64,
-        i16::MAX as i64,
-        value,
-    ) {
-        Ok(n) => Ok(n as i16),
-        Err(fault) => Err(fault),
-    }
-}
 
 impl<B: AnyConnectionBackend> SqlType<Any<B>> for i16 {
     ghost use Rattle.std.specs.Prelude.{codes};
@@ -76,7 +35,7 @@ impl<B: AnyConnectionBackend> SqlType<Any<B>> for i16 {
 
 impl<'q, B: AnyConnectionBackend> Encode<'q, Any<B>> for i16 {
     ghost use Rattle.std.specs.Prelude.{◌++◌, ◌∷◌, [], None};
-    ghost use Rattle.sqlx_any.specs.declared.value.AnyValueKind.TheVariants.{SmallInt};
+    ghost use Rattle.sqlx_any_values.specs.declared.value.AnyValueKind.TheVariants.{SmallInt};
     ghost use Rattle.sqlx_traits.specs.Arguments.{IsWantOfMemory};
     ghost use Rattle.sqlx_traits.specs.declared.encode.IsNull.TheVariants.{No};
 
@@ -109,7 +68,7 @@ impl<'q, B: AnyConnectionBackend> Encode<'q, Any<B>> for i16 {
 
 impl<'r, B: AnyConnectionBackend> Decode<'r, Any<B>> for i16 {
     ghost use Rattle.sqlx_traits.specs.Reads.{Reads};
-    ghost use Rattle.sqlx_any.specs.TypedRead.{read_i16};
+    ghost use Rattle.sqlx_any_values.specs.TypedRead.{read_i16};
 
     ghost reads = { λ value r. Reads (λ n. n) (read_i16 value.kind) r };
 
@@ -120,27 +79,12 @@ impl<'r, B: AnyConnectionBackend> Decode<'r, Any<B>> for i16 {
 
 impl<B: AnyConnectionBackend> DecodeOwned<Any<B>> for i16 {
     ghost use Rattle.sqlx_traits.specs.Reads.{Reads};
-    ghost use Rattle.sqlx_any.specs.TypedRead.{read_i16};
+    ghost use Rattle.sqlx_any_values.specs.TypedRead.{read_i16};
 
     ghost reads = { λ value r. Reads (λ n. n) (read_i16 value.kind) r };
 
     fn decode_owned(alloc: Global, value: &AnyValue) -> Result<i16, Fault> {
         <i16 as Decode<Any<B>>>::decode(alloc, value)
-    }
-}
-
-// The number of 32 bits that a value is.
-fn whole_i32(value: &AnyValue) -> Result<i32, Fault>
-    ensures { result ≡ read_i32 value.now.kind }
-{
-    match whole(
-        AnyTypeInfoKind::Integer,
-        i32::MIN as i64,
-        i32::MAX as i64,
-        value,
-    ) {
-        Ok(n) => Ok(n as i32),
-        Err(fault) => Err(fault),
     }
 }
 
@@ -172,7 +116,7 @@ impl<B: AnyConnectionBackend> SqlType<Any<B>> for i32 {
 
 impl<'q, B: AnyConnectionBackend> Encode<'q, Any<B>> for i32 {
     ghost use Rattle.std.specs.Prelude.{◌++◌, ◌∷◌, [], None};
-    ghost use Rattle.sqlx_any.specs.declared.value.AnyValueKind.TheVariants.{Integer};
+    ghost use Rattle.sqlx_any_values.specs.declared.value.AnyValueKind.TheVariants.{Integer};
     ghost use Rattle.sqlx_traits.specs.Arguments.{IsWantOfMemory};
     ghost use Rattle.sqlx_traits.specs.declared.encode.IsNull.TheVariants.{No};
 
@@ -205,7 +149,7 @@ impl<'q, B: AnyConnectionBackend> Encode<'q, Any<B>> for i32 {
 
 impl<'r, B: AnyConnectionBackend> Decode<'r, Any<B>> for i32 {
     ghost use Rattle.sqlx_traits.specs.Reads.{Reads};
-    ghost use Rattle.sqlx_any.specs.TypedRead.{read_i32};
+    ghost use Rattle.sqlx_any_values.specs.TypedRead.{read_i32};
 
     ghost reads = { λ value r. Reads (λ n. n) (read_i32 value.kind) r };
 
@@ -216,20 +160,13 @@ impl<'r, B: AnyConnectionBackend> Decode<'r, Any<B>> for i32 {
 
 impl<B: AnyConnectionBackend> DecodeOwned<Any<B>> for i32 {
     ghost use Rattle.sqlx_traits.specs.Reads.{Reads};
-    ghost use Rattle.sqlx_any.specs.TypedRead.{read_i32};
+    ghost use Rattle.sqlx_any_values.specs.TypedRead.{read_i32};
 
     ghost reads = { λ value r. Reads (λ n. n) (read_i32 value.kind) r };
 
     fn decode_owned(alloc: Global, value: &AnyValue) -> Result<i32, Fault> {
         <i32 as Decode<Any<B>>>::decode(alloc, value)
     }
-}
-
-// The number of 64 bits that a value is.
-fn whole_i64(value: &AnyValue) -> Result<i64, Fault>
-    ensures { result ≡ read_i64 value.now.kind }
-{
-    whole(AnyTypeInfoKind::BigInt, i64::MIN, i64::MAX, value)
 }
 
 impl<B: AnyConnectionBackend> SqlType<Any<B>> for i64 {
@@ -260,7 +197,7 @@ impl<B: AnyConnectionBackend> SqlType<Any<B>> for i64 {
 
 impl<'q, B: AnyConnectionBackend> Encode<'q, Any<B>> for i64 {
     ghost use Rattle.std.specs.Prelude.{◌++◌, ◌∷◌, [], None};
-    ghost use Rattle.sqlx_any.specs.declared.value.AnyValueKind.TheVariants.{BigInt};
+    ghost use Rattle.sqlx_any_values.specs.declared.value.AnyValueKind.TheVariants.{BigInt};
     ghost use Rattle.sqlx_traits.specs.Arguments.{IsWantOfMemory};
     ghost use Rattle.sqlx_traits.specs.declared.encode.IsNull.TheVariants.{No};
 
@@ -293,7 +230,7 @@ impl<'q, B: AnyConnectionBackend> Encode<'q, Any<B>> for i64 {
 
 impl<'r, B: AnyConnectionBackend> Decode<'r, Any<B>> for i64 {
     ghost use Rattle.sqlx_traits.specs.Reads.{Reads};
-    ghost use Rattle.sqlx_any.specs.TypedRead.{read_i64};
+    ghost use Rattle.sqlx_any_values.specs.TypedRead.{read_i64};
 
     ghost reads = { λ value r. Reads (λ n. n) (read_i64 value.kind) r };
 
@@ -304,85 +241,11 @@ impl<'r, B: AnyConnectionBackend> Decode<'r, Any<B>> for i64 {
 
 impl<B: AnyConnectionBackend> DecodeOwned<Any<B>> for i64 {
     ghost use Rattle.sqlx_traits.specs.Reads.{Reads};
-    ghost use Rattle.sqlx_any.specs.TypedRead.{read_i64};
+    ghost use Rattle.sqlx_any_values.specs.TypedRead.{read_i64};
 
     ghost reads = { λ value r. Reads (λ n. n) (read_i64 value.kind) r };
 
     fn decode_owned(alloc: Global, value: &AnyValue) -> Result<i64, Fault> {
         <i64 as Decode<Any<B>>>::decode(alloc, value)
-    }
-}
-
-impl<'r> AnyRead<'r> for i16 {
-    ghost use Rattle.sqlx_any.specs.TypedRead.{TypedRead, an_i16};
-
-    ghost reads = { TypedRead (λ n. n) an_i16 };
-
-    fn read(
-        _alloc: Global,
-        value: &'r AnyValue,
-        checked: bool,
-        in_row: bool,
-    ) -> Result<i16, Fault> {
-        let kind = value.kind.kind();
-        let takes = kind.is_integer();
-        match misfit(
-            "i16",
-            AnyTypeInfoKind::SmallInt,
-            takes,
-            checked,
-            in_row,
-            kind,
-        ) {
-            Some(fault) => Err(fault),
-            None => whole_i16(value),
-        }
-    }
-}
-
-impl<'r> AnyRead<'r> for i32 {
-    ghost use Rattle.sqlx_any.specs.TypedRead.{TypedRead, an_i32};
-
-    ghost reads = { TypedRead (λ n. n) an_i32 };
-
-    fn read(
-        _alloc: Global,
-        value: &'r AnyValue,
-        checked: bool,
-        in_row: bool,
-    ) -> Result<i32, Fault> {
-        let kind = value.kind.kind();
-        let takes = kind.is_integer();
-        match misfit(
-            "i32",
-            AnyTypeInfoKind::Integer,
-            takes,
-            checked,
-            in_row,
-            kind,
-        ) {
-            Some(fault) => Err(fault),
-            None => whole_i32(value),
-        }
-    }
-}
-
-impl<'r> AnyRead<'r> for i64 {
-    ghost use Rattle.sqlx_any.specs.TypedRead.{TypedRead, an_i64};
-
-    ghost reads = { TypedRead (λ n. n) an_i64 };
-
-    fn read(
-        _alloc: Global,
-        value: &'r AnyValue,
-        checked: bool,
-        in_row: bool,
-    ) -> Result<i64, Fault> {
-        let kind = value.kind.kind();
-        let takes = kind.is_integer();
-        match misfit("i64", AnyTypeInfoKind::BigInt, takes, checked, in_row, kind) {
-            Some(fault) => Err(fault),
-            None => whole_i64(value),
-        }
     }
 }

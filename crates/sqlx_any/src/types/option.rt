@@ -1,8 +1,7 @@
-//! Options: as an argument `None` is a null of the kind that the type under it has, and a null is read as `None`.
-use super::put_null;
-use crate::{
-    Any, AnyArgumentBuffer, AnyConnectionBackend, AnyRead, AnyTypeInfo, AnyValue, AnyValueKind,
-};
+//! Options: as an argument `None` is a null of the kind that the type under it has.
+
+use crate::{Any, AnyArgumentBuffer, AnyConnectionBackend, AnyTypeInfo};
+use sqlx_any_values::types::put_null;
 use sqlx_text::Fault;
 use sqlx_traits::{Encode, IsNull, SqlType};
 use std::alloc::Global;
@@ -12,7 +11,7 @@ impl<'q, B: AnyConnectionBackend, T: Encode<'q, Any<B>> + SqlType<Any<B>>> Encod
     ghost use Rattle.std.specs.Prelude.{None, Some};
     ghost use Rattle.sqlx_traits.specs.Arguments.{IsWantOfMemory};
     ghost use Rattle.sqlx_traits.specs.declared.encode.IsNull.TheVariants.{Yes};
-    ghost use Rattle.sqlx_any.specs.Kinds.{with_null};
+    ghost use Rattle.sqlx_any_values.specs.Kinds.{with_null};
 
     ghost encoded = { λ x list. elim x [ None ↦ with_null T.own_type.kind list | Some y ↦ T.encoded y list ] };
 
@@ -46,28 +45,6 @@ impl<'q, B: AnyConnectionBackend, T: Encode<'q, Any<B>> + SqlType<Any<B>>> Encod
         match self {
             Some(value) => value.size_hint(),
             None => 0,
-        }
-    }
-}
-
-impl<'r, T: AnyRead<'r>> AnyRead<'r> for Option<T> {
-    ghost use Rattle.sqlx_traits.specs.Reads.{ReadsOption};
-    ghost use Rattle.sqlx_any.specs.Kinds.{is_null_kind, kind_of};
-
-    ghost reads = { λ checked in_row value r. ReadsOption (is_null_kind (kind_of value.kind)) (T.reads checked in_row value) r };
-
-    fn read(
-        alloc: Global,
-        value: &'r AnyValue,
-        checked: bool,
-        in_row: bool,
-    ) -> Result<Option<T>, Fault> {
-        if matches!(value.kind, AnyValueKind::Null(_)) {
-            return Ok(None);
-        }
-        match T::read(alloc, value, checked, in_row) {
-            Ok(read) => Ok(Some(read)),
-            Err(fault) => Err(fault),
         }
     }
 }

@@ -1,5 +1,5 @@
 use Rattle.std.proofs.Common.{[], ◌∷◌, to_z-of_z}
-use Rattle.sqlx_any.specs.declared.value.AnyValueKind.TheVariants.{BigInt}
+use Rattle.sqlx_any_values.specs.declared.value.AnyValueKind.TheVariants.{BigInt}
 use Rattle.mem_store.specs.Statements.{statement_text}
 use Rattle.mem_store.specs.declared.statement.Statement.TheVariants.{Delete}
 use Rattle.mem_client.proofs.StatementLemmas.{delete_comes}

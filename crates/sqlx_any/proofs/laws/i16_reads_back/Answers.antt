@@ -1,7 +1,7 @@
 use Rattle.std.proofs.Common.{refl}
 use Rattle.sqlx_text.specs.declared.kind.AnyTypeInfoKind.TheVariants as kind
-use Rattle.sqlx_any.specs.TypedRead.{an_i16}
-use Rattle.sqlx_any.specs.declared.value.AnyValueKind.TheVariants as value
+use Rattle.sqlx_any_values.specs.TypedRead.{an_i16}
+use Rattle.sqlx_any_values.specs.declared.value.AnyValueKind.TheVariants as value
 use Rattle.sqlx_any.proofs.ReadBack.{fits_i16, read_back, read_back_as_some}
 use Rattle.sqlx_any.proofs.laws.i16_reads_back.Goals as goal
 

@@ -1,7 +1,7 @@
 use Rattle.std.proofs.Common.{refl, codes, string_bytes}
 use Rattle.sqlx_text.specs.declared.kind.AnyTypeInfoKind.TheVariants as kind
-use Rattle.sqlx_any.specs.TypedRead.{a_text}
-use Rattle.sqlx_any.specs.declared.value.AnyValueKind.TheVariants as value
+use Rattle.sqlx_any_values.specs.TypedRead.{a_text}
+use Rattle.sqlx_any_values.specs.declared.value.AnyValueKind.TheVariants as value
 use Rattle.sqlx_any.proofs.ReadBack.{read_back, read_back_as_some}
 use Rattle.sqlx_any.proofs.laws.string_reads_back.Goals as goal
 

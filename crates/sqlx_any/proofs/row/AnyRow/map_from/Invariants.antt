@@ -2,7 +2,7 @@ use Rattle.std.proofs.Common.{◌≡◌, Result, length, take}
 use Rattle.sqlx_text.specs.declared.error.Error.{Error}
 use Rattle.sqlx_any.specs.Mapped.{AllGive, NativeCell}
 use Rattle.sqlx_any.specs.declared.column.AnyColumn.{AnyColumn}
-use Rattle.sqlx_any.specs.declared.value.AnyValue.{AnyValue}
+use Rattle.sqlx_any_values.specs.declared.value.AnyValue.{AnyValue}
 use Rattle.sqlx_any.proofs.row.AnyRow.map_from.Given as goal
 
 -- what a column of the row gives

@@ -1,5 +1,0 @@
-use Rattle.std.proofs.Common.{rules}
-use Rattle.sqlx_any.proofs.types.misfit.Goals as goal
-
-pub returns-then-not-checked : goal.returns-then-not-checked
-returns-then-not-checked c = search rules

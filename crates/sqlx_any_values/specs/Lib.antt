@@ -1,0 +1,5 @@
+pub mod Kinds
+pub mod TypedRead
+pub mod Names
+pub mod Results
+pub mod Drivers
