@@ -10,7 +10,7 @@ ghost use Rattle.mem_levels.specs.Ends.{call_of};
 ghost use Rattle.mem_levels.specs.Told.{Answered, reply_to};
 ghost use Rattle.mem_levels.specs.declared.levels.End.{End};
 
-use crate::told::told;
+use crate::replies::told;
 use mem_acts::Act;
 use mem_driver::{MemSession, SELECT_ONE, begin_at, commit_at, rollback_at};
 use sqlx_any::{Any, AnyConnection};

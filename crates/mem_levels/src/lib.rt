@@ -3,7 +3,7 @@
 #![tactic(auto)]
 
 mod levels;
-mod told;
+mod replies;
 
 pub use levels::{begin, commit, custom, give_up, rollback};
-pub use told::{read, told, written};
+pub use replies::{read, told, written};
