@@ -1,2 +1,2 @@
-pub mod LogText
-pub mod Crowd
+pub use Rattle.sqlx_workers.specs.LogText
+pub use Rattle.sqlx_workers.specs.Crowd

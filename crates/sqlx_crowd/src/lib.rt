@@ -3,12 +3,6 @@
 #![tactic(auto)]
 
 mod crowd;
-mod line;
-mod outside;
-mod text;
-mod workers;
 
 pub use crowd::{Crowd, crowd_with};
-pub use outside::Unhooked;
-pub use text::log_text;
-pub use workers::worker;
+pub use sqlx_workers::{Unhooked, log_text, worker};

@@ -1,7 +1,7 @@
 -- What is written for a crowd, and why it isn't.
 use Rattle.std.specs.Prelude.{ℕ, ◌⊎◌, List, Option}
 use Rattle.std.specs.Io.KnownBytes.{Keeps, Appends}
-use Rattle.sqlx_crowd.specs.Crowd.{LeavesLog}
+use Rattle.sqlx_workers.specs.Crowd.{LeavesLog}
 use Rattle.sqlx_play.specs.declared.error.PlayError.{PlayError}
 use Rattle.sqlx_play.specs.declared.error.PlayError.TheVariants.{WriteFault, OutOfMemory}
 use Rattle.sqlx_play.specs.Causes.{WrotePart}

@@ -1,6 +1,6 @@
 //! Lets a crowd work on a pool, and writes the log that it leaves.
 ghost use Rattle.std.specs.Prelude.{◌≡◌, ◌*◌, ◌^◌, ◌≤◌, IfOk, IfErr, OnOk, false, string_bytes, vec_len};
-ghost use Rattle.sqlx_crowd.specs.Crowd.{LeavesLog};
+ghost use Rattle.sqlx_workers.specs.Crowd.{LeavesLog};
 ghost use Rattle.sqlx_program.specs.CrowdRuns.{WritesLog, CrowdCause};
 
 use crate::worker::Worker;

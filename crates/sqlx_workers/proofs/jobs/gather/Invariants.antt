@@ -1,5 +1,5 @@
 use Rattle.std.proofs.Common.{◌≡◌, ◌+◌, ◌*◌, ◌^◌, ◌<◌, vec_len}
-use Rattle.sqlx_crowd.proofs.crowd.gather.Given as goal
+use Rattle.sqlx_workers.proofs.jobs.gather.Given as goal
 
 -- what isn't gathered yet has room
 abbrev pub invariant-loop-at : goal.invariant-loop-at

@@ -1,5 +1,5 @@
 use Rattle.std.proofs.Common.{◌≡◌, ◌+◌, ◌≤◌, vec_len, vec_capacity}
-use Rattle.sqlx_crowd.proofs.crowd.jobs_of.Given as goal
+use Rattle.sqlx_workers.proofs.jobs.jobs_of.Given as goal
 
 -- each outside that was taken has its job
 abbrev pub invariant-loop-at : goal.invariant-loop-at

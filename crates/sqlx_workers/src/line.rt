@@ -1,7 +1,7 @@
 //! A mark of a pool's log as a line of text.
 
 ghost use Rattle.std.specs.Prelude.{◌≡◌};
-ghost use Rattle.sqlx_crowd.specs.LogText.{mark_word};
+ghost use Rattle.sqlx_workers.specs.LogText.{mark_word};
 
 use sqlx_pool::Mark;
 use std::fmt;
@@ -34,7 +34,7 @@ impl Line {
 
 impl fmt::Display for Line {
     ghost use Rattle.std.specs.Prelude.{Some};
-    ghost use Rattle.sqlx_crowd.specs.LogText.{mark_text};
+    ghost use Rattle.sqlx_workers.specs.LogText.{mark_text};
 
     ghost output = { λ line. Some (mark_text line.0) };
 

@@ -1,12 +1,17 @@
 //! The text of a pool's log.
 
-ghost use Rattle.std.specs.Prelude.{◌≡◌, ◌++◌, IfOk, codes, string_bytes};
+ghost use Rattle.std.specs.Prelude.{◌≡◌, ◌++◌, IfOk, codes, false, string_bytes};
 ghost use Rattle.std.specs.Fmt.{decimal};
-ghost use Rattle.sqlx_crowd.specs.LogText as spec;
+ghost use Rattle.sqlx_workers.specs.Crowd.{LeavesLog};
+ghost use Rattle.sqlx_workers.specs.LogText as spec;
 
 use crate::line::Line;
-use sqlx_pool::Mark;
+use sqlx_pool::{Loans, Mark, Pool, Tally};
+use sqlx_text::OutOfMemory;
+use sqlx_traits::Database;
 use std::alloc::{AllocError, Global};
+use std::sync::Wait;
+use std::sync::ledger::Ledger;
 
 // A mark's line, with its newline.
 fn line(alloc: Global, mark: Mark) -> Result<String, AllocError>
@@ -36,11 +41,32 @@ fn loans_line(alloc: Global, loans: u64) -> Result<String, AllocError>
 }
 
 // The text of a log with so many loans, and then their number.
-pub fn crowd_text(alloc: Global, marks: &[Mark], loans: u64) -> Result<String, AllocError>
+fn crowd_text(alloc: Global, marks: &[Mark], loans: u64) -> Result<String, AllocError>
     ensures { IfOk result (λ text. string_bytes text ≡ spec.log_text marks.now ++ codes "loans " ++ decimal loans ++ codes "\n") }
 {
     let mut text = log_text(alloc, marks)?;
     let last = loans_line(alloc, loans)?;
     text.push_str(&last)?;
     Ok(text)
+}
+
+/// The text of the log that the tally with every part tells of.
+pub fn audited<DB: Database, H: Ledger, L: Loans, R: Wait>(
+    rt: &R,
+    alloc: Global,
+    pool: &Pool<DB, H, L>,
+    all: &mut Tally<L>,
+) -> Result<String, OutOfMemory>
+where
+    DB::Connection: Drop,
+    requires parts { all.old.parts ≡ L.parts }
+    requires uncut { L.cuts ≡ false }
+    ensures text { IfOk result (λ text. LeavesLog L.max all.old.loans (string_bytes text)) }
+    ensures same { all.new ≡ all.old }
+{
+    let log = pool.audit_log(rt, alloc, all)?;
+    match crowd_text(alloc, log.marks(), all.loans()) {
+        Ok(text) => Ok(text),
+        Err(_) => Err(OutOfMemory),
+    }
 }

@@ -1,5 +1,5 @@
 use Rattle.std.proofs.Common.{◌≡◌}
-use Rattle.sqlx_crowd.proofs.workers.one_loan.Given as goal
+use Rattle.sqlx_workers.proofs.workers.one_loan.Given as goal
 
 -- no loan was made yet
 abbrev pub invariant-loop-round : goal.invariant-loop-round

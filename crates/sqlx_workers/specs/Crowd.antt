@@ -3,7 +3,7 @@ use Rattle.std.specs.Prelude.{◌≡◌, ℕ, List, []}
 use Rattle.sqlx_log.specs.declared.mark.Mark.{Mark}
 use Rattle.sqlx_log.specs.FairLog.{IsFair}
 use Rattle.sqlx_pool_lists.specs.Balance.{lents}
-use Rattle.sqlx_crowd.specs.LogText.{crowd_text}
+use Rattle.sqlx_workers.specs.LogText.{crowd_text}
 
 -- the text of a log that is fair from the start for a pool of this maximum, with so many loans, and then their number
 abbrev pub LeavesLog : ℕ → ℕ → List ℕ → Type 0

@@ -1,5 +1,5 @@
 use Rattle.std.proofs.Common.{◌≡◌, ◌+◌}
-use Rattle.sqlx_crowd.proofs.workers.worker.Given as goal
+use Rattle.sqlx_workers.proofs.workers.worker.Given as goal
 
 -- a loan was made in each round
 abbrev pub invariant-loop-at : goal.invariant-loop-at
