@@ -1,5 +1,5 @@
 -- A new family, a new child, and a pool that only heard of its family or whose log only got room.
-use Rattle.std.proofs.Common.{◌≡◌, ℕ, zero, suc, Result, Ok, Err, OnErr, ◌+◌, ◌<◌, ◌≤◌, ◌||◌, inl, inr, Bool, false, List, [], ◌∷◌, ◌++◌, map, length, get_or, refl, sym, ap, ◌∙◌, subst, arith, Vec, vec_items, vec_capacity}
+use Rattle.std.proofs.Common.{◌≡◌, ◌⊎◌, ℕ, zero, suc, Result, Ok, Err, OnErr, ◌+◌, ◌<◌, ◌≤◌, ◌||◌, inl, inr, Bool, false, List, [], ◌∷◌, ◌++◌, map, length, get_or, refl, sym, ap, ◌∙◌, subst, arith, Vec, vec_items, vec_capacity}
 use Rattle.std.specs.Prelude.{slice_set}
 use Rattle.std.proofs.lemmas.Bool.Decides.{eqb_tells}
 use Rattle.std.proofs.lemmas.List.{get_or-set_same, get_or-set_other, get_or_append_left, get_or_push, map-set, length-map, length-append, append-nil, get_or-map, map-append}
@@ -25,7 +25,7 @@ use Rattle.sqlx_pool_parts.specs.State.{RestFlat}
 use Rattle.sqlx_family_pool.specs.FamilyState.{family_state, held_in, tickets_in, IsKept}
 use Rattle.sqlx_pool.proofs.StepLemmas.{kept-books}
 use Rattle.sqlx_family_pool.proofs.Replaces.{Replaces, replaces-with}
-use Rattle.sqlx_family_pool.proofs.StepLemmas.{room-there, written}
+use Rattle.sqlx_family_pool.proofs.StepLemmas.{in-logs, room-there, written}
 
 -- ---- a new pool
 
@@ -202,3 +202,12 @@ kept-heard {levels = levels} {max = max} {f = f} {connect = connect} {booked = b
     subst (λ (g : Pools _). IsKept levels max (family_state g (map vec_items (slice_set logs q now)) connect booked) (map vec_capacity (slice_set logs q now))) (sym same)
     (written logs kept q lt log is (heard-replaces q f lt) (heard-makes q f lt) (heard-balance q f lt) (record { options = refl; rest = λ r. r }) connect (kept-books booked [] refl) now (items ∙ sym (append-nil (vec_items log)))
     (let room = room-there logs kept q lt log is in omega (arith, room, more)))
+
+-- it stands where the pool heard of its family or not
+pub kept-maybe : {C O Z : Type 0} {levels : C → ℕ} {max : ℕ} {f : Pools C} {connect : O} {booked : Booked} (logs : List (Vec Mark Z)) → IsKept levels max (family_state f (map vec_items logs) connect booked) (map vec_capacity logs)
+    → (q : ℕ) → q < length f.pools → (log now : Vec Mark Z) → log ≡ get_or logs q log → vec_items now ≡ vec_items log → vec_capacity log ≤ vec_capacity now → {g : Pools C} → (g ≡ f) ⊎ (g ≡ with_pool q (pool_in q f) f)
+    → IsKept levels max (family_state g (map vec_items (slice_set logs q now)) connect booked) (map vec_capacity (slice_set logs q now))
+kept-maybe {levels = levels} {max = max} {connect = connect} {booked = booked} logs kept q lt log now is items more (inl same) =
+    subst (λ (g : Pools _). IsKept levels max (family_state g (map vec_items (slice_set logs q now)) connect booked) (map vec_capacity (slice_set logs q now))) (sym same)
+    (reserved logs kept q log now (in-logs logs kept q lt log is) is items more)
+kept-maybe logs kept q lt log now is items more (inr heard) = kept-heard logs kept q lt log now is items more heard

@@ -1,12 +1,11 @@
 -- The value under the lock stands after a step of one pool whose marks were written behind that pool's log.
-use Rattle.std.proofs.Common.{◌≡◌, ◌≢◌, ◌==◌, not, ℕ, ◌+◌, ◌*◌, ◌^◌, ◌<◌, ◌≤◌, ◌⊎◌, inl, inr, Bool, true, false, cond, Option, Some, None, List, [], ◌∷◌, ◌++◌, map, length, get_or, sum_by, All, refl, sym, ap, ◌∙◌, subst, arith, Vec, vec_items, vec_capacity}
+use Rattle.std.proofs.Common.{◌≡◌, ◌≢◌, ◌==◌, not, ℕ, ◌+◌, ◌^◌, ◌<◌, ◌≤◌, ◌⊎◌, inl, inr, Bool, true, false, Option, Some, None, List, [], ◌∷◌, ◌++◌, map, length, get_or, sum_by, All, refl, sym, ap, ◌∙◌, subst, arith, Vec, vec_items, vec_capacity}
 use Rattle.std.specs.Prelude.{slice_set}
 use Rattle.std.proofs.lemmas.Bool.Decides.{eqb_tells}
 use Rattle.std.proofs.lemmas.List.{get_or-set_same, get_or-set_other, get_or-map, map-set, length-set, length-map, length-append}
 use Rattle.std.proofs.lemmas.List.Elements.{All-head, All-tail}
 use Rattle.std.proofs.lemmas.List.Sums.{sum_by-set, sum_by-cons}
 use Rattle.sqlx_log.specs.declared.mark.Mark.{Mark}
-use Rattle.sqlx_log.specs.declared.mark.Mark.TheVariants.{Opened, Kept}
 use Rattle.sqlx_log.specs.FairLog.{IsSafe}
 use Rattle.sqlx_log.proofs.Counting.{count-append}
 use Rattle.sqlx_log.proofs.FairLaws.{safe-append}
@@ -18,7 +17,7 @@ use Rattle.sqlx_text.specs.declared.Moment.{Moment}
 use Rattle.sqlx_pool_lists.specs.declared.steps.Idle.{Idle}
 use Rattle.sqlx_pool_lists.specs.declared.steps.Verdict.{Verdict}
 use Rattle.sqlx_pool_lists.specs.declared.steps.Verdict.TheVariants as verdict
-use Rattle.sqlx_pool_lists.specs.Balance.{Balance, is_lent, lents, ends, marks_due, one_if, place_room}
+use Rattle.sqlx_pool_lists.specs.Balance.{Balance, is_lent, lents, ends, marks_due, place_room}
 use Rattle.sqlx_pool_lists.specs.PollSteps.{test_answer, after_refusal}
 use Rattle.sqlx_pool_core.specs.PollParts.{IfAccepted}
 use Rattle.sqlx_pool_lists.specs.MaintenanceSteps.{done_marks}
@@ -194,9 +193,6 @@ module _ {C O Z : Type 0} {levels : C → ℕ} {max : ℕ} {f : Pools C} {connec
   pub room-there : length (vec_items log) + marks_due (pool_in q f) ≤ vec_capacity log
   room-there = let a = kept.room q lt in let b = ap length (items-at logs q log in-logs is) in let c = capacity-at logs q log in-logs is in omega (arith, a, b, c)
 
-  pub room-made : (g : Pools C) (made : List Mark) {backs : ℕ} → Balance (pool_in q f) (pool_in q g) made backs 0 → length (vec_items log) + length made ≤ vec_capacity log
-  room-made g made balance = let a = room-there in let b = balance.paid in omega (arith, a, b)
-
   pub written : {core : Core C} {g : Pools C} {made : List Mark} {backs room : ℕ} → Replaces q f core g → FamilyLogs f q made g → Balance (pool_in q f) (pool_in q g) made backs room → Leaves levels (pool_in q f) core
       → (connect : O) {now_booked : Booked} → Books booked now_booked made backs → (now : Vec Mark Z) → vec_items now ≡ vec_items log ++ made → length (vec_items log) + marks_due (pool_in q f) + room ≤ vec_capacity now
       → IsKept levels max (family_state g (map vec_items (slice_set logs q now)) connect now_booked) (map vec_capacity (slice_set logs q now))
@@ -208,16 +204,6 @@ module _ {C O Z : Type 0} {levels : C → ℕ} {max : ℕ} {f : Pools C} {connec
       let within : q < length (map vec_capacity logs) = (let b = length-map logs vec_capacity in let c = in-logs in omega (arith, b, c)) in
       let here : get_or (map vec_capacity (slice_set logs q now)) q 0 ≡ vec_capacity now = ap (λ (l : List ℕ). get_or l q 0) (map-set vec_capacity logs q now) ∙ get_or-set_same (map vec_capacity logs) q (vec_capacity now) 0 within in
       omega (arith, a, here, enough)))
-
--- a mark that may not be made takes as much room as it says
-pub one-long : (so : Bool) (m : Mark) → length (cond so (m ∷ []) []) ≡ one_if so
-one-long true m = refl
-one-long false m = refl
-
--- the marks of a connection that was opened for the minimum take as much room as they say
-pub opened-long : (so : Bool) (n m : ℕ) → length (cond so (Opened n m ∷ Kept n m ∷ []) []) ≡ 2 * one_if so
-opened-long true n m = refl
-opened-long false n m = refl
 
 -- the marks of a place that is held
 pub held-marks : {C : Type 0} (places : ℕ) → 1 ≤ places → (closed : Bool) (n m : ℕ) (raw : Option C) → done_if_marks (not (places == 0)) closed n m raw ≡ done_marks closed n m raw

@@ -1,5 +1,6 @@
+pub use Rattle.sqlx_family_steps.specs.FamilySteps
 pub mod FamilyState
-pub mod FamilySteps
+pub mod FamilyPlaces
 pub mod Handles
 pub mod Seen
 pub mod Upkeep

@@ -66,7 +66,7 @@ impl<C: Depth + Drop, O: Drop, H: Ledger, L: Loans> FamilyAcquiringOf<C, O, H, L
         ensures causes { IfFailed result (IsPollRefusal (X.faults out.old) (X.faults out.new)) }
         ensures counts { (X.faults out.old ≤ X.faults out.new) × (X.refusals out.old ≤ X.refusals out.new) }
     {
-        let begun = self.pool.shared.locked.lock(rt).begin(
+        let begun = self.pool.lock(rt).begin(
             self.pool.name,
             &self.pool.options,
             self.client,
@@ -138,7 +138,7 @@ impl<C: Depth + Drop, O: Drop, H: Ledger, L: Loans> FamilyAcquiringOf<C, O, H, L
             client,
             ticket,
         } = self;
-        let mut guard = pool.shared.locked.lock(rt);
+        let mut guard = pool.lock(rt);
         let ended = guard.seen_cancel(pool.name, client, ticket);
         pool.unlock(guard);
         ended

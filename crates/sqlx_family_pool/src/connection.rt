@@ -5,8 +5,8 @@ ghost use Rattle.sqlx_text.specs.declared.error.Error.{Error};
 ghost use Rattle.sqlx_pool.specs.Returned.{was_kept};
 
 use crate::FamilyPoolOf;
-use sqlx_pool::{Held, Loans, Returned};
 use sqlx_member::idle_check::Check;
+use sqlx_pool::{Held, Loans, Returned};
 use sqlx_pool_core::{Given, Lent, Openings, Outside};
 use sqlx_pool_parts::checks::{close_by, passes};
 use sqlx_text::{Depth, Error, Moment};
@@ -79,7 +79,7 @@ impl<C: Depth + Drop, O: Drop, H: Ledger, L: Loans> FamilyConnectionOf<C, O, H, 
         } = self;
         let check = pool.check::<R, X>(rt, closes, created, now, &mut raw, out);
         let lent = Lent { id, created, raw };
-        let mut guard = pool.shared.locked.lock(rt);
+        let mut guard = pool.lock(rt);
         let gave = guard.give(pool.name, client, lent, now, passes(check), held);
         pool.unlock(guard);
         let (given, left) = gave;
@@ -119,7 +119,7 @@ impl<C: Depth + Drop, O: Drop, H: Ledger, L: Loans> FamilyConnectionOf<C, O, H, 
             held,
             closes: _,
         } = self;
-        let mut guard = pool.shared.locked.lock(rt);
+        let mut guard = pool.lock(rt);
         let (ended, left) = guard.end(pool.name, client, id, held);
         pool.unlock(guard);
         drop(left);
@@ -152,7 +152,7 @@ impl<C: Depth + Drop, O: Drop, H: Ledger, L: Loans> FamilyConnectionOf<C, O, H, 
             held,
             closes: _,
         } = self;
-        let mut guard = pool.shared.locked.lock(rt);
+        let mut guard = pool.lock(rt);
         let (left_pool, share) = guard.detach(pool.name, client, id, held);
         pool.unlock(guard);
         drop(share);
@@ -180,11 +180,7 @@ impl<C: Depth + Drop, O: Drop, H: Ledger, L: Loans> FamilyConnectionOf<C, O, H, 
             held,
             closes: _,
         } = self;
-        let (left_pool, share) = pool
-            .shared
-            .locked
-            .lock(rt)
-            .leak(pool.name, client, id, held);
+        let (left_pool, share) = pool.lock(rt).leak(pool.name, client, id, held);
         drop(share);
         let opened = pool.keep_minimum_if::<R, X>(left_pool, rt, alloc, now, out);
         (raw, opened)

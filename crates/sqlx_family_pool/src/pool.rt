@@ -9,7 +9,7 @@ ghost use Rattle.sqlx_family.specs.Permits.{owned_by};
 ghost use Rattle.sqlx_pool_parts.specs.Booked.{CountsIf};
 ghost use Rattle.sqlx_pool_parts.specs.MarkLog.{IsUncut};
 ghost use Rattle.sqlx_pool_parts.specs.Opened.{IsOpenable};
-ghost use Rattle.sqlx_family_pool.specs.FamilySteps.{try_lent_in};
+ghost use Rattle.sqlx_family_steps.specs.FamilySteps.{try_lent_in};
 ghost use Rattle.sqlx_pool.specs.Refusals.{IsAskRefusal, IsTryRefusal};
 ghost use Rattle.sqlx_family_pool.specs.FamilyState.{log_of};
 ghost use Rattle.sqlx_family_pool.specs.Handles.{IsChildOf};
@@ -115,7 +115,7 @@ impl<C: Depth + Drop, O: Drop, H: Ledger, L: Loans> FamilyPoolOf<C, O, H, L> {
         let Ok(shared) = Arc::try_clone(&self.shared) else {
             return Err(Error::OutOfMemory);
         };
-        let added = self.shared.locked.lock(rt).seen_child(alloc, options);
+        let added = self.lock(rt).seen_child(alloc, options);
         match added {
             Ok(name) => Ok(FamilyPoolOf {
                 shared,
@@ -127,6 +127,11 @@ impl<C: Depth + Drop, O: Drop, H: Ledger, L: Loans> FamilyPoolOf<C, O, H, L> {
                 Err(error)
             }
         }
+    }
+
+    // Takes the lock.
+    pub(crate) fn lock<R: Wait>(&self, rt: &R) -> Guard<'_, C, O, H, L> {
+        self.shared.locked.lock(rt)
     }
 
     // Lets the lock go, and wakes all that wait for their turn, in whichever pool: behind a step that may have freed a
@@ -155,11 +160,7 @@ impl<C: Depth + Drop, O: Drop, H: Ledger, L: Loans> FamilyPoolOf<C, O, H, L> {
         let Ok(pool) = self.try_clone() else {
             return Err(Error::OutOfMemory);
         };
-        let asked = self
-            .shared
-            .locked
-            .lock(rt)
-            .seen_ask(self.name, alloc, now, client);
+        let asked = self.lock(rt).seen_ask(self.name, alloc, now, client);
         match asked {
             Ok(ticket) => Ok(FamilyAcquiringOf::new(pool, client, ticket)),
             Err(error) => {
@@ -190,11 +191,7 @@ impl<C: Depth + Drop, O: Drop, H: Ledger, L: Loans> FamilyPoolOf<C, O, H, L> {
         let Ok(pool) = self.try_clone() else {
             return Err(Error::OutOfMemory);
         };
-        let tried = self
-            .shared
-            .locked
-            .lock(rt)
-            .seen_try(self.name, alloc, now, client, tally);
+        let tried = self.lock(rt).seen_try(self.name, alloc, now, client, tally);
         match tried {
             Ok(Some((lent, held))) => Ok(Some(FamilyConnectionOf::new(pool, client, lent, held))),
             Ok(None) => {
@@ -220,33 +217,33 @@ impl<C: Depth + Drop, O: Drop, H: Ledger, L: Loans> FamilyPoolOf<C, O, H, L> {
         ensures most { result ≤ L.max }
         ensures saw { SawFamily C.levels L.max (λ state. result ≡ owned_by self.now.name state.family) }
     {
-        self.shared.locked.lock(rt).seen_owned(self.name)
+        self.lock(rt).seen_owned(self.name)
     }
 
     /// How many connections there are or may be.
     pub fn size<R: Wait>(&self, rt: &R) -> u32
         ensures { SawFamily C.levels L.max (λ state. result ≡ size (pool_in self.now.name state.family)) }
     {
-        self.shared.locked.lock(rt).seen_size(self.name)
+        self.lock(rt).seen_size(self.name)
     }
 
     /// How many connections are idle.
     pub fn num_idle<R: Wait>(&self, rt: &R) -> usize
         ensures { SawFamily C.levels L.max (λ state. result ≡ length (pool_in self.now.name state.family).idle) }
     {
-        self.shared.locked.lock(rt).seen_idle(self.name)
+        self.lock(rt).seen_idle(self.name)
     }
 
     /// Whether the pool is closed: a close came to it, or to its root.
     pub fn is_closed<R: Wait>(&self, rt: &R) -> bool
         ensures { SawFamily C.levels L.max (λ state. result ≡ counts_as_closed self.now.name state.family) }
     {
-        self.shared.locked.lock(rt).seen_closed(self.name)
+        self.lock(rt).seen_closed(self.name)
     }
 
     /// The options by which connections are opened.
     pub fn connect_options<R: Wait>(&self, rt: &R) -> Result<Arc<O, Global>, OutOfMemory> {
-        let guard = self.shared.locked.lock(rt);
+        let guard = self.lock(rt);
         match Arc::try_clone(guard.connect_options()) {
             Ok(connect) => Ok(connect),
             Err(_) => Err(OutOfMemory),
@@ -259,6 +256,6 @@ impl<C: Depth + Drop, O: Drop, H: Ledger, L: Loans> FamilyPoolOf<C, O, H, L> {
         ensures uncut { IfOk result (λ read. IsUncut read.1) }
         ensures safe { IfOk result (λ read. IsSafe read.0 [] read.1.marks.items) }
     {
-        self.shared.locked.lock(rt).seen_log(self.name, alloc)
+        self.lock(rt).seen_log(self.name, alloc)
     }
 }

@@ -7,7 +7,7 @@ ghost use Rattle.sqlx_pool_lists.specs.Core.{size};
 ghost use Rattle.sqlx_pool_lists.specs.PollSteps.{phase_for, may_cancel};
 ghost use Rattle.sqlx_family.specs.Pools.{entry_of, pool_in, counts_as_closed, new_pool};
 ghost use Rattle.sqlx_family.specs.Permits.{owned_by};
-ghost use Rattle.sqlx_family_pool.specs.FamilySteps.{try_lent_in};
+ghost use Rattle.sqlx_family_steps.specs.FamilySteps.{try_lent_in};
 ghost use Rattle.sqlx_pool_parts.specs.Answers.{lent_alone};
 ghost use Rattle.sqlx_pool_parts.specs.Booked.{CountsIf};
 ghost use Rattle.sqlx_pool_parts.specs.MarkLog.{IsUncut};

@@ -110,7 +110,7 @@ impl<C: Depth + Drop, O: Drop, H: Ledger, L: Loans> FamilyAcquiringOf<C, O, H, L
         ensures counts { (X.faults out.old ≤ X.faults out.new) × (X.refusals out.old ≤ X.refusals out.new) }
     {
         let now = clock.now();
-        let mut guard = self.pool.shared.locked.lock(rt);
+        let mut guard = self.pool.lock(rt);
         let begun = guard.begin(
             self.pool.name,
             &self.pool.options,

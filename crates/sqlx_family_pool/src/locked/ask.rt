@@ -9,21 +9,18 @@ ghost use Rattle.sqlx_pool_parts.specs.Answers.{lent_alone};
 ghost use Rattle.sqlx_pool_parts.specs.Booked.{CountsIf};
 ghost use Rattle.sqlx_family.specs.Pools.{pool_in, with_pool, counts_as_closed};
 ghost use Rattle.sqlx_family_pool.specs.FamilyState.{IsNamed, IsUnnamed, with_made};
-ghost use Rattle.sqlx_family_pool.specs.FamilySteps.{core_after_ask, try_lent_in, family_after_try};
+ghost use Rattle.sqlx_family_steps.specs.FamilySteps.{core_after_ask, try_lent_in, family_after_try};
 
 use super::LockedFamily;
+use sqlx_family_steps::asking;
 use sqlx_pool::{Held, Loans, Tally};
-use sqlx_pool_core::{Lent, Mark};
-use sqlx_pool_parts::record;
+use sqlx_pool_core::Lent;
 use sqlx_text::{Depth, Error, Moment};
 use std::alloc::Global;
 use std::sync::ledger::Ledger;
 
 // How many tickets a family numbers.
 const NUMBERS: u64 = 1 << 63;
-
-// How many marks a loan past the line may lead to.
-const TRY_ROOM: usize = 4;
 
 impl<C: Depth, O, H: Ledger, L: Loans> LockedFamily<C, O, H, L> {
     /// Asks a pool for a connection: the client gets a ticket, whose number comes next in the family. The memory for all
@@ -46,22 +43,11 @@ impl<C: Depth, O, H: Ledger, L: Loans> LockedFamily<C, O, H, L> {
         if self.family.numbers().next_ticket > NUMBERS {
             return Err(Error::Exhausted);
         }
-        // A whole loan with all its tests, and the end of the connection that it keeps.
-        let room = 7 + 2 * self.family.options(pool).get_idle_tries() as usize;
-        let due = self.family.due(pool);
-        let moment = self.family.moment(now);
-        let timeout = self.family.options(pool).get_acquire_timeout();
         let log = &mut self.logs[pool as usize];
-        let Ok(()) = log.reserve(due + room) else {
-            return Err(Error::OutOfMemory);
-        };
-        let ticket = self.family.ask(pool, alloc, now, client)?;
-        log.push_reserved(Mark::Asked {
-            ticket,
-            client,
-            deadline: u128::from(moment.0) + u128::from(timeout),
-        });
-        Ok(ticket)
+        match asking::ask(&mut self.family, log, pool, alloc, now, client) {
+            Some(ticket) => Ok(ticket),
+            None => Err(Error::OutOfMemory),
+        }
     }
 
     /// Lends the first idle connection of a pool past the line, without a test: where the pool is open, and fewer tickets wait
@@ -93,17 +79,14 @@ impl<C: Depth, O, H: Ledger, L: Loans> LockedFamily<C, O, H, L> {
         if self.books.is_full() {
             return Err(Error::Exhausted);
         }
-        let due = self.family.due(pool);
-        let log = &mut self.logs[pool as usize];
-        let Ok(()) = log.reserve(due + TRY_ROOM) else {
-            return Err(Error::OutOfMemory);
-        };
         self.family.bounds();
-        let Some(lent) = self.family.try_acquire(pool, now, client) else {
-            unreachable!()
-        };
-        record::lend_past(log, client, lent.id);
-        let held = self.books.lend(tally);
-        Ok(Some((lent, held)))
+        let log = &mut self.logs[pool as usize];
+        match asking::lend_past(&mut self.family, log, pool, now, client) {
+            Some(lent) => {
+                let held = self.books.lend(tally);
+                Ok(Some((lent, held)))
+            }
+            None => Err(Error::OutOfMemory),
+        }
     }
 }

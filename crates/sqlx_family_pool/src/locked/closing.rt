@@ -7,9 +7,9 @@ ghost use Rattle.sqlx_family.specs.Permits.{retiring, settled};
 ghost use Rattle.sqlx_family_pool.specs.FamilyState.{IsNamed, IsUnnamed, with_made};
 
 use super::LockedFamily;
+use sqlx_family_steps::closing;
 use sqlx_pool::Loans;
 use sqlx_pool_core::Idle;
-use sqlx_pool_parts::record;
 use sqlx_text::Depth;
 use std::alloc::Global;
 use std::collections::VecDeque;
@@ -30,10 +30,7 @@ impl<C: Depth, O, H: Ledger, L: Loans> LockedFamily<C, O, H, L> {
         if !self.is_named(pool) {
             return VecDeque::new(alloc);
         }
-        let shut = self.family.is_shut(pool);
-        let idle = self.family.close(pool);
-        record::close(&mut self.logs[pool as usize], shut, &idle);
-        idle
+        closing::close(&mut self.family, &mut self.logs[pool as usize], pool)
     }
 
     /// Closes a child, as `close`, and hands its free permits to the root; a permit that it frees later goes there at
@@ -49,9 +46,6 @@ impl<C: Depth, O, H: Ledger, L: Loans> LockedFamily<C, O, H, L> {
         if !self.is_named(pool) {
             return VecDeque::new(alloc);
         }
-        let shut = self.family.is_shut(pool);
-        let idle = self.family.retire(pool);
-        record::close(&mut self.logs[pool as usize], shut, &idle);
-        idle
+        closing::retire(&mut self.family, &mut self.logs[pool as usize], pool)
     }
 }

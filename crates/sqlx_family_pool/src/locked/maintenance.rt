@@ -7,13 +7,12 @@ ghost use Rattle.sqlx_family.specs.Pools.{pool_in, with_pool};
 ghost use Rattle.sqlx_family.specs.RootLine.{passes_in};
 ghost use Rattle.sqlx_pool.specs.Places.{holds_place, back_if};
 ghost use Rattle.sqlx_family_pool.specs.FamilyState.{IsNamed, IsUnnamed, with_made};
-ghost use Rattle.sqlx_family_pool.specs.FamilySteps.{marks_of_done, family_after_done};
+ghost use Rattle.sqlx_family_pool.specs.FamilyPlaces.{marks_of_done, family_after_done};
 
 use super::LockedFamily;
+use sqlx_family_steps::{asking, upkeep};
 use sqlx_pool::Loans;
 use sqlx_pool_core::Idle;
-use sqlx_pool_parts::answers::opens;
-use sqlx_pool_parts::record;
 use sqlx_text::{Depth, Moment, OutOfMemory};
 use std::alloc::Global;
 use std::sync::ledger::Ledger;
@@ -36,9 +35,7 @@ impl<C: Depth, O, H: Ledger, L: Loans> LockedFamily<C, O, H, L> {
         if !self.is_named(pool) {
             return None;
         }
-        let idle = self.family.reap(pool, now);
-        record::reap(&mut self.logs[pool as usize], &idle);
-        idle
+        upkeep::reap(&mut self.family, &mut self.logs[pool as usize], pool, now)
     }
 
     /// Holds a place for one connection of a pool that is opened before any client asks: as `minimum_place`, but at a
@@ -55,10 +52,14 @@ impl<C: Depth, O, H: Ledger, L: Loans> LockedFamily<C, O, H, L> {
         if !self.is_named(pool) {
             return Ok(false);
         }
-        let due = self.family.due(pool);
-        let Ok(()) = self.logs[pool as usize].reserve(due + PLACE_ROOM) else {
+        if !asking::reserve(
+            &self.family,
+            &mut self.logs[pool as usize],
+            pool,
+            PLACE_ROOM,
+        ) {
             return Err(OutOfMemory);
-        };
+        }
         Ok(self.family.first_place(pool))
     }
 
@@ -78,10 +79,14 @@ impl<C: Depth, O, H: Ledger, L: Loans> LockedFamily<C, O, H, L> {
         if !self.is_named(pool) {
             return Ok(false);
         }
-        let due = self.family.due(pool);
-        let Ok(()) = self.logs[pool as usize].reserve(due + PLACE_ROOM) else {
+        if !asking::reserve(
+            &self.family,
+            &mut self.logs[pool as usize],
+            pool,
+            PLACE_ROOM,
+        ) {
             return Err(OutOfMemory);
-        };
+        }
         Ok(self.family.minimum_place(pool))
     }
 
@@ -100,11 +105,7 @@ impl<C: Depth, O, H: Ledger, L: Loans> LockedFamily<C, O, H, L> {
         if !self.is_named(pool) || self.family.num_places(pool) == 0 {
             return raw;
         }
-        let opens = opens(self.family.is_closed(pool), &raw);
-        let conn = self.family.numbers().next_conn;
-        let moment = self.family.moment(now);
-        let back = self.family.minimum_done(pool, now, raw);
-        record::open_if(&mut self.logs[pool as usize], opens, conn, moment.0);
-        back
+        let log = &mut self.logs[pool as usize];
+        upkeep::minimum_done(&mut self.family, log, pool, now, raw)
     }
 }

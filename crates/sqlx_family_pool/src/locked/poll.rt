@@ -14,13 +14,13 @@ ghost use Rattle.sqlx_family.specs.Permits.{stepped};
 ghost use Rattle.sqlx_pool_parts.specs.Answers.{lends_tested, IfTestLends, lends_new, IfTryLends, IfTried, is_fatal, is_ended};
 ghost use Rattle.sqlx_pool_parts.specs.Booked.{CountsIf};
 ghost use Rattle.sqlx_family_pool.specs.FamilyState.{IsNamed, IsUnnamed, with_made};
-ghost use Rattle.sqlx_family_pool.specs.FamilySteps.{start_answer_in, family_after_start};
+ghost use Rattle.sqlx_family_steps.specs.FamilySteps.{start_answer_in, family_after_start};
 
 use super::LockedFamily;
+use sqlx_family_steps::polling;
 use sqlx_pool::{Held, Loans, Tally};
-use sqlx_pool_core::{AfterConnect, AfterTest, Mark, Start, Tried, Verdict};
-use sqlx_pool_parts::answers::{judged_of, lends_new, lends_tested};
-use sqlx_pool_parts::record;
+use sqlx_pool_core::{AfterConnect, AfterTest, Start, Tried, Verdict};
+use sqlx_pool_parts::answers::{lends_new, lends_tested};
 use sqlx_text::{Depth, Moment};
 use std::sync::ledger::Ledger;
 
@@ -38,10 +38,8 @@ impl<C: Depth, O, H: Ledger, L: Loans> LockedFamily<C, O, H, L> {
         if !self.is_named(pool) {
             return Start::NotHeld;
         }
-        let waited = self.family.waits(pool, client, ticket);
-        let start = self.family.start(pool, client, ticket, now);
-        record::start(&mut self.logs[pool as usize], ticket, waited, &start);
-        start
+        let log = &mut self.logs[pool as usize];
+        polling::start(&mut self.family, log, pool, client, ticket, now)
     }
 
     /// Tells what the test of an idle connection came to; a connection that is accepted has no level open. Where one is
@@ -69,9 +67,8 @@ impl<C: Depth, O, H: Ledger, L: Loans> LockedFamily<C, O, H, L> {
             return (AfterTest::NotHeld(verdict), None);
         }
         self.family.bounds();
-        let conn = judged_of(&verdict);
-        let after = self.family.finish_test(pool, client, ticket, verdict);
-        record::test(&mut self.logs[pool as usize], client, ticket, conn, &after);
+        let log = &mut self.logs[pool as usize];
+        let after = polling::finish_test(&mut self.family, log, pool, client, ticket, verdict);
         let held = self.books.lend_if(lends_tested(&after), tally);
         (after, held)
     }
@@ -103,15 +100,9 @@ impl<C: Depth, O, H: Ledger, L: Loans> LockedFamily<C, O, H, L> {
             return (AfterConnect::NotHeld(tried), None);
         }
         self.family.bounds();
-        let moment = self.family.moment(now);
-        let after = self.family.finish_connect(pool, client, ticket, now, tried);
-        record::connect(
-            &mut self.logs[pool as usize],
-            client,
-            ticket,
-            moment.0,
-            &after,
-        );
+        let log = &mut self.logs[pool as usize];
+        let family = &mut self.family;
+        let after = polling::finish_connect(family, log, pool, client, ticket, now, tried);
         let held = self.books.lend_if(lends_new(&after), tally);
         (after, held)
     }
@@ -129,8 +120,7 @@ impl<C: Depth, O, H: Ledger, L: Loans> LockedFamily<C, O, H, L> {
         if !self.is_named(pool) {
             return false;
         }
-        let ends = self.family.cancel(pool, client, ticket);
-        record::if_so(&mut self.logs[pool as usize], ends, Mark::Ended { ticket });
-        ends
+        let log = &mut self.logs[pool as usize];
+        polling::cancel(&mut self.family, log, pool, client, ticket)
     }
 }

@@ -13,22 +13,11 @@ ghost use Rattle.sqlx_pool_parts.specs.MarkLog.{IsUncut};
 ghost use Rattle.sqlx_family_pool.specs.FamilyState.{IsStanding, IsNamed, IsUnnamed, log_of};
 
 use super::LockedFamily;
+use sqlx_family_steps::questions;
 use sqlx_pool::{Loans, MarkLog};
-use sqlx_pool_core::Mark;
 use sqlx_text::{Depth, Moment, OutOfMemory};
 use std::alloc::Global;
 use std::sync::ledger::Ledger;
-
-// A copy of these marks.
-fn copied(alloc: Global, marks: &[Mark]) -> Result<Vec<Mark>, OutOfMemory>
-    ensures { IfOk result (λ copy. copy.items ≡ marks.now) }
-{
-    let mut copy = Vec::new(alloc);
-    match copy.extend_from_slice(marks) {
-        Ok(()) => Ok(copy),
-        Err(_) => Err(OutOfMemory),
-    }
-}
 
 impl<C: Depth, O, H: Ledger, L: Loans> LockedFamily<C, O, H, L> {
     /// What holds of the value whenever its lock is free.
@@ -49,7 +38,7 @@ impl<C: Depth, O, H: Ledger, L: Loans> LockedFamily<C, O, H, L> {
     pub fn is_named(&self, pool: u32) -> bool
         ensures { result ≡ nat_lt pool (length self.now.family.pools) }
     {
-        (pool as usize) < self.family.num_pools()
+        questions::is_named(&self.family, pool)
     }
 
     /// Whether a pool is closed: a close came to it, or to the root. So is one that nobody added.
@@ -57,11 +46,7 @@ impl<C: Depth, O, H: Ledger, L: Loans> LockedFamily<C, O, H, L> {
         ensures answer { result ≡ counts_as_closed pool self.now.family }
         ensures named { result ≡ false → IsNamed pool self.now }
     {
-        if self.is_named(pool) {
-            self.family.is_closed(pool)
-        } else {
-            true
-        }
+        questions::is_closed(&self.family, pool)
     }
 
     /// How many permits a pool owns. One that nobody added owns none.
@@ -126,13 +111,10 @@ impl<C: Depth, O, H: Ledger, L: Loans> LockedFamily<C, O, H, L> {
         ensures marks { IfOk result (λ read. IsNamed pool self.now → read.1.marks.items ≡ log_of self.now pool) }
         ensures safe { IfOk result (λ read. IsSafe read.0 [] read.1.marks.items) }
     {
-        let start = Vec::new(alloc);
         if self.is_named(pool) {
-            let max = self.family.options(pool).get_max_connections();
-            let marks = copied(alloc, self.logs[pool as usize].as_slice())?;
-            Ok((max, MarkLog::new(start, 0, marks)))
+            questions::read_log(&self.family, self.logs.as_slice(), pool, alloc)
         } else {
-            Ok((0, MarkLog::new(start, 0, Vec::new(alloc))))
+            Ok((0, MarkLog::new(Vec::new(alloc), 0, Vec::new(alloc))))
         }
     }
 }

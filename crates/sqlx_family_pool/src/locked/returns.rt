@@ -9,13 +9,13 @@ ghost use Rattle.sqlx_member.specs.ReturnSteps.{give_answer, give_marks, end_mar
 ghost use Rattle.sqlx_family.specs.Pools.{pool_in, with_pool};
 ghost use Rattle.sqlx_family.specs.Permits.{stepped};
 ghost use Rattle.sqlx_family_pool.specs.FamilyState.{IsNamed, IsUnnamed, with_made};
-ghost use Rattle.sqlx_family_pool.specs.FamilySteps.{core_after_return};
+ghost use Rattle.sqlx_family_steps.specs.FamilySteps.{core_after_return};
 
 use super::LockedFamily;
+use sqlx_family_steps::returning;
 use sqlx_pool::{Held, Loans};
-use sqlx_pool_core::{Given, Lent, Mark};
+use sqlx_pool_core::{Given, Lent};
 use sqlx_pool_parts::answers::is_held;
-use sqlx_pool_parts::record;
 use sqlx_text::{Depth, Moment};
 use std::sync::ledger::Ledger;
 
@@ -44,10 +44,8 @@ impl<C: Depth, O, H: Ledger, L: Loans> LockedFamily<C, O, H, L> {
         if !self.is_named(pool) {
             return (Given::NotHeld(lent.raw), Some(held));
         }
-        let conn = lent.id;
-        let moment = self.family.moment(now);
-        let given = self.family.give(pool, client, lent, now, accepted);
-        record::give(&mut self.logs[pool as usize], conn, moment.0, &given);
+        let log = &mut self.logs[pool as usize];
+        let given = returning::give(&mut self.family, log, pool, client, lent, now, accepted);
         let left = self.books.take_back_if(is_held(&given), held);
         (given, left)
     }
@@ -65,12 +63,8 @@ impl<C: Depth, O, H: Ledger, L: Loans> LockedFamily<C, O, H, L> {
         if !self.is_named(pool) {
             return (false, Some(held));
         }
-        let ends = self.family.end(pool, client, id);
-        record::if_so(
-            &mut self.logs[pool as usize],
-            ends,
-            Mark::Closed { conn: id },
-        );
+        let log = &mut self.logs[pool as usize];
+        let ends = returning::end(&mut self.family, log, pool, client, id);
         (ends, self.books.take_back_if(ends, held))
     }
 
@@ -93,12 +87,8 @@ impl<C: Depth, O, H: Ledger, L: Loans> LockedFamily<C, O, H, L> {
         if !self.is_named(pool) {
             return (false, Some(held));
         }
-        let ends = self.family.detach(pool, client, id);
-        record::if_so(
-            &mut self.logs[pool as usize],
-            ends,
-            Mark::Detached { conn: id },
-        );
+        let log = &mut self.logs[pool as usize];
+        let ends = returning::detach(&mut self.family, log, pool, client, id);
         (ends, self.books.take_back_if(ends, held))
     }
 
@@ -121,12 +111,8 @@ impl<C: Depth, O, H: Ledger, L: Loans> LockedFamily<C, O, H, L> {
         if !self.is_named(pool) {
             return (false, Some(held));
         }
-        let ends = self.family.leak(pool, client, id);
-        record::if_so(
-            &mut self.logs[pool as usize],
-            ends,
-            Mark::Leaked { conn: id },
-        );
+        let log = &mut self.logs[pool as usize];
+        let ends = returning::leak(&mut self.family, log, pool, client, id);
         (ends, self.books.take_back_if(ends, held))
     }
 }

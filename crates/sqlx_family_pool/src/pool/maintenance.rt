@@ -11,8 +11,8 @@ ghost use Rattle.sqlx_family_pool.specs.Upkeep.{IsFilledIn, to_close_in, to_reap
 
 use super::FamilyPoolOf;
 use crate::LockedFamily;
-use sqlx_pool::Loans;
 use sqlx_member::idle_check::{Check, Opening};
+use sqlx_pool::Loans;
 use sqlx_pool_core::{Openings, Outside, PoolConnectionMetadata};
 use sqlx_pool_parts::checks;
 use sqlx_pool_parts::filled::Filled;
@@ -50,11 +50,7 @@ impl<C: Depth + Drop, O: Drop, H: Ledger, L: Loans> FamilyPoolOf<C, O, H, L> {
         if closes {
             return Check::Close;
         }
-        let tests_at = self
-            .shared
-            .locked
-            .lock(rt)
-            .tests_at(self.name, created, now);
+        let tests_at = self.lock(rt).tests_at(self.name, created, now);
         match tests_at {
             None => Check::Close,
             Some(moment) => {
@@ -74,7 +70,7 @@ impl<C: Depth + Drop, O: Drop, H: Ledger, L: Loans> FamilyPoolOf<C, O, H, L> {
         ensures saw { SawIn C.levels L.max self.now.name (λ state. result ≡ length (to_close_in self.now.name state)) }
         ensures counts { (X.faults out.old ≤ X.faults out.new) × (X.refusals out.old ≤ X.refusals out.new) }
     {
-        let mut guard = self.shared.locked.lock(rt);
+        let mut guard = self.lock(rt);
         let idle = guard.seen_close(self.name, alloc);
         self.unlock(guard);
         checks::close_all::<C, O, X>(Check::Close, idle, out)
@@ -87,7 +83,7 @@ impl<C: Depth + Drop, O: Drop, H: Ledger, L: Loans> FamilyPoolOf<C, O, H, L> {
         ensures saw { SawIn C.levels L.max self.now.name (λ state. result ≡ length (to_close_in self.now.name state)) }
         ensures counts { (X.faults out.old ≤ X.faults out.new) × (X.refusals out.old ≤ X.refusals out.new) }
     {
-        let mut guard = self.shared.locked.lock(rt);
+        let mut guard = self.lock(rt);
         let idle = guard.seen_retire(self.name, alloc);
         self.unlock(guard);
         checks::close_all::<C, O, X>(Check::Close, idle, out)
@@ -119,7 +115,7 @@ impl<C: Depth + Drop, O: Drop, H: Ledger, L: Loans> FamilyPoolOf<C, O, H, L> {
     {
         let max = self.options.get_max_connections();
         for reaped in 0..max {
-            let idle = self.shared.locked.lock(rt).seen_reap(self.name, now);
+            let idle = self.lock(rt).seen_reap(self.name, now);
             match idle {
                 Some(idle) => checks::close_by::<C, O, X>(Check::Close, idle.lent.raw, out),
                 None => return reaped,
@@ -194,7 +190,7 @@ impl<C: Depth + Drop, O: Drop, H: Ledger, L: Loans> FamilyPoolOf<C, O, H, L> {
         ensures unfilled { TellsLevels X.depth C.levels → IfUnfilled result (SawIn C.levels L.max self.now.name (IsFilledIn self.now.name)) (IsCounted X.faults X.refusals out.old out.new) }
         ensures counts { (X.faults out.old ≤ X.faults out.new) × (X.refusals out.old ≤ X.refusals out.new) }
     {
-        let place = self.shared.locked.lock(rt).seen_place(self.name, alloc);
+        let place = self.lock(rt).seen_place(self.name, alloc);
         match place {
             Ok(true) => self.fill_place::<R, X>(rt, alloc, now, out),
             Ok(false) => Filled::Full,
@@ -243,7 +239,7 @@ impl<C: Depth + Drop, O: Drop, H: Ledger, L: Loans> FamilyPoolOf<C, O, H, L> {
         ensures unfilled { IfUnfilled result (SawIn C.levels L.max self.now.name (IsFilledIn self.now.name)) (IsCounted X.faults X.refusals out.old out.new) }
         ensures counts { (X.faults out.old ≤ X.faults out.new) × (X.refusals out.old ≤ X.refusals out.new) }
     {
-        let mut guard = self.shared.locked.lock(rt);
+        let mut guard = self.lock(rt);
         let back = guard.seen_done(self.name, now, raw);
         self.unlock(guard);
         match back {
@@ -257,7 +253,7 @@ impl<C: Depth + Drop, O: Drop, H: Ledger, L: Loans> FamilyPoolOf<C, O, H, L> {
 
     // Gives a place back for which nothing was opened.
     fn let_go<R: Wait>(&self, rt: &R, now: Moment) {
-        let mut guard = self.shared.locked.lock(rt);
+        let mut guard = self.lock(rt);
         let back = guard.minimum_done(self.name, now, None);
         self.unlock(guard);
         drop(back);

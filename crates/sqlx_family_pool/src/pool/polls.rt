@@ -11,9 +11,9 @@ ghost use Rattle.sqlx_pool.specs.Stage.{has_lent, IfLent, IfEnded, wants_test, w
 
 use super::FamilyPoolOf;
 use crate::LockedFamily;
+use sqlx_member::idle_check::Opening;
 use sqlx_pool::stage::{Stage, after_start, after_test, after_try};
 use sqlx_pool::{Held, Loans, Tally};
-use sqlx_member::idle_check::Opening;
 use sqlx_pool_core::{AfterConnect, Idle, Outside, PoolOptions, Tried, Verdict};
 use sqlx_pool_parts::checks;
 use sqlx_text::{Depth, Error, Moment};
@@ -141,8 +141,6 @@ impl<C: Depth + Drop, O: Drop, H: Ledger, L: Loans> FamilyPoolOf<C, O, H, L> {
     {
         let verdict = checks::judge::<C, O, X>(&self.options, idle, moment, out);
         let finished = self
-            .shared
-            .locked
             .lock(rt)
             .finish_test(self.name, client, ticket, verdict, tally);
         let (after, held) = finished;
@@ -189,8 +187,6 @@ impl<C: Depth + Drop, O: Drop, H: Ledger, L: Loans> FamilyPoolOf<C, O, H, L> {
         ensures connected { wants_connect result ≡ false }
     {
         let finished = self
-            .shared
-            .locked
             .lock(rt)
             .finish_connect(self.name, client, ticket, now, tried, tally);
         let (after, held) = finished;
@@ -215,8 +211,6 @@ impl<C: Depth + Drop, O: Drop, H: Ledger, L: Loans> FamilyPoolOf<C, O, H, L> {
         ensures connected { wants_connect result ≡ false }
     {
         let finished = self
-            .shared
-            .locked
             .lock(rt)
             .finish_connect(self.name, client, ticket, now, Tried::Fatal, tally);
         let (after, held) = finished;

@@ -1,33 +1,32 @@
-use Rattle.std.proofs.Common.{◌<◌, ◌++◌, length, ap, ◌∙◌, inl, arith, vec_items}
-use Rattle.sqlx_log.specs.declared.mark.Mark.TheVariants.{Closed}
+use Rattle.std.proofs.Common.{◌<◌, length, inl, arith}
 use Rattle.sqlx_family.specs.Pools.{pool_in}
-use Rattle.sqlx_family_pool.proofs.StepLemmas.{in-logs, room-there, room-made, logs-grow, written, one-long}
+use Rattle.sqlx_family_pool.proofs.StepLemmas.{in-logs, room-there, logs-grow, written}
 use Rattle.sqlx_member.specs.ReturnSteps.{end_marks}
 use Rattle.sqlx_pool.proofs.LeavesLemmas.{released-leaves}
-use Rattle.sqlx_pool.proofs.StepLemmas.{end-made, end-lends}
+use Rattle.sqlx_pool.proofs.StepLemmas.{end-lends}
 use Rattle.sqlx_family_pool.proofs.Replaces.{replaces-step}
 use Rattle.sqlx_family_pool.proofs.locked.LockedFamily.end.Goals as goal
 
-pub if_so-requires : goal.if_so-requires
-if_so-requires g c =
+pub end-ends-requires-clause-room : goal.end-ends-requires-clause-room
+end-ends-requires-clause-room g c =
     let here : c.args.pool < length c.self.inside.family.pools = grind arith in
-    (let r = room-made c.self.inside.logs.items c.self.invariant c.args.pool here c.index_mut.result.now c.index_mut.ensures.value c.end-ends.new.self (end_marks c.args.id c.end-ends.result) c.end-ends.ensures.balance in let e = ap length (end-made c.args.id c.end-ends.result) in let o = one-long c.end-ends.result (Closed c.args.id) in omega (arith, r, e, o))
+    room-there c.self.inside.logs.items c.self.invariant c.args.pool here c.index_mut-log.result.now c.index_mut-log.ensures.value
 
 pub invariant_of-self : goal.invariant_of-self
 invariant_of-self g c =
     let here : c.args.pool < length c.self.inside.family.pools = grind arith in
-    let room = room-there c.self.inside.logs.items c.self.invariant c.args.pool here c.index_mut.result.now c.index_mut.ensures.value in
-    let capacity = c.if_so.ensures.capacity in
-    written c.self.inside.logs.items c.self.invariant c.args.pool here c.index_mut.result.now c.index_mut.ensures.value
+    let room = room-there c.self.inside.logs.items c.self.invariant c.args.pool here c.index_mut-log.result.now c.index_mut-log.ensures.value in
+    let capacity = c.end-ends.ensures.capacity in
+    written c.self.inside.logs.items c.self.invariant c.args.pool here c.index_mut-log.result.now c.index_mut-log.ensures.value
     (replaces-step c.args.pool c.self.inside.family here c.end-ends.ensures.becomes) c.end-ends.ensures.makes c.end-ends.ensures.balance
     (released-leaves g.C.Depth.levels c.args.id c.end-ends.result (pool_in c.args.pool c.self.inside.family))
-    c.self.inside.connect (let none = end-lends c.args.id c.end-ends.result in let owned = c.take_back_if.ensures.owned in let made = c.take_back_if.ensures.made in record { owned = omega (arith, none, owned); made_is = omega (arith, none, made); few = inl (omega (arith, none)) }) c.if_so.new.log (c.if_so.ensures.marks ∙ ap (λ l. vec_items c.index_mut.result.now ++ l) (end-made c.args.id c.end-ends.result)) (omega (arith, room, capacity))
+    c.self.inside.connect (let none = end-lends c.args.id c.end-ends.result in let owned = c.take_back_if.ensures.owned in let made = c.take_back_if.ensures.made in record { owned = omega (arith, none, owned); made_is = omega (arith, none, made); few = inl (omega (arith, none)) }) c.end-ends.new.log c.end-ends.ensures.marks (omega (arith, room, capacity))
 
 pub returns-clause-marks : goal.returns-clause-marks
 returns-clause-marks g c =
     let here : c.args.pool < length c.self.inside.family.pools = grind arith in
     rw (← c.self.view_is)
-    (λ named. logs-grow c.self.inside.logs.items c.args.pool c.index_mut.result.now (in-logs c.self.inside.logs.items c.self.invariant c.args.pool here c.index_mut.result.now c.index_mut.ensures.value) c.index_mut.ensures.value c.if_so.new.log (end_marks c.args.id c.end-ends.result) (c.if_so.ensures.marks ∙ ap (λ l. vec_items c.index_mut.result.now ++ l) (end-made c.args.id c.end-ends.result)))
+    (λ named. logs-grow c.self.inside.logs.items c.args.pool c.index_mut-log.result.now (in-logs c.self.inside.logs.items c.self.invariant c.args.pool here c.index_mut-log.result.now c.index_mut-log.ensures.value) c.index_mut-log.ensures.value c.end-ends.new.log (end_marks c.args.id c.end-ends.result) c.end-ends.ensures.marks)
 
 pub returns-clause-becomes : goal.returns-clause-becomes
 returns-clause-becomes g c = rw (← c.self.view_is) (λ named. c.end-ends.ensures.becomes)

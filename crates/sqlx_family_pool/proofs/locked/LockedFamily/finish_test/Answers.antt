@@ -1,6 +1,6 @@
-use Rattle.std.proofs.Common.{◌≡◌, ℕ, ◌<◌, ◌++◌, length, ap, ◌∙◌, sym, subst, inl, arith, vec_items}
+use Rattle.std.proofs.Common.{◌≡◌, ◌<◌, length, ap, sym, subst, inl, arith}
 use Rattle.sqlx_family.specs.Pools.{pool_in}
-use Rattle.sqlx_family_pool.proofs.StepLemmas.{in-logs, room-there, room-made, logs-grow, written, few-held, test-flat}
+use Rattle.sqlx_family_pool.proofs.StepLemmas.{in-logs, room-there, logs-grow, written, few-held, test-flat}
 use Rattle.sqlx_pool_lists.specs.PollSteps.{judged, test_marks, tested_at, may_test_next, phase_for}
 use Rattle.sqlx_pool_lists.specs.declared.steps.AfterTest.{AfterTest}
 use Rattle.sqlx_pool_parts.specs.Answers.{IfTestLends}
@@ -10,26 +10,26 @@ use Rattle.sqlx_pool.proofs.StepLemmas.{test-lends, test-few}
 use Rattle.sqlx_family_pool.proofs.Replaces.{replaces-step}
 use Rattle.sqlx_family_pool.proofs.locked.LockedFamily.finish_test.Goals as goal
 
-pub test-requires : goal.test-requires
-test-requires g c =
+pub finish_test-after-requires-clause-room : goal.finish_test-after-requires-clause-room
+finish_test-after-requires-clause-room g c =
     let here : c.args.pool < length c.self.inside.family.pools = grind arith in
-    (let r = room-made c.self.inside.logs.items c.self.invariant c.args.pool here c.index_mut.result.now c.index_mut.ensures.value c.finish_test-after.new.self (test_marks c.args.client c.args.ticket (judged c.args.verdict) c.finish_test-after.result) c.finish_test-after.ensures.balance in let e = ap length (ap (λ (n : ℕ). test_marks c.args.client c.args.ticket n c.finish_test-after.result) c.judged_of-conn.ensures) in omega (arith, r, e))
+    room-there c.self.inside.logs.items c.self.invariant c.args.pool here c.index_mut-log.result.now c.index_mut-log.ensures.value
 
 pub invariant_of-self : goal.invariant_of-self
 invariant_of-self g c =
     let here : c.args.pool < length c.self.inside.family.pools = grind arith in
-    let room = room-there c.self.inside.logs.items c.self.invariant c.args.pool here c.index_mut.result.now c.index_mut.ensures.value in
-    let capacity = c.test.ensures.capacity in
-    written c.self.inside.logs.items c.self.invariant c.args.pool here c.index_mut.result.now c.index_mut.ensures.value
+    let room = room-there c.self.inside.logs.items c.self.invariant c.args.pool here c.index_mut-log.result.now c.index_mut-log.ensures.value in
+    let capacity = c.finish_test-after.ensures.capacity in
+    written c.self.inside.logs.items c.self.invariant c.args.pool here c.index_mut-log.result.now c.index_mut-log.ensures.value
     (replaces-step c.args.pool c.self.inside.family here c.finish_test-after.ensures.becomes) c.finish_test-after.ensures.makes c.finish_test-after.ensures.balance
     (test-leaves g.C.Depth.levels c.args.client c.args.ticket c.finish_test-after.result (pool_in c.args.pool c.self.inside.family))
-    c.self.inside.connect (let lends = test-lends c.args.client c.args.ticket (judged c.args.verdict) c.finish_test-after.result in let same = ap one_if c.lends_tested.ensures in let owned = c.lend_if-held.ensures.owned in let made = c.lend_if-held.ensures.made in record { owned = omega (arith, lends, same, owned); made_is = omega (arith, lends, same, made); few = inl (test-few c.args.client c.args.ticket (judged c.args.verdict) c.finish_test-after.result) }) c.test.new.log (c.test.ensures.marks ∙ ap (λ l. vec_items c.index_mut.result.now ++ l) (ap (λ (n : ℕ). test_marks c.args.client c.args.ticket n c.finish_test-after.result) c.judged_of-conn.ensures)) (omega (arith, room, capacity))
+    c.self.inside.connect (let lends = test-lends c.args.client c.args.ticket (judged c.args.verdict) c.finish_test-after.result in let same = ap one_if c.lends_tested.ensures in let owned = c.lend_if-held.ensures.owned in let made = c.lend_if-held.ensures.made in record { owned = omega (arith, lends, same, owned); made_is = omega (arith, lends, same, made); few = inl (test-few c.args.client c.args.ticket (judged c.args.verdict) c.finish_test-after.result) }) c.finish_test-after.new.log c.finish_test-after.ensures.marks (omega (arith, room, capacity))
 
 pub returns-clause-marks : goal.returns-clause-marks
 returns-clause-marks g c =
     let here : c.args.pool < length c.self.inside.family.pools = grind arith in
     rw (← c.self.view_is)
-    (λ named. logs-grow c.self.inside.logs.items c.args.pool c.index_mut.result.now (in-logs c.self.inside.logs.items c.self.invariant c.args.pool here c.index_mut.result.now c.index_mut.ensures.value) c.index_mut.ensures.value c.test.new.log (test_marks c.args.client c.args.ticket (judged c.args.verdict) c.finish_test-after.result) (c.test.ensures.marks ∙ ap (λ l. vec_items c.index_mut.result.now ++ l) (ap (λ (n : ℕ). test_marks c.args.client c.args.ticket n c.finish_test-after.result) c.judged_of-conn.ensures)))
+    (λ named. logs-grow c.self.inside.logs.items c.args.pool c.index_mut-log.result.now (in-logs c.self.inside.logs.items c.self.invariant c.args.pool here c.index_mut-log.result.now c.index_mut-log.ensures.value) c.index_mut-log.ensures.value c.finish_test-after.new.log (test_marks c.args.client c.args.ticket (judged c.args.verdict) c.finish_test-after.result) c.finish_test-after.ensures.marks)
 
 pub returns-clause-becomes : goal.returns-clause-becomes
 returns-clause-becomes g c = rw (← c.self.view_is) (λ named. c.finish_test-after.ensures.becomes)

@@ -5,35 +5,38 @@ use Rattle.sqlx_pool.proofs.LeavesLemmas.{placed-leaves}
 use Rattle.sqlx_pool.proofs.StepLemmas.{kept-books}
 use Rattle.sqlx_family_pool.specs.FamilyState.{family_state}
 use Rattle.sqlx_family_pool.proofs.Replaces.{replaces-put}
-use Rattle.sqlx_family_pool.proofs.StepLemmas.{in-logs, written, place-few}
+use Rattle.sqlx_family_pool.proofs.StepLemmas.{in-logs, room-there, written, place-few}
 use Rattle.sqlx_family_pool.proofs.PoolLemmas.{reserved, reserved-same}
 use Rattle.sqlx_family_pool.proofs.locked.LockedFamily.first_place.Goals as goal
+
+pub reserve-requires-clause-room : goal.reserve-requires-clause-room
+reserve-requires-clause-room g c =
+    let here : c.args.pool < length c.self.inside.family.pools = grind arith in
+    room-there c.self.inside.logs.items c.self.invariant c.args.pool here c.index_mut.result.now c.index_mut.ensures.value
 
 pub invariant_of-self : goal.invariant_of-self
 invariant_of-self g c =
     let here : c.args.pool < length c.self.inside.family.pools = grind arith in
-    reserved c.self.inside.logs.items c.self.invariant c.args.pool c.index_mut.result.now c.reserve.new.self (in-logs c.self.inside.logs.items c.self.invariant c.args.pool here c.index_mut.result.now c.index_mut.ensures.value) c.index_mut.ensures.value c.reserve.ensures.items c.reserve.ensures.capacity
+    reserved c.self.inside.logs.items c.self.invariant c.args.pool c.index_mut.result.now c.reserve.new.log (in-logs c.self.inside.logs.items c.self.invariant c.args.pool here c.index_mut.result.now c.index_mut.ensures.value) c.index_mut.ensures.value c.reserve.ensures.marks c.reserve.ensures.capacity
 
 pub invariant_of-self-2 : goal.invariant_of-self-2
 invariant_of-self-2 g c =
     let here : c.args.pool < length c.self.inside.family.pools = grind arith in
-    let room = c.in-Ok.ensures.ok in
-    let due = c.due-due.ensures in
-    let len = c.in-Ok.ensures.len in
+    let room = c.reserve.ensures.room c.if-not-reserve.false in
     let few = place-few c.first_place.result in
     written c.self.inside.logs.items c.self.invariant c.args.pool here c.index_mut.result.now c.index_mut.ensures.value
     (replaces-put c.args.pool c.self.inside.family here c.first_place.ensures.becomes) c.first_place.ensures.makes c.first_place.ensures.balance
     (placed-leaves g.C.Depth.levels c.first_place.result (pool_in c.args.pool c.self.inside.family))
-    c.self.inside.connect (kept-books c.self.inside.books [] refl) c.reserve.new.self (c.reserve.ensures.items ∙ sym (append-nil (vec_items c.index_mut.result.now)))
-    (omega (arith, room, due, len, few))
+    c.self.inside.connect (kept-books c.self.inside.books [] refl) c.reserve.new.log (c.reserve.ensures.marks ∙ sym (append-nil (vec_items c.index_mut.result.now)))
+    (omega (arith, room, few))
 
-pub returns-in_default-clause-logs : goal.returns-in_default-clause-logs
-returns-in_default-clause-logs g c = rw (← c.self.view_is) (reserved-same c.self.inside.logs.items c.args.pool c.index_mut.result.now c.reserve.new.self c.index_mut.ensures.value c.reserve.ensures.items)
+pub returns-then-not-reserve-clause-logs : goal.returns-then-not-reserve-clause-logs
+returns-then-not-reserve-clause-logs g c = rw (← c.self.view_is) (reserved-same c.self.inside.logs.items c.args.pool c.index_mut.result.now c.reserve.new.log c.index_mut.ensures.value c.reserve.ensures.marks)
 
-pub returns-in_default-clause-err : goal.returns-in_default-clause-err
-returns-in_default-clause-err g c =
+pub returns-then-not-reserve-clause-err : goal.returns-then-not-reserve-clause-err
+returns-then-not-reserve-clause-err g c =
     rw (← c.self.view_is)
-    (ap (λ (l : List (List Mark)). family_state c.self.inside.family l c.self.inside.connect c.self.inside.books) (reserved-same c.self.inside.logs.items c.args.pool c.index_mut.result.now c.reserve.new.self c.index_mut.ensures.value c.reserve.ensures.items))
+    (ap (λ (l : List (List Mark)). family_state c.self.inside.family l c.self.inside.connect c.self.inside.books) (reserved-same c.self.inside.logs.items c.args.pool c.index_mut.result.now c.reserve.new.log c.index_mut.ensures.value c.reserve.ensures.marks))
 
 pub returns-clause-logs : goal.returns-clause-logs
-returns-clause-logs g c = rw (← c.self.view_is) (reserved-same c.self.inside.logs.items c.args.pool c.index_mut.result.now c.reserve.new.self c.index_mut.ensures.value c.reserve.ensures.items)
+returns-clause-logs g c = rw (← c.self.view_is) (reserved-same c.self.inside.logs.items c.args.pool c.index_mut.result.now c.reserve.new.log c.index_mut.ensures.value c.reserve.ensures.marks)

@@ -1,32 +1,32 @@
-use Rattle.std.proofs.Common.{◌<◌, ◌++◌, length, ap, ◌∙◌, arith, vec_items}
+use Rattle.std.proofs.Common.{◌<◌, length, arith}
 use Rattle.sqlx_family.specs.Pools.{pool_in}
-use Rattle.sqlx_family_pool.proofs.StepLemmas.{in-logs, room-there, room-made, logs-grow, written}
+use Rattle.sqlx_family_pool.proofs.StepLemmas.{in-logs, room-there, logs-grow, written}
 use Rattle.sqlx_member.specs.Logs.{moment_of}
 use Rattle.sqlx_pool_lists.specs.PollSteps.{phase_for, start_marks}
-use Rattle.sqlx_pool.proofs.StepLemmas.{start-waited, start-lends, kept-books}
+use Rattle.sqlx_pool.proofs.StepLemmas.{start-lends, kept-books}
 use Rattle.sqlx_family_pool.proofs.Replaces.{replaces-poll, poll-leaves}
 use Rattle.sqlx_family_pool.proofs.locked.LockedFamily.start.Goals as goal
 
-pub start-requires : goal.start-requires
-start-requires g c =
+pub start-requires-clause-room : goal.start-requires-clause-room
+start-requires-clause-room g c =
     let here : c.args.pool < length c.self.inside.family.pools = grind arith in
-    (let r = room-made c.self.inside.logs.items c.self.invariant c.args.pool here c.index_mut.result.now c.index_mut.ensures.value c.start-start.new.self (start_marks c.args.ticket (phase_for c.args.client c.args.ticket (pool_in c.args.pool c.self.inside.family).tickets) c.start-start.result) c.start-start.ensures.balance in let e = ap length (start-waited c.args.ticket (phase_for c.args.client c.args.ticket (pool_in c.args.pool c.self.inside.family).tickets) c.start-start.result c.waits-waited.result c.waits-waited.ensures) in omega (arith, r, e))
+    room-there c.self.inside.logs.items c.self.invariant c.args.pool here c.index_mut-log.result.now c.index_mut-log.ensures.value
 
 pub invariant_of-self : goal.invariant_of-self
 invariant_of-self g c =
     let here : c.args.pool < length c.self.inside.family.pools = grind arith in
-    let room = room-there c.self.inside.logs.items c.self.invariant c.args.pool here c.index_mut.result.now c.index_mut.ensures.value in
+    let room = room-there c.self.inside.logs.items c.self.invariant c.args.pool here c.index_mut-log.result.now c.index_mut-log.ensures.value in
     let capacity = c.start.ensures.capacity in
-    written c.self.inside.logs.items c.self.invariant c.args.pool here c.index_mut.result.now c.index_mut.ensures.value
-    (replaces-poll c.args.pool c.self.inside.family here c.args.client c.args.ticket (moment_of (pool_in c.args.pool c.self.inside.family) c.args.now) c.start-start.ensures.becomes) c.start-start.ensures.makes c.start-start.ensures.balance
-    (poll-leaves g.C.Depth.levels c.args.pool c.args.client c.args.ticket (moment_of (pool_in c.args.pool c.self.inside.family) c.args.now) c.self.inside.family c.start-start.result here)
-    c.self.inside.connect (kept-books c.self.inside.books (start_marks c.args.ticket (phase_for c.args.client c.args.ticket (pool_in c.args.pool c.self.inside.family).tickets) c.start-start.result) (start-lends c.args.ticket (phase_for c.args.client c.args.ticket (pool_in c.args.pool c.self.inside.family).tickets) c.start-start.result)) c.start.new.log (c.start.ensures.marks ∙ ap (λ l. vec_items c.index_mut.result.now ++ l) (start-waited c.args.ticket (phase_for c.args.client c.args.ticket (pool_in c.args.pool c.self.inside.family).tickets) c.start-start.result c.waits-waited.result c.waits-waited.ensures)) (omega (arith, room, capacity))
+    written c.self.inside.logs.items c.self.invariant c.args.pool here c.index_mut-log.result.now c.index_mut-log.ensures.value
+    (replaces-poll c.args.pool c.self.inside.family here c.args.client c.args.ticket (moment_of (pool_in c.args.pool c.self.inside.family) c.args.now) c.start.ensures.becomes) c.start.ensures.makes c.start.ensures.balance
+    (poll-leaves g.C.Depth.levels c.args.pool c.args.client c.args.ticket (moment_of (pool_in c.args.pool c.self.inside.family) c.args.now) c.self.inside.family c.start.result here)
+    c.self.inside.connect (kept-books c.self.inside.books (start_marks c.args.ticket (phase_for c.args.client c.args.ticket (pool_in c.args.pool c.self.inside.family).tickets) c.start.result) (start-lends c.args.ticket (phase_for c.args.client c.args.ticket (pool_in c.args.pool c.self.inside.family).tickets) c.start.result)) c.start.new.log c.start.ensures.marks (omega (arith, room, capacity))
 
 pub returns-clause-marks : goal.returns-clause-marks
 returns-clause-marks g c =
     let here : c.args.pool < length c.self.inside.family.pools = grind arith in
     rw (← c.self.view_is)
-    (λ named. logs-grow c.self.inside.logs.items c.args.pool c.index_mut.result.now (in-logs c.self.inside.logs.items c.self.invariant c.args.pool here c.index_mut.result.now c.index_mut.ensures.value) c.index_mut.ensures.value c.start.new.log (start_marks c.args.ticket (phase_for c.args.client c.args.ticket (pool_in c.args.pool c.self.inside.family).tickets) c.start-start.result) (c.start.ensures.marks ∙ ap (λ l. vec_items c.index_mut.result.now ++ l) (start-waited c.args.ticket (phase_for c.args.client c.args.ticket (pool_in c.args.pool c.self.inside.family).tickets) c.start-start.result c.waits-waited.result c.waits-waited.ensures)))
+    (λ named. logs-grow c.self.inside.logs.items c.args.pool c.index_mut-log.result.now (in-logs c.self.inside.logs.items c.self.invariant c.args.pool here c.index_mut-log.result.now c.index_mut-log.ensures.value) c.index_mut-log.ensures.value c.start.new.log (start_marks c.args.ticket (phase_for c.args.client c.args.ticket (pool_in c.args.pool c.self.inside.family).tickets) c.start.result) c.start.ensures.marks)
 
 pub returns-clause-becomes : goal.returns-clause-becomes
-returns-clause-becomes g c = rw (← c.self.view_is) (λ named. c.start-start.ensures.becomes)
+returns-clause-becomes g c = rw (← c.self.view_is) (λ named. c.start.ensures.becomes)

@@ -1,6 +1,5 @@
 -- What some steps come to in a family.
-use Rattle.std.specs.Prelude.{ℕ, ◌+◌, Bool, true, false, Option, Some, None, List}
-use Rattle.sqlx_log.specs.declared.mark.Mark.{Mark}
+use Rattle.std.specs.Prelude.{ℕ, ◌+◌, Option, Some, None}
 use Rattle.sqlx_pool_lists.specs.declared.steps.Given.{Given}
 use Rattle.sqlx_pool_lists.specs.declared.steps.Lent.{Lent}
 use Rattle.sqlx_pool_lists.specs.declared.steps.Start.{Start}
@@ -8,12 +7,10 @@ use Rattle.sqlx_pool_lists.specs.Core.{Core, ticket_of, loan_of}
 use Rattle.sqlx_pool_lists.specs.CoreTurn.{turn_of}
 use Rattle.sqlx_pool_lists.specs.Edits.{at_moment, asked}
 use Rattle.sqlx_pool_lists.specs.PollSteps.{start_answer, started, try_lent, after_try}
-use Rattle.sqlx_pool_lists.specs.MaintenanceSteps.{done}
 use Rattle.sqlx_member.specs.ReturnSteps.{core_after_give}
 use Rattle.sqlx_family.specs.Pools.{Pools, pool_in, with_pool}
 use Rattle.sqlx_family.specs.RootLine.{is_entitled, granting, passes_in}
 use Rattle.sqlx_family.specs.Permits.{stepped}
-use Rattle.sqlx_pool.specs.Places.{holds_place, done_if_marks}
 
 module _ {C : Type 0} where
   -- what the start of a client's ticket answers in a pool, at a moment
@@ -40,12 +37,3 @@ module _ {C : Type 0} where
   abbrev pub family_after_try : ℕ → ℕ → ℕ → Option (Lent C) → Pools C → Pools C
   family_after_try q k m (Some lent) f = with_pool q (after_try k m (Some lent) (pool_in q f)) f
   family_after_try q k m None f = f
-
-  -- the marks of a place of the pool that was used or given up at a moment, where one was held
-  abbrev pub marks_of_done : Core C → ℕ → Option C → List Mark
-  marks_of_done core m raw = done_if_marks (holds_place core) core.closed core.next_conn m raw
-
-  -- the family behind a place of this pool that was used or given up, where one was held
-  abbrev pub family_after_done : Bool → ℕ → ℕ → Option C → Pools C → Pools C
-  family_after_done true q m raw f = stepped q (done (pool_in q f).closed m raw (pool_in q f)) f
-  family_after_done false q m raw f = f

@@ -1,0 +1,16 @@
+use Rattle.std.proofs.Common.{◌++◌, length, refl, ap, ◌∙◌, arith, vec_items}
+use Rattle.sqlx_log.specs.declared.mark.Mark.TheVariants.{Closed}
+use Rattle.sqlx_member.specs.ReturnSteps.{end_marks}
+use Rattle.sqlx_family_steps.proofs.MarkLemmas.{so-made, so-long}
+use Rattle.sqlx_family_steps.proofs.returning.end.Goals as goal
+
+pub if_so-requires : goal.if_so-requires
+if_so-requires g c =
+    let r = c.requires.room in
+    let b = c.end-ends.ensures.balance.paid in
+    let e = ap length (so-made (end_marks c.args.id) (Closed c.args.id) refl refl c.end-ends.result) in
+    let o = so-long c.end-ends.result (Closed c.args.id) in
+    omega (arith, r, b, e, o)
+
+pub returns-clause-marks : goal.returns-clause-marks
+returns-clause-marks g c = c.if_so.ensures.marks ∙ ap (λ l. vec_items c.args.log.now ++ l) (so-made (end_marks c.args.id) (Closed c.args.id) refl refl c.end-ends.result)

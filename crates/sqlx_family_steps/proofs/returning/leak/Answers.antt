@@ -1,0 +1,16 @@
+use Rattle.std.proofs.Common.{◌++◌, length, refl, ap, ◌∙◌, arith, vec_items}
+use Rattle.sqlx_log.specs.declared.mark.Mark.TheVariants.{Leaked}
+use Rattle.sqlx_member.specs.ReturnSteps.{leak_marks}
+use Rattle.sqlx_family_steps.proofs.MarkLemmas.{so-made, so-long}
+use Rattle.sqlx_family_steps.proofs.returning.leak.Goals as goal
+
+pub if_so-requires : goal.if_so-requires
+if_so-requires g c =
+    let r = c.requires.room in
+    let b = c.leak-ends.ensures.balance.paid in
+    let e = ap length (so-made (leak_marks c.args.id) (Leaked c.args.id) refl refl c.leak-ends.result) in
+    let o = so-long c.leak-ends.result (Leaked c.args.id) in
+    omega (arith, r, b, e, o)
+
+pub returns-clause-marks : goal.returns-clause-marks
+returns-clause-marks g c = c.if_so.ensures.marks ∙ ap (λ l. vec_items c.args.log.now ++ l) (so-made (leak_marks c.args.id) (Leaked c.args.id) refl refl c.leak-ends.result)
