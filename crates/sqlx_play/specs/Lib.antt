@@ -2,9 +2,5 @@ pub mod Faults
 pub mod Status
 pub mod Memory
 pub mod Standard
-pub mod ScriptRuns
-pub mod outside
-pub mod stage
-pub mod events
 pub mod Causes
 pub mod Plays

@@ -18,10 +18,10 @@ use Rattle.sqlx_rules.specs.ScriptLevels.{history_of}
 use Rattle.sqlx_rules.specs.Output.{pairs_after, pairs_of, replies_text, output_of}
 use Rattle.sqlx_rules.specs.Headline.{HoldsHeadline}
 use Rattle.sqlx_play.specs.declared.error.PlayError.{PlayError}
-use Rattle.sqlx_play.specs.declared.stage.Stage.{Stage}
+use Rattle.sqlx_stage.specs.declared.stage.Stage.{Stage}
 use Rattle.sqlx_play.specs.Causes.{WrotePart, TextCause}
-use Rattle.sqlx_play.specs.stage.StageStands.{IsSetUp, StageStands}
-use Rattle.sqlx_play.specs.ScriptRuns.{runs_of, runs_after}
+use Rattle.sqlx_stage.specs.stage.StageStands.{IsSetUp, StageStands}
+use Rattle.sqlx_stage.specs.ScriptRuns.{runs_of, runs_after}
 
 -- ---- playing one event
 

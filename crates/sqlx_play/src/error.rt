@@ -2,6 +2,7 @@
 ghost use Rattle.std.specs.Prelude.{◌≡◌};
 ghost use Rattle.sqlx_play.specs.Status.{status_of};
 
+use sqlx_text::OutOfMemory;
 use std::alloc::AllocError;
 use std::error::Error;
 use std::fmt;
@@ -50,6 +51,17 @@ impl From<AllocError> for PlayError {
     ghost from_gives = { λ _ e. e ≡ out_of_memory };
 
     fn from(_refused: AllocError) -> PlayError {
+        PlayError::OutOfMemory
+    }
+}
+
+impl From<OutOfMemory> for PlayError {
+    ghost use Rattle.std.specs.Prelude.{◌≡◌};
+    ghost use Rattle.sqlx_play.specs.declared.error.PlayError.TheVariants.{OutOfMemory as out_of_memory};
+
+    ghost from_gives = { λ _ e. e ≡ out_of_memory };
+
+    fn from(_refused: OutOfMemory) -> PlayError {
         PlayError::OutOfMemory
     }
 }

@@ -4,18 +4,18 @@ ghost use Rattle.std.specs.Io.KnownBytes.{Appends};
 ghost use Rattle.sqlx_script.specs.Texts.{line_of, report_text};
 ghost use Rattle.sqlx_script.specs.Built.{has_few_opens};
 ghost use Rattle.sqlx_script.specs.Grammar.{limit};
-ghost use Rattle.sqlx_play.specs.stage.EventFrame.{Frame};
-ghost use Rattle.sqlx_play.specs.stage.StageStands.{IsFresh, last_of, numbers_of};
+ghost use Rattle.sqlx_stage.specs.stage.EventFrame.{Frame};
+ghost use Rattle.sqlx_stage.specs.stage.StageStands.{IsFresh, last_of, numbers_of};
 ghost use Rattle.sqlx_play.specs.Causes.{TookAll, WrotePart, TextCause, ScriptCause, PlayCause, IsComplete, shown};
 ghost use Rattle.sqlx_play.specs.Plays.{Replies, RepliesInPart, PlaysLines, LinesCause, Plays};
 
 use crate::error::PlayError;
 use crate::io::{Sink, Source};
 use crate::pour::{read_all, write_all};
-use crate::stage::{Stage, answer, new_stage, report};
 use mem_acts::{ClientLink, MemStore, Route};
 use sqlx_pool_core::PoolCore;
 use sqlx_script::{Event, OutputLine, Report, read_event, read_pool_line};
+use sqlx_stage::{Stage, answer, new_stage, report};
 use std::alloc::Global;
 
 /// What a script left: the pool's core and the database that it was played on.

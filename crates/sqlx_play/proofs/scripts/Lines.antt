@@ -9,13 +9,13 @@ use Rattle.sqlx_script.specs.declared.reply.Reply.{Reply}
 use Rattle.sqlx_script.specs.Texts.{reply_text, line_of}
 use Rattle.sqlx_script.specs.Words.{lines_of}
 use Rattle.sqlx_script.specs.Grammar.{Reading, reading_at, reading_from, event_of}
-use Rattle.sqlx_play.specs.declared.stage.Stage.{Stage}
+use Rattle.sqlx_stage.specs.declared.stage.Stage.{Stage}
 use Rattle.sqlx_rules.specs.Answer.{answer}
-use Rattle.sqlx_play.specs.stage.StageStands.{StageStands, IsFresh}
+use Rattle.sqlx_stage.specs.stage.StageStands.{StageStands, IsFresh}
 use Rattle.sqlx_rules.specs.Output.{pairs_after, reply_line, replies_text}
 use Rattle.sqlx_play.specs.Causes.{WrotePart}
 use Rattle.sqlx_play.specs.Plays.{Replies, reading_of, PlaysLines, StopsAt, lines_text}
-use Rattle.sqlx_play.specs.ScriptRuns.{runs_of, runs_after}
+use Rattle.sqlx_stage.specs.ScriptRuns.{runs_of, runs_after}
 use Rattle.sqlx_play.proofs.scripts.RunsAdded.{runs_of-push}
 use Rattle.sqlx_rules.proofs.Events.{pairs_after-append, pairs_after-nil, pairs_after-push, pairs_after-front, replies_text-append, replies_text-push}
 use Rattle.sqlx_rules.specs.Pairs.{Pairs}

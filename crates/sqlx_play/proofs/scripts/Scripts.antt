@@ -17,9 +17,9 @@ use Rattle.sqlx_brackets.specs.Links.{Link, linked_after}
 use Rattle.sqlx_brackets.proofs.Linking.{savepoints_read_alike}
 use Rattle.sqlx_rules.specs.ScriptMarks.{marks_of}
 use Rattle.sqlx_rules.specs.ScriptLevels.{history_of}
-use Rattle.sqlx_play.specs.declared.stage.Stage.{Stage}
+use Rattle.sqlx_stage.specs.declared.stage.Stage.{Stage}
 use Rattle.sqlx_rules.specs.Answer.{report_of}
-use Rattle.sqlx_play.specs.stage.StageStands.{IsSetUp, StageStands}
+use Rattle.sqlx_stage.specs.stage.StageStands.{IsSetUp, StageStands}
 use Rattle.sqlx_rules.specs.Output.{pairs_after, closing_due, replies_due, output_due}
 use Rattle.sqlx_play.specs.Causes.{WrotePart, StopsText}
 use Rattle.sqlx_play.specs.Plays.{reading_of, PlaysLines, StopsAt, Plays, lines_text}

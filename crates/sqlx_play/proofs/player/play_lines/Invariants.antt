@@ -1,6 +1,6 @@
 use Rattle.std.proofs.Common.{◌≡◌, ◌+◌, ◌*◌, ◌≤◌, length}
 use Rattle.sqlx_script.specs.Grammar.{limit}
-use Rattle.sqlx_play.specs.stage.StageStands.{last_of, numbers_of}
+use Rattle.sqlx_stage.specs.stage.StageStands.{last_of, numbers_of}
 use Rattle.sqlx_play.proofs.scripts.Lines.{PlayedSoFar}
 use Rattle.sqlx_play.proofs.player.play_lines.Given as goal
 

@@ -1,0 +1,4 @@
+pub mod ScriptRuns
+pub mod outside
+pub mod stage
+pub mod events
