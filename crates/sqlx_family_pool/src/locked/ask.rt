@@ -44,10 +44,10 @@ impl<C: Depth, O, H: Ledger, L: Loans> LockedFamily<C, O, H, L> {
             return Err(Error::Exhausted);
         }
         let log = &mut self.logs[pool as usize];
-        match asking::ask(&mut self.family, log, pool, alloc, now, client) {
-            Some(ticket) => Ok(ticket),
-            None => Err(Error::OutOfMemory),
-        }
+        let Some(ticket) = asking::ask(&mut self.family, log, pool, alloc, now, client) else {
+            return Err(Error::OutOfMemory);
+        };
+        Ok(ticket)
     }
 
     /// Lends the first idle connection of a pool past the line, without a test: where the pool is open, and fewer tickets wait

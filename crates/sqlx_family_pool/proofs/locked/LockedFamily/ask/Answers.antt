@@ -1,4 +1,4 @@
-use Rattle.std.proofs.Common.{◌+◌, ◌<◌, length, refl}
+use Rattle.std.proofs.Common.{◌+◌, ◌<◌, length, refl, arith}
 use Rattle.sqlx_member.specs.Logs.{moment_of}
 use Rattle.sqlx_pool_lists.specs.PollSteps.{asked_marks}
 use Rattle.sqlx_family.specs.Pools.{pool_in}
@@ -17,6 +17,11 @@ ask-requires-clause-room g c =
 pub invariant_of-self : goal.invariant_of-self
 invariant_of-self g c =
     let here : c.args.pool < length c.self.inside.family.pools = grind arith in
+    kept-maybe c.self.inside.logs.items c.self.invariant c.args.pool here c.index_mut-log.result.now c.ask.new.log c.index_mut-log.ensures.value (c.ask.ensures.none c.in_default.is) c.ask.ensures.capacity (c.ask.ensures.heard c.in_default.is)
+
+pub invariant_of-self-2 : goal.invariant_of-self-2
+invariant_of-self-2 g c =
+    let here : c.args.pool < length c.self.inside.family.pools = grind arith in
     let core = pool_in c.args.pool c.self.inside.family in
     let moment = moment_of core c.args.now in
     let made = asked_marks core c.args.client moment c.in-Some.ticket in
@@ -26,20 +31,15 @@ invariant_of-self g c =
     c.self.inside.connect (kept-books c.self.inside.books made refl)
     c.ask.new.log c.in-Some.ensures.marks (c.in-Some.ensures.room refl)
 
-pub invariant_of-self-2 : goal.invariant_of-self-2
-invariant_of-self-2 g c =
-    let here : c.args.pool < length c.self.inside.family.pools = grind arith in
-    kept-maybe c.self.inside.logs.items c.self.invariant c.args.pool here c.index_mut-log.result.now c.ask.new.log c.index_mut-log.ensures.value (c.in-None.ensures.none refl) c.ask.ensures.capacity (c.in-None.ensures.heard refl)
-
-pub returns-in-Some-clause-marks : goal.returns-in-Some-clause-marks
-returns-in-Some-clause-marks g c =
+pub returns-clause-marks : goal.returns-clause-marks
+returns-clause-marks g c =
     let here : c.args.pool < length c.self.inside.family.pools = grind arith in
     let core = pool_in c.args.pool c.self.inside.family in
     rw (← c.self.view_is)
     (logs-grow c.self.inside.logs.items c.args.pool c.index_mut-log.result.now (in-logs c.self.inside.logs.items c.self.invariant c.args.pool here c.index_mut-log.result.now c.index_mut-log.ensures.value) c.index_mut-log.ensures.value c.ask.new.log (asked_marks core c.args.client (moment_of core c.args.now) c.in-Some.ticket) c.in-Some.ensures.marks)
 
-pub returns-in-None-clause-logs : goal.returns-in-None-clause-logs
-returns-in-None-clause-logs g c = rw (← c.self.view_is) (reserved-same c.self.inside.logs.items c.args.pool c.index_mut-log.result.now c.ask.new.log c.index_mut-log.ensures.value (c.in-None.ensures.none refl))
+pub returns-in_default-clause-logs : goal.returns-in_default-clause-logs
+returns-in_default-clause-logs g c = rw (← c.self.view_is) (reserved-same c.self.inside.logs.items c.args.pool c.index_mut-log.result.now c.ask.new.log c.index_mut-log.ensures.value (c.ask.ensures.none c.in_default.is))
 
-pub returns-in-None-clause-err : goal.returns-in-None-clause-err
-returns-in-None-clause-err g c = rw (← c.self.view_is) (c.in-None.ensures.heard refl)
+pub returns-in_default-clause-err : goal.returns-in_default-clause-err
+returns-in_default-clause-err g c = rw (← c.self.view_is) (c.ask.ensures.heard c.in_default.is)

@@ -30,8 +30,8 @@ invariant_of-self g c =
     c.self.inside.connect (record { owned = omega (arith, owned); made_is = made; few = inr (omega (arith, made, few)) })
     c.lend_past.new.log c.in-Some.ensures.marks (c.in-Some.ensures.room refl)
 
-pub invariant_of-self-2 : goal.invariant_of-self-2
-invariant_of-self-2 g c =
+pub invariant_of-self-in-None : goal.invariant_of-self-in-None
+invariant_of-self-in-None g c =
     let here : c.args.pool < length c.self.inside.family.pools = grind arith in
     rw (c.in-None.ensures.none refl)
     (reserved c.self.inside.logs.items c.self.invariant c.args.pool c.index_mut-log.result.now c.lend_past.new.log (in-logs c.self.inside.logs.items c.self.invariant c.args.pool here c.index_mut-log.result.now c.index_mut-log.ensures.value) c.index_mut-log.ensures.value (c.in-None.ensures.marks ∙ append-nil (vec_items c.index_mut-log.result.now)) c.lend_past.ensures.capacity)
