@@ -26,3 +26,8 @@ error_status OutOfMemory = 7
 abbrev pub status_of : {T : Type 0} → Result T PlayError → ℕ
 status_of (Ok done) = 0
 status_of (Err e) = error_status e
+
+-- the exit status, and behind it the text of the fault
+abbrev pub outcome_text : {T : Type 0} → Result T PlayError → List ℕ
+outcome_text (Ok done) = decimal 0
+outcome_text (Err e) = decimal (error_status e) ++ (codes " " ++ error_text e)

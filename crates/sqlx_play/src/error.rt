@@ -1,9 +1,9 @@
 //! What a play may answer in place of Ok, and the exit status of each answer.
-ghost use Rattle.std.specs.Prelude.{◌≡◌};
-ghost use Rattle.sqlx_play.specs.Status.{status_of};
+ghost use Rattle.std.specs.Prelude.{◌≡◌, IfOk, string_bytes};
+ghost use Rattle.sqlx_play.specs.Status.{outcome_text, status_of};
 
 use sqlx_text::OutOfMemory;
-use std::alloc::AllocError;
+use std::alloc::{AllocError, Global};
 use std::error::Error;
 use std::fmt;
 
@@ -78,5 +78,17 @@ pub fn status(answer: &Result<(), PlayError>) -> u8
         Err(PlayError::ReadFault) => 5,
         Err(PlayError::WriteFault) => 6,
         Err(PlayError::OutOfMemory) => 7,
+    }
+}
+
+/// The exit status, and behind it the text of the fault, if there is one: what a play ends with, as lists of recorded
+/// scripts write it.
+pub fn outcome(alloc: Global, answer: &Result<(), PlayError>) -> Result<String, AllocError>
+    ensures { IfOk result (λ text. string_bytes text ≡ outcome_text answer.now) }
+{
+    let number = status(answer);
+    match answer {
+        Ok(()) => format!(in alloc; "{number}"),
+        Err(error) => format!(in alloc; "{number} {error}"),
     }
 }

@@ -9,7 +9,7 @@ mod player;
 mod pour;
 mod standard;
 
-pub use error::{PlayError, status};
+pub use error::{PlayError, outcome, status};
 pub use failed::Failed;
 pub use io::{Sink, Source};
 pub use mem_acts::{ByStore, Route};

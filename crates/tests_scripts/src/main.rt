@@ -2,11 +2,8 @@
 //! The file `folders` names the folders that are played; a folder's `list` has a line for each script: its name, and what it is to end with.
 #![tactic(auto)]
 
-mod outcome;
-
 use mem_client::ByDriver;
-use outcome::outcome;
-use sqlx_play::{ByStore, PlayError, Route, SureSink, SureSource, play_by};
+use sqlx_play::{ByStore, PlayError, Route, SureSink, SureSource, outcome, play_by};
 use std::alloc::Global;
 use std::{fs, io};
 
