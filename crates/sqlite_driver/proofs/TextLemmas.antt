@@ -2,7 +2,7 @@
 use Rattle.std.proofs.Common.{◌≡◌, ℕ, true, List, Result, Ok, Err, IfOk, IfErr, IsOkAnd, OnOk, inl, inr, sym, subst, ◌∙◌}
 use Rattle.sqlx_text.specs.declared.error.Error.TheVariants as error
 use Rattle.sqlx_traits.specs.Calls.{Outcome}
-use Rattle.sqlite_driver.specs.Ran.{RanOn, RefusedOn, in_transaction}
+use Rattle.sqlite_base.specs.Ran.{RanOn, RefusedOn, in_transaction}
 use Rattle.sqlite_driver.specs.Does.{BeginsBy, Pings, RefusesText, RunsText}
 use Rattle.sqlite_driver.specs.declared.connection.SqliteConnection.{SqliteConnection}
 

@@ -4,9 +4,9 @@ use Rattle.sqlx_text.specs.declared.error.Error.{Error}
 use Rattle.sqlx_text.specs.declared.error.Error.TheVariants as error
 use Rattle.sqlx_traits.specs.Calls.{Call, Outcome, begin, commit, rollback, start_rollback, ping, Closing, told, at_once}
 use Rattle.sqlx_savepoints.specs.Texts.{begin_at, commit_at, rollback_at, text_of}
-use Rattle.sqlite_driver.specs.Ran.{RanOn, RefusedOn, Settled, Unsettled, in_transaction}
-use Rattle.sqlite_driver.specs.Closed.{HasClosed, RefusesClose}
-use Rattle.sqlite_driver.specs.declared.base.Base.{Base}
+use Rattle.sqlite_base.specs.Ran.{RanOn, RefusedOn, Settled, Unsettled, in_transaction}
+use Rattle.sqlite_base.specs.Closed.{HasClosed, RefusesClose}
+use Rattle.sqlite_base.specs.declared.base.Base.{Base}
 use Rattle.sqlite_driver.specs.declared.connection.SqliteConnection.{SqliteConnection}
 
 -- what was noted is rolled back, and then the text ran

@@ -1,6 +1,6 @@
-pub mod Refusals
+pub use Rattle.sqlite_base.specs.Refusals
 pub mod Opened
-pub mod Ran
-pub mod Closed
+pub use Rattle.sqlite_base.specs.Ran
+pub use Rattle.sqlite_base.specs.Closed
 pub mod Does
 pub mod Runs

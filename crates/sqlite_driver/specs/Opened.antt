@@ -1,21 +1,16 @@
 -- What opening a database by a URL may give.
-use Rattle.std.specs.Prelude.{◌≡◌, ◌⊎◌, ℕ, Bool, true, false, List, None, Result, Ok, Err, IsTrue, codes}
+use Rattle.std.specs.Prelude.{◌≡◌, ◌⊎◌, Bool, true, false, None, Result, Ok, Err, IsTrue, codes}
 use Rattle.std.specs.Str.{bytes_eq}
 use Rattle.sqlite.specs.declared.error.Error.{Error as Cause}
-use Rattle.sqlite.specs.Files.{IsOpened, file_state}
-use Rattle.sqlite.specs.Held.{state}
 use Rattle.sqlite.specs.Opening.{is_open_error}
-use Rattle.sqlite.specs.State.{HasCleanDisk, State}
-use Rattle.sqlite.specs.Steps.{IsEmpty, over_memory}
 use Rattle.sqlx_text.specs.declared.error.Error.{Error}
 use Rattle.sqlx_text.specs.declared.error.Error.TheVariants as error
 use Rattle.sqlx_text.specs.declared.fault.Fault.TheVariants as fault
 use Rattle.sqlx_any_values.specs.Drivers.{of_scheme}
 use Rattle.sqlx_any.specs.declared.options.AnyConnectOptions.{AnyConnectOptions}
-use Rattle.sqlite_driver.specs.Ran.{Ran}
-use Rattle.sqlite_driver.specs.Refusals.{IsRefusal, IsToldBy}
-use Rattle.sqlite_driver.specs.declared.base.Base.{Base}
-use Rattle.sqlite_driver.specs.declared.base.Base.TheVariants.{Memory, File}
+pub use Rattle.sqlite_base.specs.OpenedBase.{table_text, HasTable, IsInMemory, IsFile}
+use Rattle.sqlite_base.specs.Refusals.{IsRefusal, IsToldBy}
+use Rattle.sqlite_base.specs.declared.base.Base.{Base}
 use Rattle.sqlite_driver.specs.declared.connection.SqliteConnection.{SqliteConnection}
 
 -- a URL of the scheme `sqlite`; another is refused as one that no driver has
@@ -40,27 +35,9 @@ abbrev pub RefusedBy : (Error → Type 0) → Result (Unit {0}) Error → Error 
 RefusedBy causes (Ok done) e = causes e
 RefusedBy causes (Err due) e = e ≡ due
 
--- the text that makes the table of a database in memory
-abbrev pub table_text : List ℕ
-table_text = codes "CREATE TABLE kv(k INTEGER PRIMARY KEY, v INTEGER NOT NULL)"
-
 -- no level is open, nothing is to be rolled back, and no refusal was counted
 abbrev pub IsFresh : SqliteConnection → Type 0
 IsFresh conn = (conn.depth ≡ 0) × (conn.goes_back_to ≡ None) × (conn.faults ≡ 0)
-
--- by what a connection shows, its database was empty when the text that makes the table ran
-abbrev pub HasTable : {C : Type 0} → (C → State) → C → Type 0
-HasTable {C = C} state conn = (blank : C) × IsEmpty (state blank) × Ran table_text (state blank) (state conn)
-
--- a database in memory, with the table alone
-abbrev pub IsInMemory : Base → Type 0
-IsInMemory (Memory conn) = HasTable (state over_memory) conn
-IsInMemory (File conn) = ⊥
-
--- a file that was opened
-abbrev pub IsFile : Base → Type 0
-IsFile (Memory conn) = ⊥
-IsFile (File conn) = HasCleanDisk (file_state conn) → IsOpened conn
 
 -- a database in memory, where the URL names one, and else a file
 abbrev pub IsNamed : Bool → Base → Type 0

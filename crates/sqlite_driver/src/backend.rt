@@ -4,7 +4,7 @@ ghost use Rattle.sqlx_traits.specs.StepList.{StepCauses};
 ghost use Rattle.sqlx_any.specs.declared.arguments.AnyArguments.{AnyArguments as Given};
 
 use crate::connection::SqliteConnection;
-use crate::statements::Items;
+use sqlite_base::Items;
 use sqlx_any::{
     Any, AnyArguments, AnyConnectionBackend, AnyQueryResult, AnyRow, AnyStatement, AnyTypeInfo,
     ColumnNames, Faults, Fetch, FetchMany, StepList,
@@ -134,7 +134,9 @@ impl AnyConnectionBackend for SqliteConnection {
         let mut rows = Fetch::<Any<Self>>::new(self.fetch_many(
             alloc, query, persistent, arguments,
         ));
-        match rows.next() {
+        let first = rows.next();
+        drop(rows);
+        match first {
             Some(Ok(row)) => Ok(Some(row)),
             Some(Err(error)) => Err(error),
             None => Ok(None),

@@ -2,16 +2,15 @@
 ghost use Rattle.std.specs.Prelude.{◌≡◌, ◌≢◌, ◌≤◌, ◌<◌, ◌+◌, ◌-◌, ℕ, Bool, Err, IfErr, IfOk, IsOkAnd, List, OnErr, OnOk};
 ghost use Rattle.sqlx_text.specs.declared.error.Error.{Error};
 ghost use Rattle.sqlx_traits.specs.Faults.{BeginCause, FaultCause, HasRisen};
-ghost use Rattle.sqlite_driver.specs.Refusals.{refusal_error};
-ghost use Rattle.sqlite_driver.specs.Ran.{RanOn, RefusedOn, in_transaction};
-ghost use Rattle.sqlite_driver.specs.Closed.{HasClosed, RefusesClose};
+ghost use Rattle.sqlite_base.specs.Refusals.{refusal_error};
+ghost use Rattle.sqlite_base.specs.Ran.{RanOn, RefusedOn, in_transaction};
+ghost use Rattle.sqlite_base.specs.Closed.{HasClosed, RefusesClose};
+ghost use Rattle.sqlite_base.specs.Queries.{all_taken};
 ghost use Rattle.sqlite_driver.specs.Does.{Begins, BeginsBy, Ends, IsNoted, Pings, RefusesText, RunsText, given_up};
 ghost use Rattle.sqlite_driver.specs.Opened.{IsFresh};
-ghost use Rattle.sqlite_driver.specs.Runs.{GivesItems, RefusesItems, all_taken};
+ghost use Rattle.sqlite_driver.specs.Runs.{GivesItems, RefusesItems};
 
-use crate::base::Base;
-use crate::refusal::Refusal;
-use crate::statements::Items;
+use sqlite_base::{Base, Items, Refusal};
 use sqlx_any::AnyArguments;
 use sqlx_text::{Error, OutOfMemory, SqlStr};
 use std::alloc::Global;

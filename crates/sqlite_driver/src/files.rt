@@ -4,11 +4,9 @@ ghost use Rattle.sqlx_traits.specs.Faults.{ConnectCause};
 ghost use Rattle.sqlite_driver.specs.Opened.{OpensFile};
 
 use crate::Sqlite;
-use crate::base::Base;
 use crate::connection::SqliteConnection;
 use crate::open::in_memory;
-use crate::refusal::refused;
-use sqlite::Connection;
+use sqlite_base::Base;
 use sqlx_any::{AnyConnectOptions, AnyConnection, Connector, Faults, expect_scheme};
 use sqlx_text::Error;
 use std::alloc::Global;
@@ -69,8 +67,8 @@ fn opened(
     if path == ":memory:" {
         return in_memory(alloc);
     }
-    match Connection::open(rt, path) {
-        Ok(conn) => Ok(SqliteConnection::new(alloc, Base::File(conn))),
-        Err(error) => Err(refused(alloc, error).error()),
+    match Base::open(alloc, rt, path) {
+        Ok(base) => Ok(SqliteConnection::new(alloc, base)),
+        Err(error) => Err(error),
     }
 }

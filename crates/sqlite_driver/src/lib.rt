@@ -3,13 +3,9 @@
 #![tactic(auto)]
 
 mod backend;
-mod base;
 mod connection;
 mod files;
 mod open;
-mod refusal;
-mod statements;
-mod values;
 
 pub use connection::SqliteConnection;
 pub use files::SqliteFiles;

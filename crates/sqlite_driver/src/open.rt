@@ -1,14 +1,12 @@
 //! A database in memory, opened by a URL.
-ghost use Rattle.std.specs.Prelude.{IfErr, IfOk};
-ghost use Rattle.sqlite.specs.Held.{state};
-ghost use Rattle.sqlite.specs.Steps.{IsEmpty, over_memory};
-ghost use Rattle.sqlite_driver.specs.Opened.{IsFresh, IsInMemory};
-ghost use Rattle.sqlite_driver.specs.Refusals.{IsRefusal};
+ghost use Rattle.std.specs.Prelude.{◌≡◌, ◌⊎◌, IfErr, IfOk, Ok, OnOk, true};
+ghost use Rattle.sqlx_text.specs.declared.error.Error.{Error};
+ghost use Rattle.sqlite_base.specs.OpenedBase.{IsInMemory};
+ghost use Rattle.sqlite_base.specs.Refusals.{IsRefusal};
+ghost use Rattle.sqlite_driver.specs.Opened.{IsFresh, MemoryRefusal, RefusedBy, names_memory, own_scheme};
 
-use crate::base::Base;
 use crate::connection::SqliteConnection;
-use crate::statements::perform;
-use sqlite::{Connection, MemStore};
+use sqlite_base::Base;
 use sqlx_any::{AnyConnectOptions, AnyOpen, expect_scheme};
 use sqlx_text::{Error, Fault, UStr};
 use std::alloc::Global;
@@ -20,38 +18,33 @@ impl AnyOpen for SqliteConnection {
 
     /// Opens a new database in memory, by `sqlite::memory:`. It has a table `kv` of whole numbers.
     fn from_options(alloc: Global, options: &AnyConnectOptions) -> Result<Self, Error> {
-        expect_scheme(alloc, &options.database_url, "sqlite")?;
-        if options.database_url.path() != ":memory:" {
-            return Err(Error::Configuration(Fault::Text(UStr::from_static(
-                "a file is opened by `SqliteFiles`, and `sqlite::memory:` is a database in memory",
-            ))));
+        match expect_memory(alloc, options) {
+            Ok(()) => in_memory(alloc),
+            Err(error) => Err(error),
         }
-        in_memory(alloc)
     }
+}
+
+/// Refuses another scheme than `sqlite`, and a file.
+fn expect_memory(alloc: Global, options: &AnyConnectOptions) -> Result<(), Error>
+    ensures named { OnOk result ((own_scheme options.now ≡ Ok tt) × (names_memory options.now ≡ true)) }
+    ensures refused { IfErr result (λ e. (e ≡ Error.OutOfMemory) ⊎ RefusedBy (MemoryRefusal (names_memory options.now)) (own_scheme options.now) e) }
+{
+    expect_scheme(alloc, &options.database_url, "sqlite")?;
+    if options.database_url.path() != ":memory:" {
+        return Err(Error::Configuration(Fault::Text(UStr::from_static(
+            "a file is opened by `SqliteFiles`, and `sqlite::memory:` is a database in memory",
+        ))));
+    }
+    Ok(())
 }
 
 pub(crate) fn in_memory(alloc: Global) -> Result<SqliteConnection, Error>
     ensures opened { IfOk result (λ conn. IsFresh conn × IsInMemory conn.base) }
     ensures told { IfErr result IsRefusal }
 {
-    match Connection::open_in_memory(alloc) {
-        Ok(conn) => with_table(alloc, conn),
-        Err(_) => Err(Error::OutOfMemory),
-    }
-}
-
-fn with_table(alloc: Global, conn: Connection<MemStore>) -> Result<SqliteConnection, Error>
-    requires { IsEmpty (state over_memory conn) }
-    ensures opened { IfOk result (λ conn. IsFresh conn × IsInMemory conn.base) }
-    ensures told { IfErr result IsRefusal }
-{
-    let mut conn = conn;
-    match perform(
-        &mut conn,
-        alloc,
-        "CREATE TABLE kv(k INTEGER PRIMARY KEY, v INTEGER NOT NULL)",
-    ) {
-        Ok(()) => Ok(SqliteConnection::new(alloc, Base::Memory(conn))),
-        Err(refusal) => Err(refusal.error()),
+    match Base::in_memory(alloc) {
+        Ok(base) => Ok(SqliteConnection::new(alloc, base)),
+        Err(error) => Err(error),
     }
 }

@@ -11,3 +11,6 @@ returns-in-Ok-clause-ends c = λ due is.
 pub returns-in-Err-clause-ends : goal.returns-in-Err-clause-ends
 returns-in-Err-clause-ends c = λ due is.
     (subst (λ base. RefusesText due c.args.self.now c.in-Err.error base) (ap (λ conn. conn.base) (sym c.give_up.ensures.new)) (c.in-Err.ensures.refused due is), c.give_up.ensures.noted)
+
+pub returns-in-Err-clause-levels : goal.returns-in-Err-clause-levels
+returns-in-Err-clause-levels c = search rules

@@ -1,10 +1,13 @@
--- A query that was refused once what was noted is rolled back.
+-- A query that gave its items, or was refused, once what was noted is rolled back.
 use Rattle.std.proofs.Common.{ap, sym, subst}
-use Rattle.sqlite_driver.specs.Refusals.{refusal_error}
+use Rattle.sqlite_base.specs.Refusals.{refusal_error}
 use Rattle.sqlite_driver.specs.Runs.{RefusesItems, all_taken}
 use Rattle.sqlite_driver.specs.declared.connection.SqliteConnection.{SqliteConnection}
 use Rattle.sqlite_driver.proofs.RunsLemmas.{refuses_settled}
 use Rattle.sqlite_driver.proofs.connection.SqliteConnection.run.Goals as goal
+
+pub returns-in-Ok-run-clause-gave : goal.returns-in-Ok-run-clause-gave
+returns-in-Ok-run-clause-gave c = (c.settle.new.self.base, c.in-Ok.ensures.pings.0, c.in-Ok-run.ensures.gave, c.in-Ok.ensures.pings.1)
 
 pub returns-in-Err-run-clause-refused : goal.returns-in-Err-run-clause-refused
 returns-in-Err-run-clause-refused c =
