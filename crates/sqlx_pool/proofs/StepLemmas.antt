@@ -1,7 +1,7 @@
 -- The value under the lock stands after a step of its core whose marks were written behind the log.
-use Rattle.std.proofs.Common.{map, ◌≡◌, ℕ, ◌+◌, ◌^◌, ◌≤◌, ◌⊎◌, inl, inr, Bool, true, false, not, ◌&&◌, cond, List, [], ◌∷◌, ◌++◌, length, take, drop, Option, Some, None, is_some, refl, sym, ap, ◌∙◌, subst, length-append, arith}
+use Rattle.std.proofs.Common.{map, ◌≡◌, ℕ, ◌+◌, ◌^◌, ◌≤◌, ◌⊎◌, inl, inr, Bool, true, false, cond, List, [], ◌∷◌, ◌++◌, length, take, drop, Option, Some, None, refl, sym, ap, ◌∙◌, subst, length-append, arith}
 use Rattle.sqlx_log.specs.declared.mark.Mark.{Mark}
-use Rattle.sqlx_log.specs.declared.mark.Mark.TheVariants.{Ended, Closed, Detached, Leaked, Opened, Kept, Shut}
+use Rattle.sqlx_log.specs.declared.mark.Mark.TheVariants.{Ended, Closed, Detached, Leaked, Shut}
 use Rattle.sqlx_pool_lists.specs.declared.steps.Given.{Given}
 use Rattle.sqlx_pool_lists.specs.declared.steps.Given.TheVariants as given
 use Rattle.sqlx_pool_core.specs.Answers.{is_held, is_kept}
@@ -31,7 +31,7 @@ use Rattle.sqlx_pool_lists.specs.Core.{Core, asking, loan, resting}
 use Rattle.sqlx_pool_lists.specs.StandsFor.{StandsFor}
 use Rattle.sqlx_member.specs.Logs.{Logs}
 use Rattle.sqlx_pool_lists.specs.Balance.{Balance, is_lent, lents, ends, marks_due, one_if, given_back}
-use Rattle.sqlx_pool_lists.specs.PollSteps.{is_in_line, start_marks, test_marks, connect_marks, cancel_marks, try_answer, try_answer_at, connect_answer}
+use Rattle.sqlx_pool_lists.specs.PollSteps.{start_marks, test_marks, connect_marks, cancel_marks, try_answer, try_answer_at, connect_answer}
 use Rattle.sqlx_pool_parts.specs.Answers.{lends_tested, lends_new, is_fatal, is_ended}
 use Rattle.sqlx_pool_parts.specs.Booked.{Booked}
 use Rattle.sqlx_pool_parts.specs.State.{PoolState, state_of, no_start, RestFlat, IsKept}
@@ -86,28 +86,6 @@ stepped {levels = levels} {max = max} {cuts = cuts} {state = state} kept {new} {
       few = few_now books.few;
       room = omega (arith, long, paid, enough);
     })
-
--- the marks of a start look at the ticket's phase only for whether it waits
-pub start-waited : {C : Type 0} (t : ℕ) (p : Option Phase) (answer : Start C) (waited : Bool) → waited ≡ is_in_line p
-    → start_marks t (cond waited (Some phase.Waiting) None) answer ≡ start_marks t p answer
-start-waited t p answer waited e = subst (λ (b : Bool). start_marks t (cond b (Some phase.Waiting) None) answer ≡ start_marks t p answer) (sym e) (by p answer)
-  where
-    by : {C : Type 0} (p : Option Phase) (answer : Start C) → start_marks t (cond (is_in_line p) (Some phase.Waiting) None) answer ≡ start_marks t p answer
-    by (Some phase.Waiting) answer = refl
-    by p start.NotHeld = refl
-    by p start.Closed = refl
-    by p start.TimedOut = refl
-    by p start.Waiting = refl
-    by p (start.Backoff until) = refl
-    by p (start.Test i) = refl
-    by None start.Exhausted = refl
-    by None start.Connect = refl
-    by (Some (phase.Backoff u)) start.Exhausted = refl
-    by (Some (phase.Backoff u)) start.Connect = refl
-    by (Some phase.Connecting) start.Exhausted = refl
-    by (Some phase.Connecting) start.Connect = refl
-    by (Some (phase.Testing c created before)) start.Exhausted = refl
-    by (Some (phase.Testing c created before)) start.Connect = refl
 
 module _ {C : Type 0} where
   -- a start lends nothing
@@ -204,18 +182,6 @@ pub given-back : {C : Type 0} (answer : Given C) → given_back answer ≡ one_i
 given-back given.Kept = refl
 given-back (given.Closed raw) = refl
 given-back (given.NotHeld raw) = refl
-
-pub done-made : {C : Type 0} (shut : Bool) (raw : Option C) (opens : Bool) → opens ≡ (not shut && is_some raw) → (n c : ℕ) → n ≡ c → (m moment : ℕ) → m ≡ moment
-    → cond opens (Opened n m ∷ Kept n m ∷ []) [] ≡ done_marks shut c moment raw
-done-made {C} shut raw opens e n c same m moment then =
-    subst (λ (b : Bool). cond b (Opened n m ∷ Kept n m ∷ []) [] ≡ done_marks shut c moment raw) (sym e)
-    (subst (λ (k : ℕ). cond (not shut && is_some raw) (Opened n m ∷ Kept n m ∷ []) [] ≡ done_marks shut k moment raw) same
-    (subst (λ (k : ℕ). cond (not shut && is_some raw) (Opened n m ∷ Kept n m ∷ []) [] ≡ done_marks shut n k raw) then (by shut raw)))
-  where
-    by : (shut : Bool) (raw : Option C) → cond (not shut && is_some raw) (Opened n m ∷ Kept n m ∷ []) [] ≡ done_marks shut n m raw
-    by true raw = refl
-    by false None = refl
-    by false (Some raw) = refl
 
 pub done-lends : {C : Type 0} (shut : Bool) (n m : ℕ) (raw : Option C) → lents (done_marks shut n m raw) ≡ 0
 done-lends true n m raw = refl

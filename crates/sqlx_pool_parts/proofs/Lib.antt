@@ -1,2 +1,3 @@
 pub mod ReturnsLemmas
 pub mod CheckLemmas
+pub mod MarkLemmas

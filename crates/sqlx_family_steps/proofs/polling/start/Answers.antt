@@ -1,7 +1,7 @@
 use Rattle.std.proofs.Common.{◌++◌, length, ap, ◌∙◌, arith, vec_items}
 use Rattle.sqlx_pool_lists.specs.PollSteps.{phase_for}
 use Rattle.sqlx_family.specs.Pools.{pool_in}
-use Rattle.sqlx_family_steps.proofs.MarkLemmas.{start-waited}
+use Rattle.sqlx_pool_parts.proofs.MarkLemmas.{start-waited}
 use Rattle.sqlx_family_steps.proofs.polling.start.Goals as goal
 
 pub start-requires : goal.start-requires

@@ -1,7 +1,8 @@
 use Rattle.std.proofs.Common.{◌++◌, not, ◌&&◌, is_some, length, ap, ◌∙◌, arith, vec_items}
 use Rattle.sqlx_member.specs.Logs.{moment_of}
 use Rattle.sqlx_family.specs.Pools.{pool_in}
-use Rattle.sqlx_family_steps.proofs.MarkLemmas.{done-made, opened-long}
+use Rattle.sqlx_pool_parts.proofs.MarkLemmas.{done-made}
+use Rattle.sqlx_family_steps.proofs.MarkLemmas.{opened-long}
 use Rattle.sqlx_family_steps.proofs.upkeep.minimum_done.Goals as goal
 
 pub open_if-requires : goal.open_if-requires

@@ -2,7 +2,8 @@ use Rattle.std.proofs.Common.{◌++◌, not, ◌&&◌, is_some, ap, ◌∙◌, a
 use Rattle.sqlx_member.specs.Logs.{moment_of}
 use Rattle.sqlx_pool_lists.specs.MaintenanceSteps.{done_marks}
 use Rattle.sqlx_pool.proofs.LeavesLemmas.{leaves-along, done-leaves}
-use Rattle.sqlx_pool.proofs.StepLemmas.{stepped, kept-books, done-made, done-lends}
+use Rattle.sqlx_pool_parts.proofs.MarkLemmas.{done-made}
+use Rattle.sqlx_pool.proofs.StepLemmas.{stepped, kept-books, done-lends}
 use Rattle.sqlx_pool.proofs.locked.Locked.minimum_done.Goals as goal
 
 pub invariant_of-self : goal.invariant_of-self

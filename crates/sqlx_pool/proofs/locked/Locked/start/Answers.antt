@@ -1,7 +1,8 @@
 use Rattle.std.proofs.Common.{◌++◌, ◌∙◌, inl, ap, arith}
 use Rattle.sqlx_pool_lists.specs.PollSteps.{phase_for}
 use Rattle.sqlx_pool.proofs.LeavesLemmas.{leaves-along, start-leaves}
-use Rattle.sqlx_pool.proofs.StepLemmas.{stepped, start-waited, start-lends}
+use Rattle.sqlx_pool_parts.proofs.MarkLemmas.{start-waited}
+use Rattle.sqlx_pool.proofs.StepLemmas.{stepped, start-lends}
 use Rattle.sqlx_pool.proofs.locked.Locked.start.Goals as goal
 
 pub invariant_of-self : goal.invariant_of-self
