@@ -1,5 +1,5 @@
 //! Crowds by the words of the command line.
-use crate::words::run_words;
+use crate::words::{run_words, wrong_uses};
 use sqlx_program::{PlayError, SureSink};
 
 const ALONE: &str = "\
@@ -36,30 +36,20 @@ fn a_crowd_tells_its_loans_last(rt: HostRuntime) -> Result<(), PlayError> {
     Ok(())
 }
 
+const WRONG: &[&[&str]] = &[
+    &["crowd", "17", "1", "1"],
+    &["crowd", "0", "1", "1"],
+    &["crowd", "1", "1001", "1"],
+    &["crowd", "1", "0", "1"],
+    &["crowd", "1", "1", "17"],
+    &["crowd", "1", "1", "0"],
+    &["crowd", "01", "1", "1"],
+    &["crowds", "1", "1", "1"],
+];
+
 #[test]
 fn numbers_out_of_their_ranges_are_a_wrong_use(rt: HostRuntime) -> Result<(), PlayError> {
     let alloc = rt.alloc();
-    for words in [
-        ["crowd", "17", "1", "1"],
-        ["crowd", "0", "1", "1"],
-        ["crowd", "1", "1001", "1"],
-        ["crowd", "1", "0", "1"],
-        ["crowd", "1", "1", "17"],
-        ["crowd", "1", "1", "0"],
-        ["crowd", "01", "1", "1"],
-        ["crowds", "1", "1", "1"],
-    ] {
-        let mut sink = SureSink::new(alloc);
-        let answer = run_words(&rt, alloc, &words, &mut sink);
-        assert!(rt;
-            answer == Err(PlayError::Usage),
-            "{} {} {} {}",
-            words[0],
-            words[1],
-            words[2],
-            words[3]
-        );
-        assert!(rt; sink.written().is_empty());
-    }
+    assert_eq!(rt; wrong_uses(&rt, alloc, WRONG), WRONG.len());
     Ok(())
 }

@@ -1,5 +1,5 @@
 //! The made script by the words of the command line.
-use crate::words::run_words;
+use crate::words::{run_words, wrong_uses};
 use sqlx_program::{PlayError, SureSink};
 
 #[test]
@@ -30,35 +30,22 @@ fn made_scripts_are_summarized(rt: HostRuntime) -> Result<(), PlayError> {
     Ok(())
 }
 
+const WRONG: &[&[&str]] = &[
+    &["make", "10001", "1"],
+    &["make", "0", "1"],
+    &["make", "4", "2147483648"],
+    &["make", "04", "1"],
+    &["make", "4", "-1"],
+    &["makes", "4", "1"],
+    &["", "4", "1"],
+    &["make"],
+    &["make", "4"],
+    &["make", "4", "1", "1"],
+];
+
 #[test]
 fn other_words_are_a_wrong_use(rt: HostRuntime) -> Result<(), PlayError> {
     let alloc = rt.alloc();
-    for words in [
-        ["make", "10001", "1"],
-        ["make", "0", "1"],
-        ["make", "4", "2147483648"],
-        ["make", "04", "1"],
-        ["make", "4", "-1"],
-        ["makes", "4", "1"],
-        ["", "4", "1"],
-    ] {
-        let mut sink = SureSink::new(alloc);
-        let answer = run_words(&rt, alloc, &words, &mut sink);
-        assert!(rt;
-            answer == Err(PlayError::Usage),
-            "{} {} {}",
-            words[0],
-            words[1],
-            words[2]
-        );
-        assert!(rt; sink.written().is_empty());
-    }
-    let mut sink = SureSink::new(alloc);
-    assert!(rt; run_words(&rt, alloc, &["make"], &mut sink) == Err(PlayError::Usage));
-    assert!(rt; run_words(&rt, alloc, &["make", "4"], &mut sink) == Err(PlayError::Usage));
-    assert!(rt;
-        run_words(&rt, alloc, &["make", "4", "1", "1"], &mut sink) == Err(PlayError::Usage)
-    );
-    assert!(rt; sink.written().is_empty());
+    assert_eq!(rt; wrong_uses(&rt, alloc, WRONG), WRONG.len());
     Ok(())
 }

@@ -5,6 +5,9 @@ ghost use Rattle.sqlx_play.specs.Memory.{left_of, read_faults};
 use sqlx_program::{
     Failed, MemSink, MemSource, PlayError, Source, SureSink, SureSource, run, status,
 };
+use std::alloc::Global;
+use std::sync::Wait;
+use std::thread::Threads;
 
 const SCRIPT: &str =
     "pool 1 0 5 - - ----\nask 0 1\npoll 0 1 1 ++++\nask 0 2\npoll 1 2 2 ++++\ngive 2 1 1 ++ 0\npoll 2 2 2 ++++\n";
@@ -60,66 +63,121 @@ fn first_lines(text: &[u8], count: usize) -> &[u8] {
     text
 }
 
+// Plays a text.
+fn played<R: Wait + Threads + Copy + Drop + Send + Sync + 'static>(
+    rt: &R,
+    alloc: Global,
+    text: &[u8],
+    sink: &mut SureSink,
+) -> Result<(), PlayError> {
+    let mut source = SureSource::new(Vec::from_slice(alloc, text)?);
+    run(rt, alloc, &[], &mut source, sink)
+}
+
+// Whether a script that is cut at this byte is played, or stopped at its first bad line.
+fn is_stopped_rightly<R: Wait + Threads + Copy + Drop + Send + Sync + 'static>(
+    rt: &R,
+    alloc: Global,
+    script: &[u8],
+    cut: usize,
+) -> bool
+    requires { cut ≤ length script.now }
+{
+    let mut sink = SureSink::new(alloc);
+    let answer = played(rt, alloc, &script[..cut], &mut sink);
+    match bad_line_of_cut(script, cut) {
+        None => answer.is_ok(),
+        Some(line) => answer == Err(PlayError::ScriptLine(line)),
+    }
+}
+
 #[test]
 fn a_script_is_played_or_stopped_at_its_first_bad_line(rt: HostRuntime) -> Result<(), PlayError> {
     let alloc = rt.alloc();
     let script = SCRIPT.as_bytes();
     for cut in 0..script.len() + 1 {
-        let mut source = SureSource::new(Vec::from_slice(alloc, &script[..cut])?);
-        let mut sink = SureSink::new(alloc);
-        let answer = run(&rt, alloc, &[], &mut source, &mut sink);
-        match bad_line_of_cut(script, cut) {
-            None => assert!(rt; answer.is_ok(), "cut at {cut}"),
-            Some(line) => assert!(rt; answer == Err(PlayError::ScriptLine(line)), "cut at {cut}"),
-        }
-    }
-    let mut sink = SureSink::new(alloc);
-    let mut source = SureSource::new(Vec::from_slice(alloc, script)?);
-    assert!(rt; run(&rt, alloc, &[], &mut source, &mut sink).is_ok());
-    assert!(rt; sink.written() == OUTPUT.as_bytes());
-    for (count, wanted) in [
-        (1_048_577, PlayError::ScriptTooLong),
-        (1_048_576, PlayError::ScriptLine(1)),
-        (0, PlayError::ScriptLine(1)),
-    ] {
-        let mut source = SureSource::new(vec![in alloc; b'\n'; count]?);
-        let mut sink = SureSink::new(alloc);
-        let answer = run(&rt, alloc, &[], &mut source, &mut sink);
-        assert!(rt; answer == Err(wanted), "{count} newlines");
-        assert!(rt; sink.written().is_empty(), "{count} newlines");
+        assert!(rt; is_stopped_rightly(&rt, alloc, script, cut), "cut at {cut}");
     }
     Ok(())
 }
 
 #[test]
+fn a_whole_script_is_answered(rt: HostRuntime) -> Result<(), PlayError> {
+    let alloc = rt.alloc();
+    let mut sink = SureSink::new(alloc);
+    played(&rt, alloc, SCRIPT.as_bytes(), &mut sink)?;
+    assert!(rt; sink.written() == OUTPUT.as_bytes());
+    Ok(())
+}
+
+// Whether so many newlines are answered so, and nothing is written.
+fn are_refused<R: Wait + Threads + Copy + Drop + Send + Sync + 'static>(
+    rt: &R,
+    alloc: Global,
+    newlines: usize,
+    wanted: PlayError,
+) -> Result<bool, PlayError> {
+    let mut source = SureSource::new(vec![in alloc; b'\n'; newlines]?);
+    let mut sink = SureSink::new(alloc);
+    let answer = run(rt, alloc, &[], &mut source, &mut sink);
+    Ok(answer == Err(wanted) && sink.written().is_empty())
+}
+
+#[test]
+fn newlines_are_no_script(rt: HostRuntime) -> Result<(), PlayError> {
+    let alloc = rt.alloc();
+    for (count, wanted) in [
+        (1_048_577, PlayError::ScriptTooLong),
+        (1_048_576, PlayError::ScriptLine(1)),
+        (0, PlayError::ScriptLine(1)),
+    ] {
+        assert!(rt; are_refused(&rt, alloc, count, wanted)?, "{count} newlines");
+    }
+    Ok(())
+}
+
+// Whether a sink that fails behind so many lines is told, with these lines written.
+fn write_is_told<R: Wait + Threads + Copy + Drop + Send + Sync + 'static>(
+    rt: &R,
+    alloc: Global,
+    lines: usize,
+) -> Result<bool, PlayError> {
+    let call = (lines as u64).saturating_add(1);
+    let mut source = SureSource::new(Vec::from_slice(alloc, SCRIPT.as_bytes())?);
+    let mut sink = MemSink::new(alloc, Vec::from_slice(alloc, &[call])?);
+    let answer = run(rt, alloc, &[], &mut source, &mut sink);
+    let is_written = sink.written() == first_lines(OUTPUT.as_bytes(), lines);
+    Ok(answer == Err(PlayError::WriteFault) && status(&answer) == 6 && is_written)
+}
+
+// Whether a source that fails at this read is told, and nothing is written; behind the last read the script is played.
+fn read_is_told<R: Wait + Threads + Copy + Drop + Send + Sync + 'static>(
+    rt: &R,
+    alloc: Global,
+    call: u64,
+) -> Result<bool, PlayError> {
+    let script = SCRIPT.as_bytes();
+    let fails = Vec::from_slice(alloc, &[call])?;
+    let mut source = Drops {
+        inner: MemSource::new(Vec::from_slice(alloc, script)?, fails),
+    };
+    let mut sink = MemSink::new(alloc, Vec::new(alloc));
+    let answer = run(rt, alloc, &[], &mut source, &mut sink);
+    if call <= script.len().div_ceil(7) as u64 + 1 {
+        Ok(answer == Err(PlayError::ReadFault) && sink.written().is_empty())
+    } else {
+        Ok(answer.is_ok())
+    }
+}
+
+#[test]
 fn faults_are_told_where_they_come(rt: HostRuntime) -> Result<(), PlayError> {
     let alloc = rt.alloc();
-    let script = SCRIPT.as_bytes();
-    for call in 1..8 {
-        let mut source = SureSource::new(Vec::from_slice(alloc, script)?);
-        let mut sink = MemSink::new(alloc, Vec::from_slice(alloc, &[call as u64])?);
-        let answer = run(&rt, alloc, &[], &mut source, &mut sink);
-        assert!(rt; answer == Err(PlayError::WriteFault), "write {call}");
-        assert!(rt; status(&answer) == 6, "write {call}");
-        assert!(rt;
-            sink.written() == first_lines(OUTPUT.as_bytes(), call - 1),
-            "write {call}"
-        );
+    for lines in 0..7 {
+        assert!(rt; write_is_told(&rt, alloc, lines)?, "write behind {lines}");
     }
     for call in 1..18 {
-        let fails = Vec::from_slice(alloc, &[call])?;
-        let mut source = Drops {
-            inner: MemSource::new(Vec::from_slice(alloc, script)?, fails),
-        };
-        let mut sink = MemSink::new(alloc, Vec::new(alloc));
-        let answer = run(&rt, alloc, &[], &mut source, &mut sink);
-        let reads = script.len().div_ceil(7) as u64 + 1;
-        if call <= reads {
-            assert!(rt; answer == Err(PlayError::ReadFault), "read {call}");
-            assert!(rt; sink.written().is_empty(), "read {call}");
-        } else {
-            assert!(rt; answer.is_ok(), "read {call}");
-        }
+        assert!(rt; read_is_told(&rt, alloc, call)?, "read {call}");
     }
     Ok(())
 }
