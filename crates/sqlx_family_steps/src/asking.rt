@@ -19,7 +19,7 @@ use std::alloc::Global;
 // How many marks a loan past the line may lead to.
 const TRY_ROOM: usize = 4;
 
-// Reserves memory for the marks that are due in a pool, and for these many more: false where there is none.
+/// Reserves memory for the marks that are due in a pool, and for these many more: false where there is none.
 pub fn reserve<C>(family: &Family<C>, log: &mut Vec<Mark>, pool: u32, more: usize) -> bool
     requires named { pool < length family.now.pools }
     requires room { length log.old.items + marks_due (pool_in pool family.now) ≤ vec_capacity log.old }
@@ -40,7 +40,7 @@ fn deadline<C>(family: &Family<C>, pool: u32, now: Moment) -> u128
     u128::from(moment.0) + u128::from(family.options(pool).get_acquire_timeout())
 }
 
-// Asks a pool that is open, where numbers are left, and writes the mark. None where there is no memory.
+/// Asks a pool that is open, where numbers are left, and writes the mark. None where there is no memory.
 pub fn ask<C>(
     family: &mut Family<C>,
     log: &mut Vec<Mark>,
@@ -85,7 +85,7 @@ pub fn ask<C>(
     }
 }
 
-// Lends past the line where that may be, and writes the marks. None, and nothing changes, where there is no memory.
+/// Lends past the line where that may be, and writes the marks. None, and nothing changes, where there is no memory.
 pub fn lend_past<C>(
     family: &mut Family<C>,
     log: &mut Vec<Mark>,

@@ -13,7 +13,7 @@ use sqlx_pool_core::{Idle, Mark};
 use sqlx_pool_parts::record;
 use std::collections::VecDeque;
 
-// Closes a pool, and writes its marks where no close came to it before.
+/// Closes a pool, and writes its marks where no close came to it before.
 pub fn close<C>(family: &mut Family<C>, log: &mut Vec<Mark>, pool: u32) -> VecDeque<Idle<C>>
     requires named { pool < length family.old.pools }
     requires room { length log.old.items + marks_due (pool_in pool family.old) ≤ vec_capacity log.old }
@@ -30,7 +30,7 @@ pub fn close<C>(family: &mut Family<C>, log: &mut Vec<Mark>, pool: u32) -> VecDe
     idle
 }
 
-// Closes a child, as `close`, and hands its free permits to the root.
+/// Closes a child, as `close`, and hands its free permits to the root.
 pub fn retire<C>(family: &mut Family<C>, log: &mut Vec<Mark>, pool: u32) -> VecDeque<Idle<C>>
     requires named { pool < length family.old.pools }
     requires room { length log.old.items + marks_due (pool_in pool family.old) ≤ vec_capacity log.old }

@@ -19,7 +19,7 @@ use sqlx_pool_parts::answers::judged_of;
 use sqlx_pool_parts::record;
 use sqlx_text::Moment;
 
-// Begins a poll, and writes its marks.
+/// Begins a poll, and writes its marks.
 pub fn start<C>(
     family: &mut Family<C>,
     log: &mut Vec<Mark>,
@@ -43,7 +43,7 @@ pub fn start<C>(
     start
 }
 
-// Tells what the test of an idle connection came to, and writes its marks.
+/// Tells what the test of an idle connection came to, and writes its marks.
 pub fn finish_test<C>(
     family: &mut Family<C>,
     log: &mut Vec<Mark>,
@@ -67,7 +67,7 @@ pub fn finish_test<C>(
     after
 }
 
-// Tells what a try of a connect came to, and writes its marks.
+/// Tells what a try of a connect came to, and writes its marks.
 pub fn finish_connect<C>(
     family: &mut Family<C>,
     log: &mut Vec<Mark>,
@@ -92,7 +92,7 @@ pub fn finish_connect<C>(
     after
 }
 
-// Ends a ticket that waits or is in backoff, and writes its mark.
+/// Ends a ticket that waits or is in backoff, and writes its mark.
 pub fn cancel<C>(
     family: &mut Family<C>,
     log: &mut Vec<Mark>,

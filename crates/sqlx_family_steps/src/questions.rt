@@ -11,14 +11,14 @@ use sqlx_pool_parts::MarkLog;
 use sqlx_text::OutOfMemory;
 use std::alloc::Global;
 
-// Whether a pool has this name.
+/// Whether a pool has this name.
 pub fn is_named<C>(family: &Family<C>, pool: u32) -> bool
     ensures { result ≡ nat_lt pool (length family.now.pools) }
 {
     (pool as usize) < family.num_pools()
 }
 
-// Whether a pool is closed: a close came to it, or to the root. So is one that nobody added.
+/// Whether a pool is closed: a close came to it, or to the root. So is one that nobody added.
 pub fn is_closed<C>(family: &Family<C>, pool: u32) -> bool
     ensures answer { result ≡ counts_as_closed pool family.now }
     ensures named { result ≡ false → pool < length family.now.pools }
@@ -41,7 +41,7 @@ fn copied(alloc: Global, marks: &[Mark]) -> Result<Vec<Mark>, OutOfMemory>
     }
 }
 
-// The maximum of a pool, and a copy of its log.
+/// The maximum of a pool, and a copy of its log.
 pub fn read_log<C>(
     family: &Family<C>,
     logs: &[Vec<Mark>],

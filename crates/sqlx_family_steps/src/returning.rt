@@ -15,7 +15,7 @@ use sqlx_pool_core::{Given, Lent, Mark};
 use sqlx_pool_parts::record;
 use sqlx_text::Moment;
 
-// Gives a connection back to its pool, and writes its mark.
+/// Gives a connection back to its pool, and writes its mark.
 pub fn give<C>(
     family: &mut Family<C>,
     log: &mut Vec<Mark>,
@@ -41,7 +41,7 @@ pub fn give<C>(
     given
 }
 
-// Ends the loan of a connection, and writes its mark.
+/// Ends the loan of a connection, and writes its mark.
 pub fn end<C>(family: &mut Family<C>, log: &mut Vec<Mark>, pool: u32, client: u32, id: u64) -> bool
     requires named { pool < length family.old.pools }
     requires room { length log.old.items + marks_due (pool_in pool family.old) ≤ vec_capacity log.old }
@@ -57,7 +57,7 @@ pub fn end<C>(family: &mut Family<C>, log: &mut Vec<Mark>, pool: u32, client: u3
     ends
 }
 
-// Takes a connection out of its pool, whose permit is free again, and writes its mark.
+/// Takes a connection out of its pool, whose permit is free again, and writes its mark.
 pub fn detach<C>(
     family: &mut Family<C>,
     log: &mut Vec<Mark>,
@@ -79,7 +79,7 @@ pub fn detach<C>(
     ends
 }
 
-// Takes a connection out of its pool, which keeps its permit for good, and writes its mark.
+/// Takes a connection out of its pool, which keeps its permit for good, and writes its mark.
 pub fn leak<C>(family: &mut Family<C>, log: &mut Vec<Mark>, pool: u32, client: u32, id: u64) -> bool
     requires named { pool < length family.old.pools }
     requires room { length log.old.items + marks_due (pool_in pool family.old) ≤ vec_capacity log.old }

@@ -16,7 +16,7 @@ use sqlx_pool_parts::answers::opens;
 use sqlx_pool_parts::record;
 use sqlx_text::Moment;
 
-// Takes the first idle connection of a pool that is beyond a limit, and writes its mark.
+/// Takes the first idle connection of a pool that is beyond a limit, and writes its mark.
 pub fn reap<C>(
     family: &mut Family<C>,
     log: &mut Vec<Mark>,
@@ -37,7 +37,7 @@ pub fn reap<C>(
     idle
 }
 
-// Tells what came of the connection for which a place of a pool is held, and writes the marks of a new one.
+/// Tells what came of the connection for which a place of a pool is held, and writes the marks of a new one.
 pub fn minimum_done<C>(
     family: &mut Family<C>,
     log: &mut Vec<Mark>,

@@ -11,7 +11,7 @@ use std::alloc::Global;
 use std::sync::Wait;
 use std::sync::ledger::Ledger;
 
-// What a worker begins with.
+/// What a worker begins with.
 #[derive(Drop)]
 pub struct Job<L: Loans, X> {
     client: u32,
@@ -21,7 +21,7 @@ pub struct Job<L: Loans, X> {
     ghost no_loan: { tally.loans ≡ 0 },
 }
 
-// What a worker leaves.
+/// What a worker leaves.
 #[derive(Drop)]
 pub struct Part<L: Loans> {
     tally: Tally<L>,
@@ -29,7 +29,7 @@ pub struct Part<L: Loans> {
     ghost few: { tally.loans < 2 ^ 32 },
 }
 
-// A part of the ledger for each outside, the first one for client 1.
+/// A part of the ledger for each outside, the first one for client 1.
 pub fn jobs_of<L: Loans, X: Drop>(
     alloc: Global,
     outs: Vec<X>,
@@ -68,7 +68,7 @@ fn new_job<L: Loans, X>(client: u32, all: &mut Tally<L>, out: X) -> Job<L, X>
     }
 }
 
-// Does a worker's job, with a clock that stands at 0.
+/// Does a worker's job, with a clock that stands at 0.
 pub fn work_off<
     DB: Database,
     H: Ledger,
@@ -92,7 +92,7 @@ where
     Part { tally }
 }
 
-// Puts the parts together again.
+/// Puts the parts together again.
 pub fn gather<L: Loans>(parts: Vec<Part<L>>, all: &mut Tally<L>)
     requires { all.old.loans + vec_len parts * 2 ^ 32 < 2 ^ 64 }
     ensures { all.new.parts ≡ all.old.parts + vec_len parts }
