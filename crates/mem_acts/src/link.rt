@@ -10,10 +10,16 @@ use std::mem;
 
 /// A connection to a store, while no client is at work on it: the store's link, and the cache of its statements, which
 /// the first act begins that needs one. It is seen as its link.
-#[derive(Drop)]
 pub struct ClientLink {
     // They stay where they lie when the connection goes from hand to hand.
     pub(crate) parts: Box<Parts>,
+}
+
+impl Drop for ClientLink {
+    fn drop(self) {
+        let ClientLink { parts } = self;
+        drop(parts);
+    }
 }
 
 #[derive(Drop)]
@@ -54,7 +60,8 @@ impl ClientLink {
     pub fn close(self, store: &mut MemStore)
         ensures { store.new ≡ closed_at self.depth store.old }
     {
-        let Parts { side, cache } = Box::into_inner(self.parts);
+        let ClientLink { parts } = self;
+        let Parts { side, cache } = Box::into_inner(parts);
         drop(cache);
         store.close(side);
     }

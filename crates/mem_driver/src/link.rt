@@ -9,10 +9,17 @@ use std::alloc::Global;
 use std::marker::Model;
 
 /// A connection of a store, while no session has it: its link, and its cache of statements.
-#[derive(Drop)]
 pub struct MemLink {
     side: StoreLink,
     cache: StatementCache<()>,
+}
+
+impl Drop for MemLink {
+    fn drop(self) {
+        let MemLink { side, cache } = self;
+        drop(side);
+        drop(cache);
+    }
 }
 
 impl Model for MemLink {

@@ -17,11 +17,22 @@ use std::alloc::Global;
 use std::marker::Model;
 
 /// A connection at work: queries and transactions run on it, through `AnyConnection`.
-#[derive(Drop)]
 pub struct MemSession {
     pub(crate) work: StoreSession,
     cache: StatementCache<()>,
     faults: u64,
+}
+
+impl Drop for MemSession {
+    fn drop(self) {
+        let MemSession {
+            work,
+            cache,
+            faults: _,
+        } = self;
+        drop(work);
+        drop(cache);
+    }
 }
 
 impl Model for MemSession {
@@ -51,7 +62,11 @@ impl MemSession {
     pub fn into_parts(self) -> (MemStore, MemLink)
         ensures { (result.0 ≡ self.work.store) × (result.1 ≡ record { side = self.work.link; cache = self.cache }) }
     {
-        let MemSession { work, cache, .. } = self;
+        let MemSession {
+            work,
+            cache,
+            faults: _,
+        } = self;
         let (store, side) = work.into_parts();
         (store, MemLink::of(side, cache))
     }

@@ -15,11 +15,21 @@ use std::marker::Model;
 use std::sync::ledger::Ledger;
 
 /// A connection of a [`MemStore`](crate::MemStore), while no session has it.
-#[derive(Drop)]
 pub struct StoreLink {
     number: u64,
     depth: usize,
     stack: SavepointStack,
+}
+
+impl Drop for StoreLink {
+    fn drop(self) {
+        let StoreLink {
+            number: _,
+            depth: _,
+            stack,
+        } = self;
+        drop(stack);
+    }
 }
 
 impl Model for StoreLink {

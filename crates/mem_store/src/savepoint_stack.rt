@@ -21,7 +21,6 @@ use std::marker::Model;
 use std::sync::ledger::Ledger;
 
 /// Own writes and savepoints.
-#[derive(Drop)]
 pub(crate) struct SavepointStack {
     own: Writes,
     // The newest first, as the changes.
@@ -30,6 +29,20 @@ pub(crate) struct SavepointStack {
     // How many writes came while there was no savepoint. They are counted, and nothing is noted: only the end of the
     // level goes back to before them.
     unnoted: usize,
+}
+
+impl Drop for SavepointStack {
+    fn drop(self) {
+        let SavepointStack {
+            own,
+            saved,
+            changes,
+            unnoted: _,
+        } = self;
+        drop(own);
+        drop(saved);
+        drop(changes);
+    }
 }
 
 impl Model for SavepointStack {

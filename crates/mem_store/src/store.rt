@@ -18,13 +18,24 @@ use std::marker::Model;
 use std::sync::ledger::Ledger;
 
 /// A database in memory. A connection to it is a [`StoreLink`], which runs statements in a session.
-#[derive(Drop)]
 pub struct MemStore {
     rows: Rows,
     // How many links have an open level.
     open_links: u64,
     given: u64,
     runs: Runs,
+}
+
+impl Drop for MemStore {
+    fn drop(self) {
+        let MemStore {
+            rows,
+            open_links: _,
+            given: _,
+            runs: _,
+        } = self;
+        drop(rows);
+    }
 }
 
 impl Model for MemStore {

@@ -23,12 +23,23 @@ const KEPT: usize = 16;
 type Write = (i64, Option<i64>);
 
 /// Writes that aren't committed, one for each key.
-#[derive(Drop)]
 pub(crate) struct Writes {
     // In the order in which the keys came. A write that was undone left a gap. They are closed where the places are used up.
     places: Vec<Option<Write>>,
     notes: Notes,
     alloc: Global,
+}
+
+impl Drop for Writes {
+    fn drop(self) {
+        let Writes {
+            places,
+            notes,
+            alloc: _,
+        } = self;
+        drop(places);
+        drop(notes);
+    }
 }
 
 impl Model for Writes {

@@ -8,11 +8,22 @@ use sqlx_traits::{Column, ColumnOrigin, Database};
 use std::alloc::Global;
 
 /// A column: its position from 0, its name, and the type of its values.
-#[derive(Debug, Drop)]
+#[derive(Debug)]
 pub struct AnyColumn {
     pub ordinal: usize,
     pub name: UStr,
     pub type_info: AnyTypeInfo,
+}
+
+impl Drop for AnyColumn {
+    fn drop(self) {
+        let AnyColumn {
+            ordinal: _,
+            name,
+            type_info: _,
+        } = self;
+        drop(name);
+    }
 }
 
 impl AnyColumn {

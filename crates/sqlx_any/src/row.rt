@@ -14,11 +14,23 @@ use std::alloc::Global;
 use std::marker::Model;
 
 /// A row: as many values as columns, and the names by which the columns are found.
-#[derive(Drop)]
 pub struct AnyRow {
     names: ColumnNames,
     columns: Vec<AnyColumn>,
     values: Vec<AnyValue>,
+}
+
+impl Drop for AnyRow {
+    fn drop(self) {
+        let AnyRow {
+            names,
+            columns,
+            values,
+        } = self;
+        drop(names);
+        drop(columns);
+        drop(values);
+    }
 }
 
 impl Model for AnyRow {

@@ -19,12 +19,26 @@ use std::alloc::Global;
 use std::marker::Model;
 
 /// A prepared statement: its text, its parameters, and the columns of its rows.
-#[derive(Drop)]
 pub struct AnyStatement {
     sql: SqlStr,
     parameters: Option<Either<Vec<AnyTypeInfo>, usize>>,
     names: ColumnNames,
     columns: Vec<AnyColumn>,
+}
+
+impl Drop for AnyStatement {
+    fn drop(self) {
+        let AnyStatement {
+            sql,
+            parameters,
+            names,
+            columns,
+        } = self;
+        drop(sql);
+        drop(parameters);
+        drop(names);
+        drop(columns);
+    }
 }
 
 impl Model for AnyStatement {

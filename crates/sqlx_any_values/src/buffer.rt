@@ -9,9 +9,15 @@ use std::alloc::Global;
 use std::marker::Model;
 
 /// Arguments as a list of values.
-#[derive(Drop)]
 pub struct AnyArgumentBuffer {
     values: Vec<AnyValueKind>,
+}
+
+impl Drop for AnyArgumentBuffer {
+    fn drop(self) {
+        let AnyArgumentBuffer { values } = self;
+        drop(values);
+    }
 }
 
 impl Model for AnyArgumentBuffer {
@@ -44,7 +50,8 @@ impl AnyArgumentBuffer {
     pub fn into_values(self) -> Vec<AnyValueKind>
         ensures { result.items ≡ self }
     {
-        self.values
+        let AnyArgumentBuffer { values } = self;
+        values
     }
 
     /// Makes room for so many arguments more. The arguments stay.

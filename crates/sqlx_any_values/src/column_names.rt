@@ -9,9 +9,15 @@ use std::alloc::Global;
 use std::marker::Model;
 
 /// Distinct names of columns, each with its position. In sqlx: `HashMap<UStr, usize>`.
-#[derive(Drop)]
 pub struct ColumnNames {
     positions: IndexMap<String, usize>,
+}
+
+impl Drop for ColumnNames {
+    fn drop(self) {
+        let ColumnNames { positions } = self;
+        drop(positions);
+    }
 }
 
 impl Model for ColumnNames {

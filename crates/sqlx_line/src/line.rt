@@ -15,7 +15,6 @@ use std::marker::Model;
 use std::sync::ledger::Ledger;
 
 /// Waiting tickets by their numbers, and an edge: a ticket below it is entitled.
-#[derive(Drop)]
 pub struct Line {
     // The gaps before the first ticket are taken away, the others closed where the places are used up.
     places: VecDeque<Place<u64>>,
@@ -23,6 +22,19 @@ pub struct Line {
     entitled: usize,
     edge: u64,
     moves: u64,
+}
+
+impl Drop for Line {
+    fn drop(self) {
+        let Line {
+            places,
+            waiting: _,
+            entitled: _,
+            edge: _,
+            moves: _,
+        } = self;
+        drop(places);
+    }
 }
 
 impl Model for Line {

@@ -29,7 +29,6 @@ use std::marker::Model;
 const NUMBERS: u64 = 1 << 63;
 
 /// A pool: who waits, who owns which connection, which connections are idle, and how many permits the pool owns.
-#[derive(Drop)]
 pub struct Member<C> {
     options: PoolOptions,
     tickets: Tickets,
@@ -45,6 +44,28 @@ pub struct Member<C> {
     next_ticket: u64,
     next_conn: u64,
     last: Moment,
+}
+
+impl<C: Drop> Drop for Member<C> {
+    fn drop(self) {
+        let Member {
+            options: _,
+            tickets,
+            held,
+            idle,
+            leaked: _,
+            shut: _,
+            closed: _,
+            places: _,
+            permits: _,
+            next_ticket: _,
+            next_conn: _,
+            last: _,
+        } = self;
+        drop(tickets);
+        drop(held);
+        drop(idle);
+    }
 }
 
 impl<C> Model for Member<C> {

@@ -12,12 +12,18 @@ use std::collections::HashMap;
 const FEW: usize = 16;
 
 /// Where numbered things stand among places, some of which are gaps.
-#[derive(Drop)]
 pub struct Notes {
     // Where each number was put last.
     noted: HashMap<u64, usize>,
     // Each thing is noted. Without memory for that it may not be, until the gaps are closed.
     all: bool,
+}
+
+impl Drop for Notes {
+    fn drop(self) {
+        let Notes { noted, all: _ } = self;
+        drop(noted);
+    }
 }
 
 // A thing of this number stands at a place.

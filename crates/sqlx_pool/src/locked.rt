@@ -23,7 +23,6 @@ use std::sync::ledger::{Blank, Ledger};
 
 /// What is under the lock of a pool: its core, the log of all that its steps did, the options by which its connections
 /// are opened, and the books of its two ledgers.
-#[derive(Drop)]
 pub struct Locked<C: Depth, O, H: Ledger, L: Loans> {
     core: PoolCore<C>,
     log: Vec<Mark>,
@@ -32,6 +31,23 @@ pub struct Locked<C: Depth, O, H: Ledger, L: Loans> {
     books: Books<H, L>,
     // The edge of the entitled tickets, when it was asked for last.
     edge: u64,
+}
+
+impl<C: Depth + Drop, O: Drop, H: Ledger + Drop, L: Loans + Drop> Drop for Locked<C, O, H, L> {
+    fn drop(self) {
+        let Locked {
+            core,
+            log,
+            start: _,
+            connect,
+            books,
+            edge: _,
+        } = self;
+        drop(core);
+        drop(log);
+        drop(connect);
+        drop(books);
+    }
 }
 
 impl<C: Depth, O, H: Ledger, L: Loans> Model for Locked<C, O, H, L> {

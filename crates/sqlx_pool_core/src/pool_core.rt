@@ -33,11 +33,18 @@ use std::marker::Model;
 
 /// A pool of its own: who waits, who owns which connection, and which connections are idle. It owns all its permits,
 /// and entitles by its own line.
-#[derive(Drop)]
 pub struct PoolCore<C> {
     pool: Member<C>,
     // Who waits, once more: as many are entitled as the lesser of them and the free permits.
     line: Line,
+}
+
+impl<C: Drop> Drop for PoolCore<C> {
+    fn drop(self) {
+        let PoolCore { pool, line } = self;
+        drop(pool);
+        drop(line);
+    }
 }
 
 impl<C> Model for PoolCore<C> {

@@ -17,7 +17,6 @@ use std::marker::Model;
 const FEW: usize = 16;
 
 /// Loans, in the order of lending.
-#[derive(Drop)]
 pub struct HeldList {
     // A loan that ended left a gap. They are closed where the places are used up.
     places: Vec<Option<OwnedConn>>,
@@ -27,6 +26,20 @@ pub struct HeldList {
     all_noted: bool,
     len: usize,
     room: usize,
+}
+
+impl Drop for HeldList {
+    fn drop(self) {
+        let HeldList {
+            places,
+            noted,
+            all_noted: _,
+            len: _,
+            room: _,
+        } = self;
+        drop(places);
+        drop(noted);
+    }
 }
 
 impl Model for HeldList {

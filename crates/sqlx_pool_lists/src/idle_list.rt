@@ -13,7 +13,6 @@ use std::collections::VecDeque;
 use std::marker::Model;
 
 /// Idle connections, in the order of their coming back.
-#[derive(Drop)]
 pub struct IdleList<C> {
     // The first ones, among which the last reap found none beyond a limit.
     fresh: IdleRow<C>,
@@ -21,6 +20,18 @@ pub struct IdleList<C> {
     rest: IdleRow<C>,
     // Each row has room for so many.
     room: usize,
+}
+
+impl<C: Drop> Drop for IdleList<C> {
+    fn drop(self) {
+        let IdleList {
+            fresh,
+            rest,
+            room: _,
+        } = self;
+        drop(fresh);
+        drop(rest);
+    }
 }
 
 impl<C> Model for IdleList<C> {

@@ -14,13 +14,23 @@ use std::marker::Model;
 use std::mem;
 
 /// Idle connections, in the order of their coming back.
-#[derive(Drop)]
 pub struct IdleRow<C> {
     list: VecDeque<Idle<C>>,
     // None of them was opened before this moment.
     opened_from: u64,
     // None rests for longer than one before it.
     in_turn: bool,
+}
+
+impl<C: Drop> Drop for IdleRow<C> {
+    fn drop(self) {
+        let IdleRow {
+            list,
+            opened_from: _,
+            in_turn: _,
+        } = self;
+        drop(list);
+    }
 }
 
 impl<C> Model for IdleRow<C> {
@@ -84,7 +94,12 @@ impl<C> IdleRow<C> {
     pub fn destroy_empty(self)
         requires { self.items ≡ [] }
     {
-        self.list.destroy_empty();
+        let IdleRow {
+            list,
+            opened_from: _,
+            in_turn: _,
+        } = self;
+        list.destroy_empty();
     }
 
     /// How many there are.

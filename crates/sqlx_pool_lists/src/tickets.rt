@@ -17,13 +17,23 @@ use std::marker::Model;
 const MOST: usize = 1 << 57;
 
 /// The tickets that haven't ended, in the order of asking.
-#[derive(Drop)]
 pub struct Tickets {
     // The gaps before the first ticket are taken away, the others closed where the places are used up.
     places: VecDeque<Place<Ticket>>,
     len: usize,
     // How many have left the line.
     gone: usize,
+}
+
+impl Drop for Tickets {
+    fn drop(self) {
+        let Tickets {
+            places,
+            len: _,
+            gone: _,
+        } = self;
+        drop(places);
+    }
 }
 
 impl Model for Tickets {

@@ -12,12 +12,25 @@ const LOANS: u64 = 1 << 62;
 
 // The book of the connections that are held, with the parts of its ledger that are not out, and the book of the loans
 // with its number.
-#[derive(Drop)]
 pub struct Books<H: Ledger, L: Loans> {
     held: Book<H>,
     rest: Share<H>,
     loans: Book<L>,
     made: u64,
+}
+
+impl<H: Ledger + Drop, L: Loans + Drop> Drop for Books<H, L> {
+    fn drop(self) {
+        let Books {
+            held,
+            rest,
+            loans,
+            made: _,
+        } = self;
+        drop(held);
+        drop(rest);
+        drop(loans);
+    }
 }
 
 impl<H: Ledger, L: Loans> Model for Books<H, L> {

@@ -65,9 +65,15 @@ impl Place {
 }
 
 /// The places of a pool.
-#[derive(Drop)]
 pub struct Sleepers {
     places: [Place; PLACES],
+}
+
+impl Drop for Sleepers {
+    fn drop(self) {
+        let Sleepers { places } = self;
+        drop(places);
+    }
 }
 
 impl Sleepers {

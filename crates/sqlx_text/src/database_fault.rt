@@ -23,7 +23,6 @@ pub enum ErrorKind {
 }
 
 /// A refusal of the database.
-#[derive(Drop)]
 pub struct DatabaseFault {
     /// The message, for a human.
     pub message: UStr,
@@ -36,6 +35,23 @@ pub struct DatabaseFault {
     pub constraint: Option<UStr>,
     /// The table that the refusal speaks of.
     pub table: Option<UStr>,
+}
+
+impl Drop for DatabaseFault {
+    fn drop(self) {
+        let DatabaseFault {
+            message,
+            code,
+            kind: _,
+            transient: _,
+            constraint,
+            table,
+        } = self;
+        drop(message);
+        drop(code);
+        drop(constraint);
+        drop(table);
+    }
 }
 
 impl DatabaseFault {

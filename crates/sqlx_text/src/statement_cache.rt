@@ -18,10 +18,19 @@ use std::mem;
 use std::num::NonZeroUsize;
 
 /// Statements by their texts, the most recently used first.
-#[derive(Drop)]
 pub struct StatementCache<T> {
     statements: LruCache<String, T>,
     capacity: usize,
+}
+
+impl<T: Drop> Drop for StatementCache<T> {
+    fn drop(self) {
+        let StatementCache {
+            statements,
+            capacity: _,
+        } = self;
+        drop(statements);
+    }
 }
 
 impl<T> Model for StatementCache<T> {

@@ -18,11 +18,18 @@ use std::alloc::Global;
 use std::marker::Model;
 
 /// Links of connections, in the order of lending.
-#[derive(Drop)]
 pub struct LentList {
     // A link that was taken out left a gap. They are closed where the places are used up.
     places: Vec<Option<Lent<ClientLink>>>,
     notes: Notes,
+}
+
+impl Drop for LentList {
+    fn drop(self) {
+        let LentList { places, notes } = self;
+        drop(places);
+        drop(notes);
+    }
 }
 
 impl Model for LentList {
