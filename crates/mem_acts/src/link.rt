@@ -3,7 +3,8 @@ ghost use Rattle.std.specs.Prelude.{◌≡◌, ◌+◌, IfOk, OnErr, OnOk};
 ghost use Rattle.mem_store.specs.Store.{closed_at, connected, new_link};
 
 use mem_store::{MemStore, StoreLink};
-use sqlx_text::{OutOfMemory, StatementCache};
+use sqlx_statements::StatementCache;
+use sqlx_text::OutOfMemory;
 use std::alloc::Global;
 use std::marker::Model;
 use std::mem;

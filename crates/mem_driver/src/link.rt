@@ -4,7 +4,8 @@ ghost use Rattle.mem_store.specs.Store.{connected, new_link, closed_at};
 ghost use Rattle.mem_driver.specs.Session.{new_cache};
 
 use mem_store::{MemStore, StoreLink};
-use sqlx_text::{OutOfMemory, StatementCache};
+use sqlx_statements::StatementCache;
+use sqlx_text::OutOfMemory;
 use std::alloc::Global;
 use std::marker::Model;
 

@@ -4,7 +4,8 @@ ghost use Rattle.sqlx_traits.specs.Options.{OptionsCause};
 
 use crate::{Any, AnyConnection, AnyOpen};
 use log::LevelFilter;
-use sqlx_text::{Error, LogSettings, OutOfMemory};
+use sqlx_statements::LogSettings;
+use sqlx_text::{Error, OutOfMemory};
 use sqlx_traits::{Connect, ConnectOptions};
 use std::alloc::Global;
 use url::Url;

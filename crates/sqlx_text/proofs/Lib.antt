@@ -1,5 +1,2 @@
-mod ByTexts
 mod Examples
-mod Inserted
 mod Prefixes
-mod Summaries

@@ -1,7 +1,7 @@
 //! Options by which a connection is opened.
 ghost use Rattle.std.specs.Prelude.{◌≡◌, IfErr, IfOk, None, Result};
 ghost use Rattle.sqlx_text.specs.declared.error.Error.{Error};
-ghost use Rattle.sqlx_text.specs.declared.logger.LogSettings.{LogSettings};
+ghost use Rattle.sqlx_statements.specs.declared.logger.LogSettings.{LogSettings};
 ghost use Rattle.url.specs.Parser.{parse_url};
 ghost use Rattle.url.specs.Parts.{Parts};
 ghost use Rattle.sqlx_traits.specs.Options.{IsRefusalOf, OptionsCause, ReadsText};

@@ -2,7 +2,8 @@
 
 use crate::{Toy, ToyConnection};
 use log::LevelFilter;
-use sqlx_text::{Error, LogSettings, OutOfMemory};
+use sqlx_statements::LogSettings;
+use sqlx_text::{Error, OutOfMemory};
 use sqlx_traits::{Connect, ConnectOptions};
 use std::alloc::Global;
 use url::Url;

@@ -1,0 +1,4 @@
+mod ByTexts
+mod Examples
+mod Inserted
+mod Summaries

@@ -1,0 +1,5 @@
+pub mod Cache
+pub mod CacheLends
+pub mod Summary
+pub mod Logging
+pub mod Logger
