@@ -6,9 +6,15 @@ use std::alloc::Global;
 use std::marker::Model;
 
 /// Bytes of a value.
-#[derive(Drop)]
 pub struct AnyBlob {
     bytes: Vec<u8>,
+}
+
+impl Drop for AnyBlob {
+    fn drop(self) {
+        let AnyBlob { bytes } = self;
+        drop(bytes);
+    }
 }
 
 impl Model for AnyBlob {
@@ -47,7 +53,8 @@ impl AnyBlob {
     pub fn into_vec(self) -> Vec<u8>
         ensures { result.items ≡ self }
     {
-        self.bytes
+        let AnyBlob { bytes } = self;
+        bytes
     }
 
     /// The same bytes. In sqlx: `clone`.

@@ -5,7 +5,7 @@ ghost use Rattle.sqlx_workers.specs.Crowd.{LeavesLog};
 
 use shared_mem_driver::{SharedMem, SharedMemConnection};
 use sqlx_any::{AnyConnectOptions, AnyConnection, ConnectOptions};
-use sqlx_pool::{Loans, Pool, PoolConnect, PoolOptions, Tally};
+use sqlx_pool_base::{Loans, Pool, PoolConnect, PoolOptions, Tally};
 use sqlx_pool_core::Outside;
 use sqlx_text::{Error, OutOfMemory};
 use sqlx_workers::audited;
@@ -81,7 +81,7 @@ fn crowd_on<
     if all.loans() != due {
         return Err(OutOfMemory);
     }
-    let text = audited::<SharedMem<R>, H, L, R>(rt, alloc, pool, &mut all)?;
+    let text = audited(rt, alloc, pool, &mut all)?;
     Ok(Crowd { text, tally: all })
 }
 

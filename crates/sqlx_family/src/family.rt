@@ -34,10 +34,16 @@ struct FamilyPool<C> {
 }
 
 /// A root and its children. A pool's name is its number in the order of adding, 0 being the root's.
-#[derive(Drop)]
 pub struct Family<C> {
     pools: Vec<FamilyPool<C>>,
     shared: Shared,
+}
+
+impl<C: Drop> Drop for Family<C> {
+    fn drop(self) {
+        let Family { pools, shared: _ } = self;
+        drop(pools);
+    }
 }
 
 impl<C> Model for Family<C> {

@@ -23,7 +23,7 @@ use Rattle.sqlx_family.proofs.LogLemmas.{stand-stepped}
 use Rattle.sqlx_pool_parts.specs.Booked.{Booked}
 use Rattle.sqlx_pool_parts.specs.State.{RestFlat}
 use Rattle.sqlx_family_pool.specs.FamilyState.{family_state, held_in, tickets_in, IsKept}
-use Rattle.sqlx_pool.proofs.StepLemmas.{kept-books}
+use Rattle.sqlx_pool_base.proofs.StepLemmas.{kept-books}
 use Rattle.sqlx_family_pool.proofs.Replaces.{Replaces, replaces-with}
 use Rattle.sqlx_family_pool.proofs.StepLemmas.{in-logs, room-there, written}
 

@@ -15,9 +15,9 @@ use Rattle.sqlx_family.specs.Permits.{owned_by}
 use Rattle.sqlx_family.specs.IsFamily.{permits_of}
 use Rattle.sqlx_family_pool.specs.FamilyState.{FamilyState, IsStanding}
 use Rattle.sqlx_family.specs.RootLine.{has_permit_left}
-use Rattle.sqlx_pool.specs.Places.{back_if, holds_place}
-use Rattle.sqlx_pool.specs.Refusals.{IsTryRefusal}
-use Rattle.sqlx_pool.proofs.SeenLemmas.{back-why}
+use Rattle.sqlx_pool_base.specs.Places.{back_if, holds_place}
+use Rattle.sqlx_pool_base.specs.Refusals.{IsTryRefusal}
+use Rattle.sqlx_pool_base.proofs.SeenLemmas.{back-why}
 use Rattle.sqlx_family_pool.specs.Seen.{bare_family, SawFamily}
 use Rattle.sqlx_family_pool.specs.Upkeep.{has_room_in, IsFilledIn}
 

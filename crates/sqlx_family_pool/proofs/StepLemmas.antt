@@ -19,7 +19,7 @@ use Rattle.sqlx_pool_lists.specs.declared.steps.Verdict.{Verdict}
 use Rattle.sqlx_pool_lists.specs.declared.steps.Verdict.TheVariants as verdict
 use Rattle.sqlx_pool_lists.specs.Balance.{Balance, is_lent, lents, ends, marks_due, place_room}
 use Rattle.sqlx_pool_lists.specs.PollSteps.{test_answer, after_refusal}
-use Rattle.sqlx_pool_core.specs.PollParts.{IfAccepted}
+use Rattle.sqlx_member.specs.CameTo.{IfAccepted}
 use Rattle.sqlx_pool_lists.specs.MaintenanceSteps.{done_marks}
 use Rattle.sqlx_pool_parts.specs.Answers.{IfTestLends}
 use Rattle.sqlx_family.specs.declared.family.FamilyPool.{FamilyPool}
@@ -29,10 +29,10 @@ use Rattle.sqlx_family.specs.IsFamily.{permits_of, Joins, IsFamily, maximum_of}
 use Rattle.sqlx_family.specs.FamilyLogs.{with_marks, MakesTogether, FamilyLogs}
 use Rattle.sqlx_family.proofs.LogLemmas.{same, other}
 use Rattle.sqlx_pool_parts.specs.Booked.{Booked}
-use Rattle.sqlx_pool.specs.Places.{done_if_marks}
+use Rattle.sqlx_pool_base.specs.Places.{done_if_marks}
 use Rattle.sqlx_pool_parts.specs.State.{RestFlat}
-use Rattle.sqlx_pool.proofs.LeavesLemmas.{Leaves}
-use Rattle.sqlx_pool.proofs.StepLemmas.{Books}
+use Rattle.sqlx_pool_base.proofs.LeavesLemmas.{Leaves}
+use Rattle.sqlx_pool_base.proofs.StepLemmas.{Books}
 use Rattle.sqlx_family_pool.specs.FamilyState.{family_state, with_made, held_in, tickets_in, IsKept}
 use Rattle.sqlx_family_pool.proofs.Replaces.{Replaces, sum-but}
 

@@ -5,7 +5,7 @@ use Rattle.sqlx_pool_lists.specs.Core.{Core}
 use Rattle.sqlx_pool_lists.specs.MaintenanceSteps.{done}
 use Rattle.sqlx_family.specs.Pools.{Pools, pool_in}
 use Rattle.sqlx_family.specs.Permits.{stepped}
-use Rattle.sqlx_pool.specs.Places.{holds_place, done_if_marks}
+use Rattle.sqlx_pool_base.specs.Places.{holds_place, done_if_marks}
 
 module _ {C : Type 0} where
   -- the marks of a place of the pool that was used or given up at a moment, where one was held

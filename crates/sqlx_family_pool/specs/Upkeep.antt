@@ -6,7 +6,7 @@ use Rattle.sqlx_member.specs.Logs.{moment_of}
 use Rattle.sqlx_pool_lists.specs.MaintenanceSteps.{close_answer, has_place_if, reap_answer}
 use Rattle.sqlx_family.specs.Pools.{counts_as_closed, pool_in}
 use Rattle.sqlx_family.specs.RootLine.{passes_in}
-use Rattle.sqlx_pool.specs.Places.{holds_place}
+use Rattle.sqlx_pool_base.specs.Places.{holds_place}
 use Rattle.sqlx_family_pool.specs.FamilyState.{FamilyState}
 
 module _ {C O : Type 0} where

@@ -15,7 +15,7 @@ mod questions;
 mod returns;
 
 use sqlx_family::Family;
-use sqlx_pool::{Loans, Tally};
+use sqlx_pool_base::{Loans, Tally};
 use sqlx_pool_core::{Mark, PoolOptions};
 use sqlx_pool_parts::books::Books;
 use sqlx_text::{Depth, Error, OutOfMemory};
@@ -28,12 +28,26 @@ const POOLS: usize = (1 << 32) - 1;
 
 /// What is under the lock of a family: its pools, a log for each of all that its steps did, the options by which
 /// connections are opened, and the books of two ledgers, which count all pools.
-#[derive(Drop)]
 pub struct LockedFamily<C: Depth, O, H: Ledger, L: Loans> {
     family: Family<C>,
     logs: Vec<Vec<Mark>>,
     connect: O,
     books: Books<H, L>,
+}
+
+impl<C: Depth + Drop, O: Drop, H: Ledger, L: Loans> Drop for LockedFamily<C, O, H, L> {
+    fn drop(self) {
+        let LockedFamily {
+            family,
+            logs,
+            connect,
+            books,
+        } = self;
+        drop(family);
+        drop(logs);
+        drop(connect);
+        drop(books);
+    }
 }
 
 impl<C: Depth, O, H: Ledger, L: Loans> Model for LockedFamily<C, O, H, L> {

@@ -10,7 +10,7 @@ ghost use Rattle.sqlx_pool_parts.specs.Booked.{CountsIf};
 ghost use Rattle.sqlx_pool_parts.specs.MarkLog.{IsUncut};
 ghost use Rattle.sqlx_pool_parts.specs.Opened.{IsOpenable};
 ghost use Rattle.sqlx_family_steps.specs.FamilySteps.{try_lent_in};
-ghost use Rattle.sqlx_pool.specs.Refusals.{IsAskRefusal, IsTryRefusal};
+ghost use Rattle.sqlx_pool_base.specs.Refusals.{IsAskRefusal, IsTryRefusal};
 ghost use Rattle.sqlx_family_pool.specs.FamilyState.{log_of};
 ghost use Rattle.sqlx_family_pool.specs.Handles.{IsChildOf};
 ghost use Rattle.sqlx_family_pool.specs.Seen.{SawFamily, SawIn};
@@ -20,7 +20,7 @@ mod maintenance;
 mod polls;
 
 use crate::{FamilyAcquiringOf, FamilyConnectionOf, LockedFamily};
-use sqlx_pool::{Loans, MarkLog, Tally};
+use sqlx_pool_base::{Loans, MarkLog, Tally};
 use sqlx_pool_core::PoolOptions;
 use sqlx_pool_parts::sleepers::Sleepers;
 use sqlx_text::{Depth, Error, Moment, OutOfMemory};
@@ -41,11 +41,21 @@ pub(crate) type Guard<'a, C, O, H, L> = MutexGuard<'a, LockedFamily<C, Arc<O, Gl
 
 /// One pool of a family: of connections of the type `C`, which are opened by options of the type `O`. Handles on each pool
 /// of a family go into as many threads as need be. In sqlx: a pool, or one with a `parent`.
-#[derive(Drop)]
 pub struct FamilyPoolOf<C: Depth, O, H: Ledger, L: Loans> {
     pub(crate) shared: Arc<Shared<C, O, H, L>, Global>,
     pub(crate) name: u32,
     pub(crate) options: PoolOptions,
+}
+
+impl<C: Depth + Drop, O: Drop, H: Ledger, L: Loans> Drop for FamilyPoolOf<C, O, H, L> {
+    fn drop(self) {
+        let FamilyPoolOf {
+            shared,
+            name: _,
+            options: _,
+        } = self;
+        drop(shared);
+    }
 }
 
 impl<C: Depth + Drop, O: Drop, H: Ledger, L: Loans> FamilyPoolOf<C, O, H, L> {

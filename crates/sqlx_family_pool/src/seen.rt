@@ -11,14 +11,14 @@ ghost use Rattle.sqlx_family_steps.specs.FamilySteps.{try_lent_in};
 ghost use Rattle.sqlx_pool_parts.specs.Answers.{lent_alone};
 ghost use Rattle.sqlx_pool_parts.specs.Booked.{CountsIf};
 ghost use Rattle.sqlx_pool_parts.specs.MarkLog.{IsUncut};
-ghost use Rattle.sqlx_pool.specs.Refusals.{IsAskRefusal, IsTryRefusal};
+ghost use Rattle.sqlx_pool_base.specs.Refusals.{IsAskRefusal, IsTryRefusal};
 ghost use Rattle.sqlx_family_pool.specs.FamilyState.{log_of};
 ghost use Rattle.sqlx_family_pool.specs.Handles.{IsChildOf};
 ghost use Rattle.sqlx_family_pool.specs.Seen.{SawFamily, SawIn};
 ghost use Rattle.sqlx_family_pool.specs.Upkeep.{AreLoansUsed, AreTicketsUsed, has_room_in, IsClosedIn, IsFilledIn, IsNextTicket, to_close_in, to_reap_in};
 
 use crate::LockedFamily;
-use sqlx_pool::{Held, Loans, MarkLog, Tally};
+use sqlx_pool_base::{Held, Loans, MarkLog, Tally};
 use sqlx_pool_core::{Idle, Lent, PoolOptions};
 use sqlx_text::{Depth, Error, Moment, OutOfMemory};
 use std::alloc::Global;

@@ -11,7 +11,8 @@ ghost use Rattle.sqlx_family.specs.FamilyLogs.{FamilyLogs};
 ghost use Rattle.sqlx_family_steps.specs.FamilySteps.{core_after_ask};
 
 use sqlx_family::Family;
-use sqlx_pool_core::{Lent, Mark};
+use sqlx_log::Mark;
+use sqlx_pool_lists::Lent;
 use sqlx_pool_parts::record;
 use sqlx_text::Moment;
 use std::alloc::Global;

@@ -9,7 +9,8 @@ ghost use Rattle.sqlx_family.specs.Permits.{retiring, settled};
 ghost use Rattle.sqlx_family.specs.FamilyLogs.{FamilyLogs};
 
 use sqlx_family::Family;
-use sqlx_pool_core::{Idle, Mark};
+use sqlx_log::Mark;
+use sqlx_pool_lists::Idle;
 use sqlx_pool_parts::record;
 use std::collections::VecDeque;
 

@@ -14,7 +14,8 @@ ghost use Rattle.sqlx_family.specs.Permits.{stepped};
 ghost use Rattle.sqlx_family.specs.FamilyLogs.{FamilyLogs};
 
 use sqlx_family::Family;
-use sqlx_pool_core::{AfterConnect, AfterTest, Mark, Start, Tried, Verdict};
+use sqlx_log::Mark;
+use sqlx_pool_lists::{AfterConnect, AfterTest, Start, Tried, Verdict};
 use sqlx_pool_parts::answers::judged_of;
 use sqlx_pool_parts::record;
 use sqlx_text::Moment;

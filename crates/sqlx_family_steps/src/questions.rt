@@ -6,7 +6,7 @@ ghost use Rattle.sqlx_family.specs.Pools.{pool_in, counts_as_closed};
 ghost use Rattle.sqlx_pool_parts.specs.MarkLog.{IsUncut};
 
 use sqlx_family::Family;
-use sqlx_pool_core::Mark;
+use sqlx_log::Mark;
 use sqlx_pool_parts::MarkLog;
 use sqlx_text::OutOfMemory;
 use std::alloc::Global;

@@ -11,7 +11,8 @@ ghost use Rattle.sqlx_family.specs.Permits.{stepped};
 ghost use Rattle.sqlx_family.specs.FamilyLogs.{FamilyLogs};
 
 use sqlx_family::Family;
-use sqlx_pool_core::{Given, Lent, Mark};
+use sqlx_log::Mark;
+use sqlx_pool_lists::{Given, Lent};
 use sqlx_pool_parts::record;
 use sqlx_text::Moment;
 

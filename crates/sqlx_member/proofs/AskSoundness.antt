@@ -9,7 +9,7 @@ use Rattle.sqlx_pool_lists.specs.declared.steps.Idle.{Idle}
 use Rattle.sqlx_pool_lists.specs.Core.{Core, has_gone, is_out, free}
 use Rattle.sqlx_pool_lists.specs.Sound.{IsSound, IsRising, number_of, tests, holds, rests, places_of, is_tested}
 use Rattle.sqlx_log.proofs.Counting.{one, count-push, count-cons}
-use Rattle.sqlx_pool_lists.proofs.Counting.{rising-push}
+use Rattle.sqlx_tickets.proofs.Counting.{rising-push}
 use Rattle.sqlx_member.proofs.Found.{rising-bound}
 
 -- a new ticket waits

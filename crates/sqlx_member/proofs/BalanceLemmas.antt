@@ -22,7 +22,7 @@ use Rattle.sqlx_pool_lists.specs.declared.steps.Given.{Given}
 use Rattle.sqlx_pool_lists.specs.declared.steps.Given.TheVariants as given
 use Rattle.sqlx_pool_lists.specs.Core.{Core, is_out, waits, ticket_of, loan_of}
 use Rattle.sqlx_pool_lists.specs.Sound.{IsSound, holds, rests}
-use Rattle.sqlx_pool_lists.specs.Place.{IsAmong}
+use Rattle.sqlx_tickets.specs.Place.{IsAmong}
 use Rattle.sqlx_pool_lists.specs.CoreTurn.{turn_of}
 use Rattle.sqlx_log.specs.PollTable.{in_time, first_idle}
 use Rattle.sqlx_pool_lists.specs.PollTable.{is_at_rest, backs_off_until}
@@ -35,7 +35,7 @@ use Rattle.sqlx_pool_lists.specs.Balance.{tests_one, is_testing, tests_left, lef
 use Rattle.sqlx_log.proofs.ListFacts.{found_counts, length-filter_not, length-push, length_map, count_by-cons, same_number}
 use Rattle.sqlx_log.proofs.Counting.{one, count-filter, count-push}
 use Rattle.std.proofs.lemmas.Bool.{ltb-true}
-use Rattle.sqlx_pool_lists.proofs.Counting.{count-changed, sum-changed, sum-ended, sum-push}
+use Rattle.sqlx_tickets.proofs.Counting.{count-changed, sum-changed, sum-ended, sum-push}
 use Rattle.sqlx_member.proofs.PollCode.{among}
 use Rattle.sqlx_member.proofs.Known.{loan-found}
 

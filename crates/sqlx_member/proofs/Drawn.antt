@@ -35,7 +35,7 @@ use Rattle.sqlx_member.specs.ReturnSteps.{give_marks, core_after_give, end_marks
 use Rattle.sqlx_pool_lists.specs.MaintenanceSteps.{reap_marks, reaped, has_place_if, placed, done_marks, placed_back, done_at, done, closed_idle, close_marks, close_answer, closed, closed_from}
 use Rattle.std.proofs.lemmas.Bool.{ltb-false}
 use Rattle.sqlx_log.proofs.Counting.{one, count-push}
-use Rattle.sqlx_pool_lists.proofs.Counting.{count-changed}
+use Rattle.sqlx_tickets.proofs.Counting.{count-changed}
 use Rattle.sqlx_member.proofs.PollCode.{among}
 use Rattle.sqlx_member.proofs.TurnCases.{turn-test, turn-connect}
 use Rattle.sqlx_member.proofs.Known.{gone-ended_le, gone-ended}

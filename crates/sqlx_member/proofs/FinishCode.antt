@@ -11,11 +11,11 @@ use Rattle.sqlx_pool_lists.specs.Sound.{IsSound, is_tested}
 use Rattle.sqlx_pool_lists.specs.declared.steps.Idle.{Idle}
 use Rattle.sqlx_pool_lists.specs.declared.steps.AfterTest.TheVariants as tested
 use Rattle.sqlx_pool_lists.specs.Edits.{with_ticket, without_ticket, to_next, to_back_off}
-use Rattle.sqlx_pool_lists.specs.Place.{IsAmong}
+use Rattle.sqlx_tickets.specs.Place.{IsAmong}
 use Rattle.sqlx_pool_lists.specs.PollSteps.{tested_at, after_test, wait_of}
 use Rattle.sqlx_member.proofs.PollCode.{among, changed-const}
 use Rattle.sqlx_log.proofs.Counting.{one}
-use Rattle.sqlx_pool_lists.proofs.Counting.{count-ended}
+use Rattle.sqlx_tickets.proofs.Counting.{count-ended}
 use Rattle.sqlx_member.proofs.Soundness.{sound-served_tested, sound-served_new, sound-goes_on, sound-to_next}
 
 tested_here : (c d n : ℕ) (kept created : Moment) → (b : Bool) → (c == d) ≡ b → c ≡ d → (if b then Some kept else None) ≡ Some created → phase.Testing d kept n ≡ phase.Testing c created n

@@ -5,7 +5,7 @@ use Rattle.sqlx_pool_lists.specs.declared.ticket.Ticket.{Ticket}
 use Rattle.sqlx_pool_lists.specs.Core.{is_of, ticket_of}
 use Rattle.sqlx_pool_lists.specs.Sound.{IsRising, number_of}
 use Rattle.sqlx_pool_lists.specs.Edits.{with_ticket, without_ticket}
-use Rattle.sqlx_pool_lists.specs.Place.{IsAmong}
+use Rattle.sqlx_tickets.specs.Place.{IsAmong}
 
 -- numbers that rise from above n on
 pub rising-bound : (low : ℕ) (ns : List ℕ) (high : ℕ) → IsRising low ns high → low ≤ high

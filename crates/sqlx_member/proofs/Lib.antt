@@ -21,3 +21,5 @@ pub mod MaintenanceCode
 pub mod BalanceLemmas
 pub mod Drawn
 pub mod SharedLemmas
+pub mod CheckKeeps
+pub mod CheckEnds

@@ -9,7 +9,7 @@ use Rattle.sqlx_pool_lists.specs.MaintenanceSteps.{is_reaped_at, without_first, 
 use Rattle.sqlx_log.proofs.ListFacts.{found_counts, filter_none, length-filter_not, count_by-cons, same_number}
 use Rattle.sqlx_log.proofs.Counting.{one, count-filter, count-push}
 use Rattle.sqlx_member.proofs.Soundness.{one-le}
-use Rattle.sqlx_pool_lists.proofs.IdleQueues.{all-left}
+use Rattle.sqlx_connections.proofs.IdleQueues.{all-left}
 
 -- ---- reaped
 

@@ -11,7 +11,7 @@ use Rattle.sqlx_pool_lists.specs.Core.{Core, ticket_of, free}
 use Rattle.sqlx_pool_lists.specs.Sound.{IsSound, number_of}
 use Rattle.sqlx_pool_lists.specs.CoreTurn.{turn_of}
 use Rattle.sqlx_pool_lists.specs.Edits.{with_ticket, to_test, to_try, to_try_at}
-use Rattle.sqlx_pool_lists.specs.Place.{IsAmong}
+use Rattle.sqlx_tickets.specs.Place.{IsAmong}
 use Rattle.sqlx_pool_lists.specs.PollSteps.{started}
 use Rattle.sqlx_member.proofs.Found.{found-among, found-is}
 use Rattle.sqlx_member.proofs.TurnCases.{turn-test, turn-connect}

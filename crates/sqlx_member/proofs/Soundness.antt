@@ -9,9 +9,9 @@ use Rattle.sqlx_pool_lists.specs.declared.steps.Idle.{Idle}
 use Rattle.sqlx_pool_lists.specs.Core.{Core, has_gone, size, taken, is_out, free}
 use Rattle.sqlx_pool_lists.specs.Sound.{IsSound, IsNumbered, IsRising, number_of, tests, holds, rests, places_of, is_tested}
 use Rattle.sqlx_pool_lists.specs.Edits.{with_ticket, without_ticket, is_another_ticket, core_without_ticket, at_moment, to_test, to_next, to_try, to_try_at, to_connect}
-use Rattle.sqlx_pool_lists.specs.Place.{IsAmong}
+use Rattle.sqlx_tickets.specs.Place.{IsAmong}
 use Rattle.sqlx_log.proofs.Counting.{one, count-filter, count-push, count-cons}
-use Rattle.sqlx_pool_lists.proofs.Counting.{count-changed, count-ended, numbers-changed, rising-filter}
+use Rattle.sqlx_tickets.proofs.Counting.{count-changed, count-ended, numbers-changed, rising-filter}
 
 pub sound-ended : {C : Type 0} (t m : ℕ) (core : Core C) → IsSound core → IsSound (at_moment m (core_without_ticket t core))
 sound-ended t m core s = record {

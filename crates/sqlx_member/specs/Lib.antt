@@ -5,3 +5,5 @@ pub mod Outside
 pub mod Chain
 pub mod ReturnSteps
 pub mod Giving
+pub mod CameTo
+pub mod Answers

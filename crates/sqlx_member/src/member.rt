@@ -18,10 +18,10 @@ mod maintenance;
 mod poll;
 pub mod shared;
 
-use sqlx_pool_lists::{
-    CloseState, HeldList, IdleList, Numbers, Phase, PoolOptions, Ticket, Tickets,
-};
+use sqlx_connections::{HeldList, IdleList};
+use sqlx_pool_lists::{CloseState, Numbers, Phase, PoolOptions, Ticket};
 use sqlx_text::{Moment, OutOfMemory};
+use sqlx_tickets::Tickets;
 use std::alloc::Global;
 use std::marker::Model;
 

@@ -1,9 +1,1 @@
-pub mod StepLemmas
-pub mod CutLemmas
-pub mod LeavesLemmas
-pub mod RefusalLemmas
 pub mod HandleLemmas
-pub mod SeenLemmas
-pub mod AskLemmas
-pub mod EndLemmas
-pub mod TallyLemmas

@@ -4,7 +4,7 @@ use Rattle.sqlx_text.specs.declared.error.Error.{Error}
 use Rattle.sqlx_text.specs.declared.error.Error.TheVariants as error
 use Rattle.sqlx_text.specs.declared.io_fault.IoFault.TheVariants.{Other}
 use Rattle.sqlx_pool_parts.specs.Booked.{Tallied, CountsIf}
-use Rattle.sqlx_pool.specs.Refusals.{IsPollRefusal}
+use Rattle.sqlx_pool_base.specs.Refusals.{IsPollRefusal}
 
 -- one of the two errors of a begin, which an executor may not answer
 abbrev pub is_of_begin : Error → Bool

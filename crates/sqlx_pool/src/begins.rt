@@ -3,10 +3,11 @@
 ghost use Rattle.std.specs.Prelude.{◌≡◌, ◌<◌, ◌≤◌, ℕ, None, Some};
 ghost use Rattle.sqlx_pool.specs.Begun.{Begins, BeginsLent, BegunOnLent, has_lent, was_lent};
 ghost use Rattle.sqlx_pool_parts.specs.Booked.{CountsIf};
-ghost use Rattle.sqlx_pool.specs.Refusals.{AreLoansUsed, IsPollRefusal, IsTryRefusal};
-ghost use Rattle.sqlx_pool.specs.Seen.{Saw};
+ghost use Rattle.sqlx_pool_base.specs.Refusals.{AreLoansUsed, IsPollRefusal, IsTryRefusal};
+ghost use Rattle.sqlx_pool_base.specs.Seen.{Saw};
 
-use crate::{BeginRefused, Clock, Loans, Pool, PoolConnection, PoolOf, Tally};
+use crate::BeginRefused;
+use sqlx_pool_base::{Clock, Loans, Pool, PoolConnection, PoolOf, Tally};
 use sqlx_pool_core::Outside;
 use sqlx_text::{Error, Moment, SqlStr};
 use sqlx_traits::Database;

@@ -2,9 +2,9 @@
 
 ghost use Rattle.std.specs.Prelude.{◌≡◌, ℕ, ◌<◌, ◌≤◌, true, IfOk, IfErr, OnOk, OnErr};
 ghost use Rattle.sqlx_pool_parts.specs.Booked.{CountsIf};
-ghost use Rattle.sqlx_pool.specs.Refusals.{IsPollRefusal};
+ghost use Rattle.sqlx_pool_base.specs.Refusals.{IsPollRefusal};
 
-use crate::{Clock, Loans, PoolConnectionOf, PoolOf, Tally};
+use sqlx_pool_base::{Clock, Loans, PoolConnectionOf, PoolOf, Tally};
 use sqlx_pool_core::Outside;
 use sqlx_text::{Depth, Error};
 use std::alloc::Global;

@@ -3,12 +3,13 @@
 ghost use Rattle.std.specs.Prelude.{◌≡◌, ℕ, ◌<◌, ◌≤◌, true, IfOk, IfErr, OnOk, OnErr};
 ghost use Rattle.sqlx_member.specs.Outside.{HasRisen};
 ghost use Rattle.sqlx_pool_parts.specs.Booked.{CountsIf};
-ghost use Rattle.sqlx_pool.specs.Refusals.{IsPollRefusal};
+ghost use Rattle.sqlx_pool_base.specs.Refusals.{IsPollRefusal};
 
 mod executor;
 
+use crate::Acquire;
 use crate::counting::Counting;
-use crate::{Acquire, Clock, Loans, PoolConnection, PoolConnectionOf, PoolOf, Tally};
+use sqlx_pool_base::{Clock, Loans, PoolConnection, PoolConnectionOf, PoolOf, Tally};
 use sqlx_pool_core::Outside;
 use sqlx_text::{Depth, Error};
 use sqlx_traits::{Database, Faults};
@@ -19,8 +20,8 @@ use std::sync::ledger::Ledger;
 /// A pool, with all that a call of it takes: what tells the time, the outside, and the tally of its loans. Each call as an
 /// executor waits for a connection, makes one call on it and returns it.
 #[derive(Drop)]
-pub struct PoolHandle<'p, C: Depth, O, H: Ledger, L: Loans, R, K, X> {
-    pool: &'p PoolOf<C, O, H, L>,
+pub struct PoolHandle<'p, P, L: Loans, R, K, X> {
+    pool: &'p P,
     rt: R,
     clock: K,
     client: u32,
@@ -30,16 +31,17 @@ pub struct PoolHandle<'p, C: Depth, O, H: Ledger, L: Loans, R, K, X> {
     calls: u64,
 }
 
-impl<C: Depth + Drop, O: Drop, H: Ledger, L: Loans> PoolOf<C, O, H, L> {
+/// A pool that serves as an executor.
+pub trait PoolExecutor<L: Loans>: Sized {
     /// The pool as an executor, for a client. In sqlx: `&pool`.
-    pub fn with<'p, R: Wait, K: Clock, X: Outside<C, O>>(
+    final fn with<'p, R: Wait, K: Clock, X>(
         &'p self,
         rt: R,
         clock: K,
         client: u32,
         out: X,
         tally: Tally<L>,
-    ) -> PoolHandle<'p, C, O, H, L, R, K, X>
+    ) -> PoolHandle<'p, Self, L, R, K, X>
         requires { 0 < tally.parts }
         ensures clock { result.clock ≡ clock }
         ensures out { result.out ≡ out }
@@ -57,7 +59,9 @@ impl<C: Depth + Drop, O: Drop, H: Ledger, L: Loans> PoolOf<C, O, H, L> {
     }
 }
 
-impl<'p, C: Depth, O, H: Ledger, L: Loans, R, K, X> Faults for PoolHandle<'p, C, O, H, L, R, K, X> {
+impl<C: Depth, O, H: Ledger, L: Loans> PoolExecutor<L> for PoolOf<C, O, H, L> {}
+
+impl<'p, P, L: Loans, R, K, X> Faults for PoolHandle<'p, P, L, R, K, X> {
     ghost faults = { λ handle. handle.calls };
 }
 
@@ -70,7 +74,7 @@ impl<
     R: Wait + Drop,
     K: Clock,
     X: Outside<C, O>,
-> PoolHandle<'p, C, O, H, L, R, K, X> {
+> PoolHandle<'p, PoolOf<C, O, H, L>, L, R, K, X> {
     /// What tells the time, the outside, and the tally with the loans that were made.
     pub fn into_parts(self) -> (K, X, Tally<L>)
         ensures clock { result.0 ≡ self.entry.clock }
@@ -129,7 +133,7 @@ impl<
     R: Wait + Drop,
     K: Clock,
     X: Outside<DB::Connection, DB::Options>,
-> Acquire<DB> for &'h mut PoolHandle<'p, DB::Connection, DB::Options, H, L, R, K, X>
+> Acquire<DB> for &'h mut PoolHandle<'p, PoolOf<DB::Connection, DB::Options, H, L>, L, R, K, X>
 where
     DB::Connection: Drop,
 {

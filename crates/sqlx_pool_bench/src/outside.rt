@@ -2,7 +2,7 @@
 
 ghost use Rattle.sqlx_member.specs.Calls as call;
 
-use sqlx_pool::PoolConnectionMetadata;
+use sqlx_pool_base::PoolConnectionMetadata;
 use sqlx_pool_core::Outside;
 use sqlx_text::{Depth, Error};
 use std::alloc::Global;

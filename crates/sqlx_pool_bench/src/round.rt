@@ -6,7 +6,7 @@ use crate::nanos;
 use crate::outside::{Conn, Opens};
 use crate::words::Words;
 use crate::worker::{Job, Part, work_off};
-use sqlx_pool::{Loans, PoolConnect, PoolOf, PoolOptions, Tally};
+use sqlx_pool_base::{Loans, PoolConnect, PoolOf, PoolOptions, Tally};
 use sqlx_text::Moment;
 use std::alloc::{AllocError, Global};
 use std::marker::Brand;

@@ -4,7 +4,7 @@ ghost use Rattle.std.specs.Prelude.{◌≡◌, ◌+◌, ◌^◌, ◌<◌, ◌≤
 
 use crate::nanos;
 use crate::outside::{Conn, Opens};
-use sqlx_pool::{FixedClock, Loans, PoolOf, Tally};
+use sqlx_pool_base::{FixedClock, Loans, PoolOf, Tally};
 use sqlx_text::Moment;
 use std::alloc::Global;
 use std::rt::Clock;

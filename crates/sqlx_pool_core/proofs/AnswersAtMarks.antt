@@ -20,7 +20,7 @@ use Rattle.sqlx_pool_lists.specs.Core.{Core, is_out, is_held_by, asking, loan, r
 use Rattle.sqlx_pool_lists.specs.Sound.{IsSound, holds}
 use Rattle.sqlx_pool_lists.specs.StandsFor.{StandsFor}
 use Rattle.sqlx_pool_lists.specs.PollSteps.{phase_for, may_cancel, is_in_line, try_lent}
-use Rattle.sqlx_pool_core.specs.Answers.{is_busy, lent_conn, is_kept, is_held}
+use Rattle.sqlx_member.specs.Answers.{is_busy, lent_conn, is_kept, is_held}
 use Rattle.sqlx_member.specs.ReturnSteps.{give_answer}
 use Rattle.sqlx_pool_core.proofs.MaintenanceAtMarks.{passes-at}
 use Rattle.sqlx_member.proofs.Known.{loan-found}

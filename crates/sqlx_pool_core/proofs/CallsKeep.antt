@@ -1,73 +1,29 @@
 -- What no call of the outside changes, over the chains of calls that a test, a try, a poll and a keeping of the minimum are.
-use Rattle.std.proofs.Common.{◌≡◌, ℕ, ◌≤◌, Bool, true, false, List, [], ◌∷◌, Result, Ok, Err, sym, subst, arith}
-use Rattle.sqlx_text.specs.declared.error.Error.{Error}
+use Rattle.std.proofs.Common.{ℕ, ◌≤◌, List, [], ◌∷◌}
 use Rattle.sqlx_log.specs.declared.mark.Mark.{Mark}
-use Rattle.sqlx_pool_lists.specs.declared.options.PoolOptions.{PoolOptions}
-use Rattle.sqlx_member.specs.declared.outside.PoolConnectionMetadata.{PoolConnectionMetadata}
-use Rattle.sqlx_member.specs.declared.idle_check.Check.{Check}
-use Rattle.sqlx_member.specs.declared.idle_check.Check.TheVariants as check
 use Rattle.sqlx_member.specs.declared.idle_check.Opening.{Opening}
 use Rattle.sqlx_member.specs.declared.idle_check.Opening.TheVariants as opening
-use Rattle.sqlx_pool_lists.specs.declared.steps.Idle.{Idle}
-use Rattle.sqlx_pool_lists.specs.declared.steps.Lent.{Lent}
 use Rattle.sqlx_pool_lists.specs.declared.steps.Openings.{Openings}
 use Rattle.sqlx_pool_lists.specs.declared.steps.Polled.{Polled}
 use Rattle.sqlx_pool_lists.specs.declared.steps.Verdict.{Verdict}
-use Rattle.sqlx_member.specs.Calls.{Call, connect, ping, after_connect, before_acquire, close, close_hard}
-use Rattle.sqlx_member.specs.Chain.{new_meta, Pings, LooksIf, Sorts, Tests, SetsUp, KeepsIf, Follows, Tries}
+use Rattle.sqlx_member.specs.Calls.{Call}
 use Rattle.sqlx_pool_lists.specs.Core.{Core}
 use Rattle.sqlx_pool_core.specs.Minimum.{filled, Keeps, KeepsMinimum}
 use Rattle.sqlx_pool_lists.specs.PollSteps.{after_test}
 use Rattle.sqlx_pool_core.specs.Walk.{Next, Test, Connect, Answer, then_by, judges, Goes, Polls}
+use Rattle.sqlx_member.proofs.CheckKeeps.{kept, risen, same, tests-keep, tries-keep}
 
--- a fact that no call ends, over what a test and a try do
+-- a fact that no call ends, over a whole poll and the minimum
 module _ {C O X : Type 0} (does : Call C O → X → X → Type 0) (depth : X → C → ℕ) (P : X → Type 0) (step : (c : Call C O) (old new : X) → does c old new → P old → P new) where
-  kept : (old new : X) → new ≡ old → P old → P new
-  kept old new e h = subst P (sym e) h
-
-  ping-keeps : (asked : Bool) (raw now : C) (good : Bool) (old new : X) → P old → Pings does depth asked raw now good old new → P new
-  ping-keeps true raw now good old new h p = step (ping raw p.0 now) old new p.1 h
-  ping-keeps false raw now good old new h p = kept old new p.2 h
-
-  look-keeps : (good hook : Bool) (meta : PoolConnectionMetadata) (raw now : C) (c : Check) (old new : X) → P old → LooksIf does depth good hook meta raw now c old new → P new
-  look-keeps true true meta raw now c old new h p = step (before_acquire raw meta p.0 now) old new p.1 h
-  look-keeps true false meta raw now c old new h p = kept old new p.2 h
-  look-keeps false hook meta raw now c old new h p = kept old new p.2 h
-
-  sort-keeps : (c : Check) (lent : Lent C) (v : Verdict C) (old new : X) → P old → Sorts does depth c lent v old new → P new
-  sort-keeps check.Pass lent v old new h s = kept old new s.1 h
-  sort-keeps check.Close lent v old new h s = step (close lent.raw) old new s.1 h
-  sort-keeps check.CloseHard lent v old new h s = step (close_hard lent.raw) old new s.1 h
-
-  pub tests-keep : (options : PoolOptions) (m : ℕ) (i : Idle C) (v : Verdict C) (old new : X) → P old → Tests does depth options m i v old new → P new
-  tests-keep options m i v old new h t =
-      let k = t.checks in
-      sort-keeps t.check (record i.lent { raw = t.raw }) v t.between new (look-keeps _ _ _ _ _ _ _ _ (ping-keeps _ _ _ _ _ _ h k.pings) k.looks) t.sorts
-
-  set-keeps : (hook : Bool) (raw now : C) (good : Bool) (old new : X) → P old → SetsUp does depth hook raw now good old new → P new
-  set-keeps true raw now good old new h s = step (after_connect raw new_meta s.0 now) old new s.1 h
-  set-keeps false raw now good old new h s = kept old new s.2 h
-
-  keep-keeps : (good : Bool) (raw : C) (o : Opening C) (old new : X) → P old → KeepsIf does depth good raw o old new → P new
-  keep-keeps true raw o old new h k = kept old new k.1 h
-  keep-keeps false raw o old new h k = step (close_hard raw) old new k.1 h
-
-  follow-keeps : (hook : Bool) (r : Result C Error) (o : Opening C) (old new : X) → P old → Follows does depth hook r o old new → P new
-  follow-keeps hook (Ok raw) o old new h f = keep-keeps f.good f.now o f.between new (set-keeps hook raw f.now f.good old f.between h f.sets_up) f.keeps
-  follow-keeps hook (Err e) o old new h f = kept old new f.1 h
-
-  pub tries-keep : (hook : Bool) (options : O) (o : Opening C) (old new : X) → P old → Tries does depth hook options o old new → P new
-  tries-keep hook options o old new h t = follow-keeps hook t.answer o t.between new (step (connect options t.answer) old t.between t.connects h) t.follows
-
   -- ---- a poll
 
   goes-keep : (options : O) (k t m : ℕ) (verdicts : List (Verdict C)) (next : Next C) (core new : Core C) (old now : X) (r : Polled C) (made : List Mark) → P old
       → Goes does depth options k t m verdicts next core new old now r made → P now
-  goes-keep options k t m [] (Answer a) core new old now r made h g = kept old now g.3 h
-  goes-keep options k t m [] Connect core new old now r made h g = tries-keep core.options.after_connect options g.opening old now h g.tries
+  goes-keep options k t m [] (Answer a) core new old now r made h g = kept does depth P step old now g.3 h
+  goes-keep options k t m [] Connect core new old now r made h g = tries-keep does depth P step core.options.after_connect options g.opening old now h g.tries
   goes-keep options k t m [] (Test i) core new old now r made h g = absurd g
   goes-keep options k t m (v ∷ vs) (Test i) core new old now r made h g =
-      goes-keep options k t m vs (then_by (judges k t core i v)) (after_test k t (judges k t core i v) core) new g.0 now r g.1.0 (tests-keep core.options m i v old g.0 h g.1.1.0) g.1.1.2
+      goes-keep options k t m vs (then_by (judges k t core i v)) (after_test k t (judges k t core i v) core) new g.0 now r g.1.0 (tests-keep does depth P step core.options m i v old g.0 h g.1.1.0) g.1.1.2
   goes-keep options k t m (v ∷ vs) (Answer a) core new old now r made h g = absurd g
   goes-keep options k t m (v ∷ vs) Connect core new old now r made h g = absurd g
 
@@ -77,12 +33,12 @@ module _ {C O X : Type 0} (does : Call C O → X → X → Type 0) (depth : X �
   -- ---- the minimum
 
   places-keep : (options : O) (now : ℕ) (tries : List (Opening C)) (core new : Core C) (old out : X) → P old → Keeps does depth options now tries core new old out → P out
-  places-keep options now [] core new old out h k = kept old out k.2 h
+  places-keep options now [] core new old out h k = kept does depth P step old out k.2 h
   places-keep options now (opening.Opened raw ∷ tries) core new old out h k =
-      places-keep options now tries (filled now (opening.Opened raw) core) new k.1.0 out (tries-keep core.options.after_connect options (opening.Opened raw) old k.1.0 h k.1.1.0) k.1.1.2
-  places-keep options now (opening.Rejected ∷ []) core new old out h k = tries-keep core.options.after_connect options opening.Rejected old out h k.1
-  places-keep options now (opening.Transient ∷ []) core new old out h k = tries-keep core.options.after_connect options opening.Transient old out h k.1
-  places-keep options now (opening.Failed e ∷ []) core new old out h k = tries-keep core.options.after_connect options (opening.Failed e) old out h k.1
+      places-keep options now tries (filled now (opening.Opened raw) core) new k.1.0 out (tries-keep does depth P step core.options.after_connect options (opening.Opened raw) old k.1.0 h k.1.1.0) k.1.1.2
+  places-keep options now (opening.Rejected ∷ []) core new old out h k = tries-keep does depth P step core.options.after_connect options opening.Rejected old out h k.1
+  places-keep options now (opening.Transient ∷ []) core new old out h k = tries-keep does depth P step core.options.after_connect options opening.Transient old out h k.1
+  places-keep options now (opening.Failed e ∷ []) core new old out h k = tries-keep does depth P step core.options.after_connect options (opening.Failed e) old out h k.1
   places-keep options now (opening.Rejected ∷ o ∷ tries) core new old out h k = absurd k
   places-keep options now (opening.Transient ∷ o ∷ tries) core new old out h k = absurd k
   places-keep options now (opening.Failed e ∷ o ∷ tries) core new old out h k = absurd k
@@ -92,25 +48,9 @@ module _ {C O X : Type 0} (does : Call C O → X → X → Type 0) (depth : X �
 
 -- ---- counts
 
-trans : (a b c : ℕ) → a ≤ b → b ≤ c → a ≤ c
-trans a b c h k = omega arith
-
-same : (n : ℕ) → n ≤ n
-same n = omega arith
-
 module _ {C O X : Type 0} (does : Call C O → X → X → Type 0) (depth : X → C → ℕ) (count : X → ℕ) (more : (c : Call C O) (old new : X) → does c old new → count old ≤ count new) where
-  -- a count that no call lowers
-  risen : (old : X) (c : Call C O) (x y : X) → does c x y → count old ≤ count x → count old ≤ count y
-  risen old c x y d h = trans (count old) (count x) (count y) h (more c x y d)
-
-  pub tests-more : (options : PoolOptions) (m : ℕ) (i : Idle C) (v : Verdict C) (old new : X) → Tests does depth options m i v old new → count old ≤ count new
-  tests-more options m i v old new t = tests-keep does depth (λ x. count old ≤ count x) (risen old) options m i v old new (same (count old)) t
-
-  pub tries-more : (hook : Bool) (options : O) (o : Opening C) (old new : X) → Tries does depth hook options o old new → count old ≤ count new
-  tries-more hook options o old new t = tries-keep does depth (λ x. count old ≤ count x) (risen old) hook options o old new (same (count old)) t
-
   pub polls-more : (options : O) (k t m : ℕ) (core new : Core C) (old now : X) (r : Polled C) → Polls does depth options k t m core new old now r → count old ≤ count now
-  polls-more options k t m core new old now r p = polls-keep does depth (λ x. count old ≤ count x) (risen old) options k t m core new old now r (same (count old)) p
+  polls-more options k t m core new old now r p = polls-keep does depth (λ x. count old ≤ count x) (risen does depth count more old) options k t m core new old now r (same (count old)) p
 
   pub minimum-more : (options : O) (now : ℕ) (core new : Core C) (old out : X) (r : Openings) → KeepsMinimum does depth options now core new old out r → count old ≤ count out
-  minimum-more options now core new old out r k = minimum-keeps does depth (λ x. count old ≤ count x) (risen old) options now core new old out r (same (count old)) k
+  minimum-more options now core new old out r k = minimum-keeps does depth (λ x. count old ≤ count x) (risen does depth count more old) options now core new old out r (same (count old)) k

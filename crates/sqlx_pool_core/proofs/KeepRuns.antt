@@ -16,7 +16,7 @@ use Rattle.sqlx_member.specs.Logs.{Logs}
 use Rattle.sqlx_pool_core.specs.Minimum.{raw_of, filled, filled_marks, opened_of, openings_made, IsFresh, Opens, Keeps, KeepsMinimum}
 use Rattle.sqlx_pool_core.proofs.Maintenance.{place-open}
 use Rattle.sqlx_pool_core.proofs.Polling.{logs-then, logs-by}
-use Rattle.sqlx_pool_core.proofs.PollEnds.{tries-rest}
+use Rattle.sqlx_member.proofs.CheckEnds.{tries-rest}
 use Rattle.sqlx_pool_core.proofs.Lacking.{below-lack, place-left}
 use Rattle.sqlx_member.proofs.Fair.{makes-nothing}
 

@@ -10,7 +10,7 @@ use Rattle.sqlx_line.proofs.Edge.{left_out, below-joined, below-left_out, length
 use Rattle.sqlx_pool_lists.specs.Core.{Core, waiting, free}
 use Rattle.sqlx_pool_lists.specs.Sound.{IsSound, IsRising}
 use Rattle.sqlx_pool_core.specs.KeptLine.{waiting_numbers, IsLined, IsNearlyLined, let_in}
-use Rattle.sqlx_pool_lists.proofs.Counting.{rising-filter}
+use Rattle.sqlx_tickets.proofs.Counting.{rising-filter}
 use Rattle.sqlx_pool_lists.specs.Core.{waits}
 use Rattle.sqlx_pool_core.proofs.WaitingNumbers.{length-numbers, numbers-below, numbers-sorted}
 

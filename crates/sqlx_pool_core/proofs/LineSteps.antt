@@ -10,7 +10,7 @@ use Rattle.sqlx_log.proofs.Counting.{one, count-cons, count-push}
 use Rattle.sqlx_log.specs.PollTable.{turn_at_rest}
 use Rattle.sqlx_pool_lists.specs.PollTable.{is_at_rest, backs_off_until}
 use Rattle.sqlx_pool_lists.specs.CoreTurn.{before, is_first_in_line, turn_of, core_turn}
-use Rattle.sqlx_pool_lists.proofs.Counting.{count-ended}
+use Rattle.sqlx_tickets.proofs.Counting.{count-ended}
 use Rattle.sqlx_member.proofs.TurnCases.{turn-test, turn-connect}
 use Rattle.sqlx_line.specs.Line.{TicketLine, is_waiting, is_below_edge, entitled, pushed, without}
 use Rattle.sqlx_line.proofs.Edge.{left_out, below, edge_tells}
@@ -41,7 +41,7 @@ use Rattle.sqlx_pool_lists.specs.Balance.{Balance, is_asked, is_ended, is_lent, 
 use Rattle.sqlx_member.specs.ReturnSteps.{give_marks, core_after_give, end_marks, released, detach_marks, leak_marks, leaked}
 use Rattle.sqlx_pool_lists.specs.MaintenanceSteps.{done, has_place_if, placed, closed_from, reaped}
 use Rattle.sqlx_pool_core.specs.KeptLine.{waiting_numbers, IsLined, IsNearlyLined, IsLone, leaves, taken_out}
-use Rattle.sqlx_pool_lists.proofs.TicketPlaces.{all-counted}
+use Rattle.sqlx_tickets.proofs.TicketPlaces.{all-counted}
 use Rattle.sqlx_member.proofs.PollCode.{among}
 use Rattle.sqlx_pool_core.proofs.WaitingNumbers.{length-numbers, numbers-asked, numbers-ended, numbers-left, numbers-without, numbers-with, before-numbers}
 use Rattle.sqlx_pool_core.proofs.KeptLine.{nearly-beside, nearly-ended, nearly-left, nearly-asked, lined-beside, lined-past, one_if_waiting, Fewer, fewer, line-rises}

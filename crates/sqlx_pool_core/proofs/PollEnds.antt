@@ -1,20 +1,14 @@
 -- What a whole poll answers, by the calls that it made.
-use Rattle.std.proofs.Common.{◌≡◌, ◌==◌, ℕ, ◌≤◌, ◌<◌, ◌⊎◌, inl, inr, Bool, true, false, cond, Option, Some, None, List, [], ◌∷◌, ◌++◌, ◌+◌, drop, All, Result, Ok, Err, refl, sym, ap, subst, ◌∙◌, arith}
-use Rattle.std.proofs.lemmas.Bool.{eqb-true, ltb-true}
+use Rattle.std.proofs.Common.{◌≡◌, ℕ, ◌≤◌, ◌<◌, Bool, true, false, Option, Some, None, List, [], ◌∷◌, ◌++◌, ◌+◌, drop, All, refl, sym, ap, subst, ◌∙◌, arith}
+use Rattle.std.proofs.lemmas.Bool.{ltb-true}
 use Rattle.std.proofs.lemmas.List.{append_assoc}
 use Rattle.std.proofs.lemmas.List.Elements.{All-head, All-tail}
 use Rattle.sqlx_text.specs.declared.Moment.{Moment}
 use Rattle.sqlx_text.specs.declared.error.Error.{Error}
-use Rattle.sqlx_text.specs.declared.error.Error.TheVariants.{OutOfMemory}
 use Rattle.sqlx_log.specs.declared.mark.Mark.{Mark}
-use Rattle.sqlx_pool_lists.specs.declared.options.PoolOptions.{PoolOptions}
-use Rattle.sqlx_member.specs.declared.outside.PoolConnectionMetadata.{PoolConnectionMetadata}
-use Rattle.sqlx_member.specs.declared.idle_check.Check.{Check}
-use Rattle.sqlx_member.specs.declared.idle_check.Check.TheVariants as check
 use Rattle.sqlx_member.specs.declared.idle_check.Opening.{Opening}
 use Rattle.sqlx_member.specs.declared.idle_check.Opening.TheVariants as opening
 use Rattle.sqlx_pool_lists.specs.declared.steps.Idle.{Idle}
-use Rattle.sqlx_pool_lists.specs.declared.steps.Lent.{Lent}
 use Rattle.sqlx_pool_lists.specs.declared.steps.Start.{Start}
 use Rattle.sqlx_pool_lists.specs.declared.steps.Start.TheVariants as start
 use Rattle.sqlx_pool_lists.specs.declared.steps.Verdict.{Verdict}
@@ -26,110 +20,17 @@ use Rattle.sqlx_pool_lists.specs.declared.steps.AfterTest.TheVariants as tested
 use Rattle.sqlx_pool_lists.specs.declared.ticket.Ticket.{Ticket}
 use Rattle.sqlx_pool_lists.specs.declared.ticket.Phase.{Phase}
 use Rattle.sqlx_pool_lists.specs.declared.ticket.Phase.TheVariants as phase
-use Rattle.sqlx_member.specs.Calls.{Call, Facts, Levels, connect, ping}
-use Rattle.sqlx_member.specs.Chain.{check_by, Pings, LooksIf, Sorts, Tests, SetsUp, KeepsIf, Follows, Tries}
+use Rattle.sqlx_member.specs.Calls.{Call, Facts}
 use Rattle.sqlx_pool_lists.specs.Core.{Core}
-use Rattle.sqlx_member.specs.Outside.{HasRisen, says_ok, is_transient}
 use Rattle.sqlx_pool_lists.specs.CoreTurn.{core_turn}
-use Rattle.sqlx_pool_core.specs.PollParts.{IfAccepted, IfOpened, IfFailed, IfReady, IfRefused, IsForGood, first_depth, StayAtRest}
+use Rattle.sqlx_member.specs.CameTo.{IfAccepted, IfOpened, IfFailed, IsForGood}
+use Rattle.sqlx_pool_core.specs.PollParts.{IfReady, IfRefused, first_depth, StayAtRest}
 use Rattle.sqlx_pool_lists.specs.PollSteps.{phase_for, start_answer, started, tested_at, may_test_next, test_answer, after_test}
 use Rattle.sqlx_pool_core.specs.Walk.{Next, Test, Connect, Answer, first, then_by, last, judges, tells, Connects, Goes, Polls}
-use Rattle.sqlx_pool_core.proofs.CallsKeep.{tests-keep, tests-more}
+use Rattle.sqlx_member.proofs.CheckKeeps.{tests-keep, tests-more}
+use Rattle.sqlx_member.proofs.CheckEnds.{tests-rest, tries-rest, tries-cause, sooner}
 use Rattle.sqlx_pool_core.proofs.WholePoll.{takes, taken-phase}
 use Rattle.sqlx_pool_core.proofs.Polling.{tested-found, next-found}
-
--- ---- levels
-
--- the hook left no level open
-abbrev pub IfPass : Check → Type 0 → Type 0
-IfPass check.Pass P = P
-IfPass check.Close P = Unit {0}
-IfPass check.CloseHard P = Unit {0}
-
-check-rests : (answer : Result Bool Error) (n : ℕ) (c : Check) → c ≡ check_by answer n → IfPass c (n ≡ 0)
-check-rests answer n c e = subst (λ (d : Check). IfPass d (n ≡ 0)) (sym e) (by answer)
-  where
-    at : (b : Bool) → (n == 0) ≡ b → IfPass (cond b check.Pass check.CloseHard) (n ≡ 0)
-    at true is = eqb-true n 0 is
-    at false is = tt
-
-    by : (answer : Result Bool Error) → IfPass (check_by answer n) (n ≡ 0)
-    by (Ok true) = at (n == 0) refl
-    by (Ok false) = tt
-    by (Err e) = tt
-
-ok-rests : (answer : Result (Unit {0}) Error) (n : ℕ) → true ≡ says_ok answer n → n ≡ 0
-ok-rests (Ok done) n e = eqb-true n 0 (sym e)
-ok-rests (Err x) n e = absurd cc
-
-module _ {C O X : Type 0} (does : Call C O → X → X → Type 0) (depth : X → C → ℕ) (levels : (c : Call C O) (old new : X) → does c old new → Levels depth c old new) where
-  ping-rests : (asked : Bool) (raw now : C) (good : Bool) (old new : X) → depth old raw ≡ 0 → Pings does depth asked raw now good old new → depth new now ≡ 0
-  ping-rests true raw now good old new rests p = levels (ping raw p.0 now) old new p.1 ∙ rests
-  ping-rests false raw now good old new rests p = (λ i. depth (p.2 i) (p.0 i)) ∙ rests
-
-  look-rests : (good hook : Bool) (meta : PoolConnectionMetadata) (raw now : C) (c : Check) (old new : X) → depth old raw ≡ 0 → LooksIf does depth good hook meta raw now c old new → IfPass c (depth new now ≡ 0)
-  look-rests true true meta raw now c old new rests p = check-rests p.0 (depth new now) c p.2
-  look-rests true false meta raw now c old new rests p = subst (λ (d : Check). IfPass d (depth new now ≡ 0)) (sym p.1) ((λ i. depth (p.2 i) (p.0 i)) ∙ rests)
-  look-rests false hook meta raw now c old new rests p = subst (λ (d : Check). IfPass d (depth new now ≡ 0)) (sym p.1) tt
-
-  sort-rests : (c : Check) (lent : Lent C) (v : Verdict C) (old new : X) → IfPass c (depth old lent.raw ≡ 0) → Sorts does depth c lent v old new → IfAccepted v (λ raw. depth new raw ≡ 0)
-  sort-rests check.Pass lent v old new rests s = subst (λ (w : Verdict C). IfAccepted w (λ raw. depth new raw ≡ 0)) (sym s.0) (ap (λ (x : X). depth x lent.raw) s.1 ∙ rests)
-  sort-rests check.Close lent v old new rests s = subst (λ (w : Verdict C). IfAccepted w (λ raw. depth new raw ≡ 0)) (sym s.0) tt
-  sort-rests check.CloseHard lent v old new rests s = subst (λ (w : Verdict C). IfAccepted w (λ raw. depth new raw ≡ 0)) (sym s.0) tt
-
-  pub tests-rest : (options : PoolOptions) (m : ℕ) (i : Idle C) (v : Verdict C) (old new : X) → depth old i.lent.raw ≡ 0 → Tests does depth options m i v old new → IfAccepted v (λ raw. depth new raw ≡ 0)
-  tests-rest options m i v old new rests t =
-      let k = t.checks in
-      sort-rests t.check (record i.lent { raw = t.raw }) v t.between new (look-rests _ _ _ _ _ _ _ _ (ping-rests _ _ _ _ _ _ rests k.pings) k.looks) t.sorts
-
-  keep-rests : (good : Bool) (raw : C) (o : Opening C) (old new : X) → (good ≡ true → depth old raw ≡ 0) → KeepsIf does depth good raw o old new → IfOpened o (λ raw. depth new raw ≡ 0)
-  keep-rests true raw o old new rests k = subst (λ (p : Opening C). IfOpened p (λ raw. depth new raw ≡ 0)) (sym k.0) (ap (λ (x : X). depth x raw) k.1 ∙ rests refl)
-  keep-rests false raw o old new rests k = subst (λ (p : Opening C). IfOpened p (λ raw. depth new raw ≡ 0)) (sym k.0) tt
-
-  set-rests : (hook : Bool) (raw now : C) (good : Bool) (old new : X) → depth old raw ≡ 0 → SetsUp does depth hook raw now good old new → good ≡ true → depth new now ≡ 0
-  set-rests true raw now good old new rests s is = ok-rests s.0 (depth new now) (sym is ∙ s.2)
-  set-rests false raw now good old new rests s is = (λ i. depth (s.2 i) (s.0 i)) ∙ rests
-
-  refused-rests : (o : Opening C) (e : Error) (b : Bool) (new : X) → o ≡ cond b opening.Transient (opening.Failed e) → IfOpened o (λ raw. depth new raw ≡ 0)
-  refused-rests o e true new is = subst (λ (p : Opening C). IfOpened p (λ raw. depth new raw ≡ 0)) (sym is) tt
-  refused-rests o e false new is = subst (λ (p : Opening C). IfOpened p (λ raw. depth new raw ≡ 0)) (sym is) tt
-
-  follow-rests : (hook : Bool) (options : O) (r : Result C Error) (o : Opening C) (old mid new : X) → does (connect options r) old mid → Follows does depth hook r o mid new → IfOpened o (λ raw. depth new raw ≡ 0)
-  follow-rests hook options (Ok raw) o old mid new d f = keep-rests f.good f.now o f.between new (set-rests hook raw f.now f.good mid f.between (levels (connect options (Ok raw)) old mid d) f.sets_up) f.keeps
-  follow-rests hook options (Err e) o old mid new d f = refused-rests o e (is_transient e) new f.0
-
-  pub tries-rest : (hook : Bool) (options : O) (o : Opening C) (old new : X) → Tries does depth hook options o old new → IfOpened o (λ raw. depth new raw ≡ 0)
-  tries-rest hook options o old new t = follow-rests hook options t.answer o old t.between new t.connects t.follows
-
--- ---- causes
-
-later : (e : Error) (a b c : ℕ) → b ≤ c → (e ≡ OutOfMemory) ⊎ HasRisen a b → (e ≡ OutOfMemory) ⊎ HasRisen a c
-later e a b c h (inl want) = inl want
-later e a b c h (inr (inl risen)) = inr (inl (omega (arith, h, risen)))
-later e a b c h (inr (inr full)) = inr (inr (omega (arith, h, full)))
-
-sooner : (e : Error) (a b c : ℕ) → a ≤ b → (e ≡ OutOfMemory) ⊎ HasRisen b c → (e ≡ OutOfMemory) ⊎ HasRisen a c
-sooner e a b c h (inl want) = inl want
-sooner e a b c h (inr (inl risen)) = inr (inl (omega (arith, h, risen)))
-sooner e a b c h (inr (inr full)) = inr (inr full)
-
-module _ {C O X : Type 0} (does : Call C O → X → X → Type 0) (depth : X → C → ℕ) (faults refusals : X → ℕ) (IsShort : X → Type 0) (facts : (c : Call C O) (old new : X) → does c old new → Facts faults refusals depth IsShort c old new) where
-  keep-cause : (good : Bool) (raw : C) (o : Opening C) (old new : X) (P : Error → Type 0) → KeepsIf does depth good raw o old new → IfFailed o P
-  keep-cause true raw o old new P k = subst (λ (p : Opening C). IfFailed p P) (sym k.0) tt
-  keep-cause false raw o old new P k = subst (λ (p : Opening C). IfFailed p P) (sym k.0) tt
-
-  refused-cause : (o : Opening C) (e : Error) (b : Bool) (old mid new : X) → is_transient e ≡ b → o ≡ cond b opening.Transient (opening.Failed e) → (e ≡ OutOfMemory) ⊎ HasRisen (faults old) (faults mid) → new ≡ mid
-      → IfFailed o (λ e. IsForGood (faults old) (faults new) e)
-  refused-cause o e true old mid new t is why kept = subst (λ (p : Opening C). IfFailed p (λ e. IsForGood (faults old) (faults new) e)) (sym is) tt
-  refused-cause o e false old mid new t is why kept =
-      subst (λ (p : Opening C). IfFailed p (λ e. IsForGood (faults old) (faults new) e)) (sym is) (subst (λ (x : X). (e ≡ OutOfMemory) ⊎ HasRisen (faults old) (faults x)) (sym kept) why, t)
-
-  pub tries-cause : (hook : Bool) (options : O) (o : Opening C) (old new : X) → Tries does depth hook options o old new → IfFailed o (λ e. IsForGood (faults old) (faults new) e)
-  tries-cause hook options o old new t = by t.answer t.connects t.follows
-    where
-      by : (r : Result C Error) → does (connect options r) old t.between → Follows does depth hook r o t.between new → IfFailed o (λ e. IsForGood (faults old) (faults new) e)
-      by (Ok raw) d f = keep-cause f.good f.now o f.between new _ f.keeps
-      by (Err e) d f = refused-cause o e (is_transient e) old t.between new refl f.0 (facts (connect options (Err e)) old t.between d).causes f.1
 
 -- ---- what a poll answers
 

@@ -3,11 +3,8 @@ use Rattle.std.proofs.Common.{◌≡◌, ℕ, Bool, true, false, ◌==◌, Optio
 use Rattle.sqlx_text.specs.declared.Moment.{Moment}
 use Rattle.sqlx_log.specs.declared.mark.Mark.{Mark}
 use Rattle.sqlx_pool_lists.specs.declared.options.PoolOptions.{PoolOptions}
-use Rattle.sqlx_member.specs.declared.idle_check.Check.{Check}
-use Rattle.sqlx_member.specs.declared.idle_check.Check.TheVariants as check
 use Rattle.sqlx_member.specs.declared.idle_check.Opening.{Opening}
 use Rattle.sqlx_pool_lists.specs.declared.steps.Idle.{Idle}
-use Rattle.sqlx_pool_lists.specs.declared.steps.Lent.{Lent}
 use Rattle.sqlx_pool_lists.specs.declared.steps.Start.{Start}
 use Rattle.sqlx_pool_lists.specs.declared.steps.Verdict.{Verdict}
 use Rattle.sqlx_pool_lists.specs.declared.steps.AfterTest.{AfterTest}
@@ -18,7 +15,7 @@ use Rattle.sqlx_pool_lists.specs.declared.ticket.Ticket.{Ticket}
 use Rattle.sqlx_pool_lists.specs.declared.ticket.Phase.{Phase}
 use Rattle.sqlx_pool_lists.specs.declared.ticket.Phase.TheVariants as phase
 use Rattle.sqlx_member.specs.Calls.{Call}
-use Rattle.sqlx_member.specs.Chain.{Sorts, Tests}
+use Rattle.sqlx_member.specs.Chain.{Tests}
 use Rattle.sqlx_pool_lists.specs.Core.{Core, ticket_of}
 use Rattle.sqlx_pool_lists.specs.Edits.{with_ticket, to_connect, to_next, tested_so_far}
 use Rattle.sqlx_member.specs.Logs.{Logs}
@@ -28,6 +25,7 @@ use Rattle.sqlx_pool_core.specs.PollParts.{untested}
 use Rattle.sqlx_pool_lists.specs.PollSteps.{phase_for, start_answer, start_marks, started, judged, tested_at, after_refusal, test_answer, test_marks, after_test, try_answer_at, connect_answer}
 use Rattle.sqlx_pool_core.specs.Walk.{Next, Test, Answer, first, then_by, tried_of, judges, tells, Goes, GoesOn, Polls}
 use Rattle.sqlx_member.proofs.Fair.{makes-then}
+use Rattle.sqlx_member.proofs.CheckEnds.{tests-judged}
 use Rattle.sqlx_pool_core.proofs.WholePoll.{ticket-with}
 
 pub logs-then : {C : Type 0} (core mid new : Core C) (one two : List Mark) → mid.options ≡ core.options → Logs core one mid → Logs mid two new → Logs core (one ++ two) new
@@ -39,15 +37,6 @@ pub logs-by : {C : Type 0} (core new : Core C) (one two : List Mark) → two ≡
 logs-by core new one two e makes = λ marks s. subst (λ (l : List Mark). Makes core.options.max_connections marks l new) (sym e) (makes marks s)
 
 -- ---- a test
-
--- a verdict names the connection that was tested
-sorts-judged : {C O X : Type 0} (does : Call C O → X → X → Type 0) (depth : X → C → ℕ) (c : Check) (lent : Lent C) (verdict : Verdict C) (old now : X) → Sorts does depth c lent verdict old now → judged verdict ≡ lent.id
-sorts-judged does depth check.Pass lent verdict old now s = ap judged s.0
-sorts-judged does depth check.Close lent verdict old now s = ap judged s.0
-sorts-judged does depth check.CloseHard lent verdict old now s = ap judged s.0
-
-pub tests-judged : {C O X : Type 0} (does : Call C O → X → X → Type 0) (depth : X → C → ℕ) (set : PoolOptions) (m : ℕ) (i : Idle C) (verdict : Verdict C) (old now : X) → Tests does depth set m i verdict old now → judged verdict ≡ i.lent.id
-tests-judged does depth set m i verdict old now s = sorts-judged does depth s.check (record i.lent { raw = s.raw }) verdict s.between now s.sorts
 
 found_if : (b : Bool) (created : Moment) → b ≡ true → (if b then Some created else None) ≡ Some created
 found_if true created e = refl

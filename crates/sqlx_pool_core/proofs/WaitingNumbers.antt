@@ -13,7 +13,7 @@ use Rattle.sqlx_pool_lists.specs.declared.ticket.Ticket.{Ticket}
 use Rattle.sqlx_pool_lists.specs.Core.{waits, waiting, ticket_of}
 use Rattle.sqlx_pool_lists.specs.Sound.{IsRising, number_of}
 use Rattle.sqlx_pool_lists.specs.Edits.{with_ticket, without_ticket}
-use Rattle.sqlx_pool_lists.specs.Place.{IsAmong}
+use Rattle.sqlx_tickets.specs.Place.{IsAmong}
 use Rattle.sqlx_pool_lists.specs.CoreTurn.{before, is_another}
 use Rattle.sqlx_member.proofs.Found.{of-none}
 use Rattle.sqlx_pool_core.specs.KeptLine.{waiting_numbers}

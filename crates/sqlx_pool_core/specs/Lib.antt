@@ -18,9 +18,10 @@ pub use Rattle.sqlx_member.specs.Outside
 pub use Rattle.sqlx_member.specs.Chain
 pub use Rattle.sqlx_member.specs.ReturnSteps
 pub use Rattle.sqlx_member.specs.Giving
+pub use Rattle.sqlx_member.specs.CameTo
+pub use Rattle.sqlx_member.specs.Answers
 pub mod Alone
 pub mod KeptLine
 pub mod PollParts
 pub mod Walk
 pub mod Minimum
-pub mod Answers

@@ -1,15 +1,10 @@
 -- What is said of the parts of a whole poll.
-use Rattle.std.specs.Prelude.{◌≡◌, ◌<◌, drop, ℕ, ◌+◌, false, ◌⊎◌, ⊤, List, [], ◌∷◌, Option, Some, None, All}
+use Rattle.std.specs.Prelude.{◌≡◌, ◌<◌, drop, ℕ, ◌+◌, ⊤, List, [], ◌∷◌, Option, Some, None, All}
 use Rattle.sqlx_text.specs.declared.error.Error.{Error}
-use Rattle.sqlx_text.specs.declared.error.Error.TheVariants.{OutOfMemory}
 use Rattle.sqlx_pool_lists.specs.declared.steps.Lent.{Lent}
 use Rattle.sqlx_pool_lists.specs.declared.steps.Idle.{Idle}
 use Rattle.sqlx_pool_lists.specs.declared.steps.Polled.{Polled}
 use Rattle.sqlx_pool_lists.specs.declared.steps.Polled.TheVariants as polled
-use Rattle.sqlx_member.specs.declared.idle_check.Opening.{Opening}
-use Rattle.sqlx_member.specs.declared.idle_check.Opening.TheVariants as opening
-use Rattle.sqlx_pool_lists.specs.declared.steps.Verdict.{Verdict}
-use Rattle.sqlx_pool_lists.specs.declared.steps.Verdict.TheVariants as verdict
 use Rattle.sqlx_pool_lists.specs.declared.steps.Tried.{Tried}
 use Rattle.sqlx_pool_lists.specs.declared.steps.Tried.TheVariants as tried
 use Rattle.sqlx_pool_lists.specs.declared.steps.AfterConnect.{AfterConnect}
@@ -17,28 +12,8 @@ use Rattle.sqlx_pool_lists.specs.declared.steps.AfterConnect.TheVariants as conn
 use Rattle.sqlx_pool_lists.specs.declared.ticket.Ticket.{Ticket}
 use Rattle.sqlx_member.specs.Calls.{Call}
 use Rattle.sqlx_pool_lists.specs.Core.{Core}
-use Rattle.sqlx_member.specs.Outside.{HasRisen, is_transient}
 use Rattle.sqlx_pool_lists.specs.Edits.{with_ticket, to_connect}
 use Rattle.sqlx_pool_lists.specs.PollSteps.{wait_of}
-
--- why a connect is refused for good
-abbrev pub IsForGood : ℕ → ℕ → Error → Type 0
-IsForGood faults now error = ((error ≡ OutOfMemory) ⊎ HasRisen faults now) × (is_transient error ≡ false)
-
--- P of the connection, if it passed its test
-abbrev pub IfAccepted : {C : Type 0} → Verdict C → (C → Type 0) → Type 0
-IfAccepted (verdict.Accepted lent) P = P lent.raw
-IfAccepted (verdict.Refused c) P = ⊤
-
--- P of the connection, if one was opened
-abbrev pub IfOpened : {C : Type 0} → Opening C → (C → Type 0) → Type 0
-IfOpened (opening.Opened raw) P = P raw
-IfOpened other P = ⊤
-
--- P of the error, if the try was refused for good
-abbrev pub IfFailed : {C : Type 0} → Opening C → (Error → Type 0) → Type 0
-IfFailed (opening.Failed error) P = P error
-IfFailed other P = ⊤
 
 -- P of the connection, if the poll lent one
 abbrev pub IfReady : {C : Type 0} → Polled C → (Lent C → Type 0) → Type 0

@@ -8,10 +8,6 @@ pub mod Makes
 pub mod PollTable
 pub mod CoreTurn
 pub mod Edits
-pub mod Tickets
-pub mod IdleList
-pub mod HeldList
-pub mod Place
 pub mod PollSteps
 pub mod MaintenanceSteps
 pub mod Balance

@@ -21,6 +21,18 @@ pub enum Phase {
     },
 }
 
+impl Phase {
+    ghost use Rattle.std.specs.Prelude.{◌≡◌};
+    ghost use Rattle.sqlx_pool_lists.specs.Core.{is_out};
+
+    /// Whether the ticket has left the line.
+    pub fn is_out(&self) -> bool
+        ensures { result ≡ is_out self.now }
+    {
+        !matches!(self, Phase::Waiting)
+    }
+}
+
 /// A ticket that hasn't ended.
 #[derive(Clone, Copy, PartialEq, Eq)]
 pub struct Ticket {

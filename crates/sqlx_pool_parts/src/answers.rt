@@ -1,11 +1,11 @@
 //! What the answers of steps say to the books.
 
 ghost use Rattle.std.specs.Prelude.{◌≡◌, Bool, true, false, not, ◌&&◌, is_some};
-ghost use Rattle.sqlx_pool_core.specs.Answers.{is_held};
+ghost use Rattle.sqlx_member.specs.Answers.{is_held};
 ghost use Rattle.sqlx_pool_lists.specs.PollSteps.{judged};
 ghost use Rattle.sqlx_pool_parts.specs.Answers.{lends_tested, lends_new};
 
-use sqlx_pool_core::{AfterConnect, AfterTest, Given, Verdict};
+use sqlx_pool_lists::{AfterConnect, AfterTest, Given, Verdict};
 
 // The number that a verdict names.
 pub fn judged_of<C>(verdict: &Verdict<C>) -> u64

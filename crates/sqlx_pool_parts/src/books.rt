@@ -19,7 +19,7 @@ pub struct Books<H: Ledger, L: Loans> {
     made: u64,
 }
 
-impl<H: Ledger + Drop, L: Loans + Drop> Drop for Books<H, L> {
+impl<H: Ledger, L: Loans> Drop for Books<H, L> {
     fn drop(self) {
         let Books {
             held,

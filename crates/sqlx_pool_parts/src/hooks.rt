@@ -4,7 +4,7 @@ ghost use Rattle.std.specs.Prelude.{◌≡◌, ◌≤◌, ℕ, is_err};
 ghost use Rattle.sqlx_member.specs.Calls.{IsCounted};
 ghost use Rattle.sqlx_member.specs.Outside.{declines};
 
-use sqlx_pool_core::PoolConnectionMetadata;
+use sqlx_member::PoolConnectionMetadata;
 use sqlx_text::{Depth, Error};
 use sqlx_traits::Database;
 

@@ -4,7 +4,7 @@ ghost use Rattle.std.specs.Prelude.{◌≡◌, ◌+◌, ◌≤◌, ℕ};
 ghost use Rattle.sqlx_member.specs.Calls as call;
 
 use crate::Hooks;
-use sqlx_pool_core::{Outside, PoolConnectionMetadata};
+use sqlx_member::{Outside, PoolConnectionMetadata};
 use sqlx_text::{Depth, Error};
 use sqlx_traits::{Connection, Connector, Database};
 use std::alloc::Global;

@@ -1,25 +1,15 @@
 //! The marks of the pool's steps, written behind its log, where memory was reserved for them.
-ghost use Rattle.std.specs.Prelude.{◌≡◌, ◌+◌, ◌*◌, ◌^◌, ◌<◌, ◌≤◌, List, [], ◌∷◌, ◌++◌, false, true, length, vec_capacity, Option, Some, None, if◌then◌else◌};
+ghost use Rattle.std.specs.Prelude.{◌≡◌, ◌+◌, ◌*◌, ◌≤◌, List, [], ◌∷◌, ◌++◌, false, true, length, vec_capacity, Option, Some, None, if◌then◌else◌};
 ghost use Rattle.sqlx_log.specs.declared.mark.Mark.{Mark};
 ghost use Rattle.sqlx_pool_lists.specs.declared.ticket.Phase.{Phase};
-ghost use Rattle.sqlx_pool_lists.specs.Balance.{marks_due, one_if};
+ghost use Rattle.sqlx_pool_lists.specs.Balance.{one_if};
 ghost use Rattle.sqlx_pool_lists.specs.PollSteps.{start_marks, test_marks, connect_marks};
 ghost use Rattle.sqlx_member.specs.ReturnSteps.{give_marks};
 ghost use Rattle.sqlx_pool_lists.specs.MaintenanceSteps.{close_marks, reap_marks};
 
-use sqlx_pool_core::{AfterConnect, AfterTest, Given, Idle, Mark, PoolCore, Start};
+use sqlx_log::Mark;
+use sqlx_pool_lists::{AfterConnect, AfterTest, Given, Idle, Start};
 use std::collections::VecDeque;
-
-// Reserves memory for the marks that are due, and for these many more: false where there is none.
-pub fn reserve<C>(log: &mut Vec<Mark>, core: &PoolCore<C>, more: usize) -> bool
-    requires room { length log.old.items + marks_due core.now ≤ vec_capacity log.old }
-    requires few { more < 2 ^ 40 }
-    ensures marks { log.new.items ≡ log.old.items }
-    ensures room { result ≡ true → length log.old.items + marks_due core.now + more ≤ vec_capacity log.new }
-    ensures capacity { vec_capacity log.old ≤ vec_capacity log.new }
-{
-    log.reserve(core.due() + more).is_ok()
-}
 
 // The marks of the start of a poll, whose ticket waited in the line or not.
 pub fn start<C>(log: &mut Vec<Mark>, ticket: u64, waited: bool, start: &Start<C>)

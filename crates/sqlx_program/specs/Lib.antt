@@ -1,4 +1,4 @@
-pub mod Commands
-pub mod MadeRuns
+pub use Rattle.sqlx_commands.specs.Commands
+pub use Rattle.sqlx_commands.specs.MadeRuns
 pub mod CrowdRuns
 pub mod Program

@@ -2,13 +2,13 @@
 use Rattle.std.specs.Prelude.{◌≡◌, ℕ, ◌*◌, List}
 use Rattle.sqlx_script.specs.Grammar.{script_of}
 use Rattle.sqlx_made.specs.Made.{made_text}
-use Rattle.sqlx_program.specs.declared.command.Command.{Command}
-use Rattle.sqlx_program.specs.declared.command.Command.TheVariants.{Play, Make, Crowd, Unknown}
+use Rattle.sqlx_commands.specs.declared.command.Command.{Command}
+use Rattle.sqlx_commands.specs.declared.command.Command.TheVariants.{Play, Make, Crowd, Unknown}
 use Rattle.sqlx_play.specs.declared.error.PlayError.{PlayError}
 use Rattle.sqlx_play.specs.declared.error.PlayError.TheVariants.{Usage}
 use Rattle.sqlx_play.specs.Causes.{Shown, TookAll, PlayCause, TextCause, WrotePart}
 use Rattle.sqlx_play.specs.Plays.{Answers}
-use Rattle.sqlx_program.specs.MadeRuns.{Summarizes, summary_due}
+use Rattle.sqlx_commands.specs.MadeRuns.{Summarizes, summary_due}
 use Rattle.sqlx_program.specs.CrowdRuns.{WritesLog, CrowdCause}
 
 -- What was asked for was done: all bytes were read, they are a script, and its output was written; or the summary of the made script was; or the log that the crowd left.

@@ -8,7 +8,7 @@ use mem_store::MemStore;
 use shared_mem_driver::SharedMemConnector;
 use sqlx_crowd::{Crowd, crowd_with};
 use sqlx_play::{PlayError, Sink, write_all};
-use sqlx_pool::Loans;
+use sqlx_pool_base::Loans;
 use sqlx_text::OutOfMemory;
 use std::alloc::Global;
 use std::marker::Brand;

@@ -1,14 +1,12 @@
 //! What the program does.
 ghost use Rattle.std.specs.Prelude.{◌≡◌, ◌≢◌, ◌≤◌, ◌↔◌, map, string_bytes, IfErr, OnOk, IsErrOf};
-ghost use Rattle.sqlx_program.specs.declared.command.Command.TheVariants.{Play as play_words, Unknown as unknown_words};
-ghost use Rattle.sqlx_program.specs.Commands.{command_of};
+ghost use Rattle.sqlx_commands.specs.declared.command.Command.TheVariants.{Play as play_words, Unknown as unknown_words};
+ghost use Rattle.sqlx_commands.specs.Commands.{command_of};
 ghost use Rattle.sqlx_play.specs.Causes.{IsComplete, shown};
 ghost use Rattle.sqlx_program.specs.Program.{Ran, RunCause};
 
-use crate::command::{Command, command_of};
 use crate::crowd::crowd;
-use crate::make::make;
-use crate::player::play;
+use sqlx_commands::{Command, command_of, make, play};
 use sqlx_play::{PlayError, Sink, Source};
 use std::alloc::Global;
 use std::sync::Wait;

@@ -8,9 +8,15 @@ use sqlx_text::Error;
 use std::marker::Model;
 
 /// The results of a step list that are still to be handed out, and behind them its error if there is one.
-#[derive(Drop)]
 pub struct ResultList<Q, R> {
     list: StepList<Q, R>,
+}
+
+impl<Q: Drop, R: Drop> Drop for ResultList<Q, R> {
+    fn drop(self) {
+        let ResultList { list } = self;
+        drop(list);
+    }
 }
 
 impl<Q, R> Model for ResultList<Q, R> {

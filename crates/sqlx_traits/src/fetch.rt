@@ -11,9 +11,15 @@ use std::alloc::Global;
 use std::marker::Model;
 
 /// The rows of a step list that are still to be handed out, and behind them its error if there is one.
-#[derive(Drop)]
 pub struct RowList<Q, R> {
     list: StepList<Q, R>,
+}
+
+impl<Q: Drop, R: Drop> Drop for RowList<Q, R> {
+    fn drop(self) {
+        let RowList { list } = self;
+        drop(list);
+    }
 }
 
 impl<Q, R> Model for RowList<Q, R> {

@@ -33,11 +33,23 @@ impl LastError {
 }
 
 /// What is still to be handed out: results and rows, and behind them an error if there is one.
-#[derive(Drop)]
 pub struct StepList<Q, R> {
     items: VecDeque<Either<Q, R>>,
     result: Option<Q>,
     last: Option<LastError>,
+}
+
+impl<Q: Drop, R: Drop> Drop for StepList<Q, R> {
+    fn drop(self) {
+        let StepList {
+            items,
+            result,
+            last,
+        } = self;
+        drop(items);
+        drop(result);
+        drop(last);
+    }
 }
 
 impl<Q, R> Model for StepList<Q, R> {

@@ -3,7 +3,7 @@
 ghost use Rattle.std.specs.Prelude.{◌≡◌, ◌+◌, ◌*◌, ◌^◌, ◌<◌, ◌≤◌, IfOk, vec_len};
 
 use crate::worker;
-use sqlx_pool::{FixedClock, Loans, Pool, Tally};
+use sqlx_pool_base::{FixedClock, Loans, Pool, Tally};
 use sqlx_pool_core::Outside;
 use sqlx_text::{Moment, OutOfMemory};
 use sqlx_traits::{Database, Executor};

@@ -3,7 +3,7 @@
 ghost use Rattle.std.specs.Prelude.{◌≡◌};
 ghost use Rattle.sqlx_workers.specs.LogText.{mark_word};
 
-use sqlx_pool::Mark;
+use sqlx_pool_base::Mark;
 use std::fmt;
 
 // The text of a mark, without its newline.

@@ -6,9 +6,8 @@ ghost use Rattle.sqlx_workers.specs.Crowd.{LeavesLog};
 ghost use Rattle.sqlx_workers.specs.LogText as spec;
 
 use crate::line::Line;
-use sqlx_pool::{Loans, Mark, Pool, Tally};
-use sqlx_text::OutOfMemory;
-use sqlx_traits::Database;
+use sqlx_pool_base::{Loans, Mark, PoolOf, Tally};
+use sqlx_text::{Depth, OutOfMemory};
 use std::alloc::{AllocError, Global};
 use std::sync::Wait;
 use std::sync::ledger::Ledger;
@@ -51,14 +50,12 @@ fn crowd_text(alloc: Global, marks: &[Mark], loans: u64) -> Result<String, Alloc
 }
 
 /// The text of the log that the tally with every part tells of.
-pub fn audited<DB: Database, H: Ledger, L: Loans, R: Wait>(
+pub fn audited<C: Depth + Drop, O: Drop, H: Ledger, L: Loans, R: Wait>(
     rt: &R,
     alloc: Global,
-    pool: &Pool<DB, H, L>,
+    pool: &PoolOf<C, O, H, L>,
     all: &mut Tally<L>,
 ) -> Result<String, OutOfMemory>
-where
-    DB::Connection: Drop,
     requires parts { all.old.parts ≡ L.parts }
     requires uncut { L.cuts ≡ false }
     ensures text { IfOk result (λ text. LeavesLog L.max all.old.loans (string_bytes text)) }

@@ -4,7 +4,7 @@ ghost use Rattle.std.specs.Prelude.{◌≡◌, ℕ, ◌+◌, ◌<◌, ◌≤◌,
 ghost use Rattle.sqlx_pool_lists.specs.Balance.{one_if};
 ghost use Rattle.sqlx_pool_parts.specs.Booked.{CountsIf};
 
-use sqlx_pool::{Clock, Loans, Pool, PoolConnection, Tally};
+use sqlx_pool_base::{Clock, Loans, Pool, PoolConnection, Tally};
 use sqlx_pool_core::Outside;
 use sqlx_text::{Error, OutOfMemory};
 use sqlx_traits::{Database, Executor};

@@ -4,7 +4,7 @@ ghost use Rattle.std.specs.Prelude.{◌≡◌, ◌^◌, false};
 
 use crate::outside::{Meeting, Store, outs_of};
 use sqlx_crowd::crowd_with;
-use sqlx_pool::Loans;
+use sqlx_pool_base::Loans;
 use std::alloc::Global;
 use std::marker::Brand;
 use std::process::Abort;

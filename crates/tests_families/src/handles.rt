@@ -4,8 +4,8 @@ ghost use Rattle.std.specs.Prelude.{◌≡◌, ◌^◌, ◌<◌, ◌≤◌};
 
 use crate::outside::{Conn, Plain};
 use sqlx_family_pool::{FamilyConnectionOf, FamilyPoolOf};
-use sqlx_pool::stage::Why;
-use sqlx_pool::{Loans, Polling, Returned, Tally};
+use sqlx_pool_base::stage::Why;
+use sqlx_pool_base::{Loans, Polling, Returned, Tally};
 use sqlx_pool_core::PoolOptions;
 use sqlx_text::Moment;
 use std::alloc::Global;

@@ -4,7 +4,7 @@ ghost use Rattle.std.specs.Prelude.{◌≡◌, ℕ, ◌^◌, ◌<◌, ◌≤◌,
 
 use crate::outside::{Conn, Plain};
 use sqlx_family_pool::{FamilyConnectionOf, FamilyPoolOf};
-use sqlx_pool::{FixedClock, Loans, Tally};
+use sqlx_pool_base::{FixedClock, Loans, Tally};
 use sqlx_pool_core::PoolOptions;
 use sqlx_text::Moment;
 use std::alloc::Global;

@@ -2,14 +2,14 @@
 
 ghost use Rattle.std.specs.Prelude.{◌≡◌, ℕ, ◌<◌, ◌≤◌, true, IfOk, IfErr, OnOk, OnErr};
 ghost use Rattle.sqlx_pool_parts.specs.Booked.{CountsIf};
-ghost use Rattle.sqlx_pool.specs.Polling.{is_ready, IfReady, IfFailed};
-ghost use Rattle.sqlx_pool.specs.Refusals.{IsPollRefusal};
+ghost use Rattle.sqlx_pool_base.specs.Polling.{is_ready, IfReady, IfFailed};
+ghost use Rattle.sqlx_pool_base.specs.Refusals.{IsPollRefusal};
 
 use super::FamilyAcquiringOf;
 use crate::pool::Guard;
 use crate::{FamilyConnectionOf, FamilyPollOf, FamilyPoolOf};
-use sqlx_pool::stage::{Stage, Why};
-use sqlx_pool::{Clock, Held, Loans, Polling, Tally};
+use sqlx_pool_base::stage::{Stage, Why};
+use sqlx_pool_base::{Clock, Held, Loans, Polling, Tally};
 use sqlx_pool_core::Outside;
 use sqlx_text::{Depth, Error};
 use std::alloc::Global;
@@ -67,7 +67,7 @@ impl<C: Depth + Drop, O: Drop, H: Ledger, L: Loans> FamilyPoolOf<C, O, H, L> {
 
 impl<C: Depth + Drop, O: Drop, H: Ledger, L: Loans> FamilyAcquiringOf<C, O, H, L> {
     // Polls until the ticket ends.
-    #[tactic(auto, using(sqlx_pool::proofs::RefusalLemmas::refusal_sooner))]
+    #[tactic(auto, using(sqlx_pool_base::proofs::RefusalLemmas::refusal_sooner))]
     fn wait<R: Wait, K: Clock, X: Outside<C, O>>(
         self,
         rt: &R,

@@ -13,7 +13,7 @@ ghost use Rattle.sqlx_family_steps.specs.FamilySteps.{core_after_ask, try_lent_i
 
 use super::LockedFamily;
 use sqlx_family_steps::asking;
-use sqlx_pool::{Held, Loans, Tally};
+use sqlx_pool_base::{Held, Loans, Tally};
 use sqlx_pool_core::Lent;
 use sqlx_text::{Depth, Error, Moment};
 use std::alloc::Global;

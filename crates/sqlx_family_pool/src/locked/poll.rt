@@ -8,7 +8,7 @@ ghost use Rattle.sqlx_pool_lists.specs.Core.{ticket_of};
 ghost use Rattle.sqlx_member.specs.Logs.{moment_of};
 ghost use Rattle.sqlx_pool_lists.specs.PollSteps.{phase_for, judged, start_marks, verdict_answer, test_marks, after_test, connect_answer, connect_marks, after_connect};
 ghost use Rattle.sqlx_pool_lists.specs.PollSteps.{may_cancel, cancel_marks, cancelled};
-ghost use Rattle.sqlx_pool_core.specs.PollParts.{IfAccepted};
+ghost use Rattle.sqlx_member.specs.CameTo.{IfAccepted};
 ghost use Rattle.sqlx_family.specs.Pools.{pool_in};
 ghost use Rattle.sqlx_family.specs.Permits.{stepped};
 ghost use Rattle.sqlx_pool_parts.specs.Answers.{lends_tested, IfTestLends, lends_new, IfTryLends, IfTried, is_fatal, is_ended};
@@ -18,7 +18,7 @@ ghost use Rattle.sqlx_family_steps.specs.FamilySteps.{start_answer_in, family_af
 
 use super::LockedFamily;
 use sqlx_family_steps::polling;
-use sqlx_pool::{Held, Loans, Tally};
+use sqlx_pool_base::{Held, Loans, Tally};
 use sqlx_pool_core::{AfterConnect, AfterTest, Start, Tried, Verdict};
 use sqlx_pool_parts::answers::{lends_new, lends_tested};
 use sqlx_text::{Depth, Moment};

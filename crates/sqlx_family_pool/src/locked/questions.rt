@@ -14,7 +14,7 @@ ghost use Rattle.sqlx_family_pool.specs.FamilyState.{IsStanding, IsNamed, IsUnna
 
 use super::LockedFamily;
 use sqlx_family_steps::questions;
-use sqlx_pool::{Loans, MarkLog};
+use sqlx_pool_base::{Loans, MarkLog};
 use sqlx_text::{Depth, Moment, OutOfMemory};
 use std::alloc::Global;
 use std::sync::ledger::Ledger;

@@ -2,7 +2,7 @@
 
 ghost use Rattle.std.specs.Prelude.{◌≡◌, ℕ, ◌+◌, true, false, not, is_some};
 ghost use Rattle.sqlx_pool_lists.specs.declared.steps.Given.{Given};
-ghost use Rattle.sqlx_pool_core.specs.Answers.{is_kept, is_held};
+ghost use Rattle.sqlx_member.specs.Answers.{is_kept, is_held};
 ghost use Rattle.sqlx_pool_lists.specs.Core.{loan_of};
 ghost use Rattle.sqlx_member.specs.Logs.{moment_of};
 ghost use Rattle.sqlx_member.specs.ReturnSteps.{give_answer, give_marks, end_marks, detach_marks, leak_marks, released, leaked};
@@ -13,7 +13,7 @@ ghost use Rattle.sqlx_family_steps.specs.FamilySteps.{core_after_return};
 
 use super::LockedFamily;
 use sqlx_family_steps::returning;
-use sqlx_pool::{Held, Loans};
+use sqlx_pool_base::{Held, Loans};
 use sqlx_pool_core::{Given, Lent};
 use sqlx_pool_parts::answers::is_held;
 use sqlx_text::{Depth, Moment};

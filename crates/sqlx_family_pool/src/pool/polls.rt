@@ -2,18 +2,18 @@
 
 ghost use Rattle.std.specs.Prelude.{◌≡◌, ℕ, ◌+◌, ◌<◌, ◌≤◌, ◌⊎◌, false};
 ghost use Rattle.sqlx_pool_lists.specs.Balance.{one_if};
-ghost use Rattle.sqlx_pool_core.specs.PollParts.{IfOpened, IfFailed, IsForGood};
+ghost use Rattle.sqlx_member.specs.CameTo.{IfOpened, IfFailed, IsForGood};
 ghost use Rattle.sqlx_pool_parts.specs.Answers.{IfTried, is_fatal};
 ghost use Rattle.sqlx_pool_parts.specs.Booked.{CountsIf};
 ghost use Rattle.sqlx_pool_parts.specs.Opened.{IfUnopened, IsCounted, TellsLevels};
-ghost use Rattle.sqlx_pool.specs.Refusals.{IsEnd, IsPollRefusal};
-ghost use Rattle.sqlx_pool.specs.Stage.{has_lent, IfLent, IfEnded, wants_test, wants_connect};
+ghost use Rattle.sqlx_pool_base.specs.Refusals.{IsEnd, IsPollRefusal};
+ghost use Rattle.sqlx_pool_base.specs.Stage.{has_lent, IfLent, IfEnded, wants_test, wants_connect};
 
 use super::FamilyPoolOf;
 use crate::LockedFamily;
 use sqlx_member::idle_check::Opening;
-use sqlx_pool::stage::{Stage, after_start, after_test, after_try};
-use sqlx_pool::{Held, Loans, Tally};
+use sqlx_pool_base::stage::{Stage, after_start, after_test, after_try};
+use sqlx_pool_base::{Held, Loans, Tally};
 use sqlx_pool_core::{AfterConnect, Idle, Outside, PoolOptions, Tried, Verdict};
 use sqlx_pool_parts::checks;
 use sqlx_text::{Depth, Error, Moment};

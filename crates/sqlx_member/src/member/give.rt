@@ -15,7 +15,8 @@ ghost use Rattle.sqlx_pool_lists.specs.PollSteps.{lent_since};
 ghost use Rattle.sqlx_pool_lists.specs.Edits.{at_moment, core_without_loan, kept};
 
 use super::Member;
-use sqlx_pool_lists::{Given, Lent, OwnedConn, beyond};
+use sqlx_connections::beyond;
+use sqlx_pool_lists::{Given, Lent, OwnedConn};
 use sqlx_text::Moment;
 
 impl<C> Member<C> {

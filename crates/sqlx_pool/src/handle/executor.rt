@@ -7,26 +7,18 @@ ghost use Rattle.sqlx_traits.specs.StepList.{StepCauses};
 ghost use Rattle.sqlx_pool.specs.Handle.{is_of_begin, told, WasRefused, WorkedOn};
 
 use super::PoolHandle;
-use crate::{Clock, Loans, PoolConnection};
+use sqlx_pool_base::{Clock, Loans, Pool, PoolConnection, PoolOf};
 use sqlx_pool_core::Outside;
 use sqlx_pool_parts::taken::Taken;
 use sqlx_text::{Error, IoFault, SqlStr};
 use sqlx_traits::{Database, Execute, Executor, FetchMany, StepList};
+use sqlx_tx::Hold;
 use std::alloc::Global;
 use std::sync::Wait;
 use std::sync::ledger::Ledger;
 
 // The pool of a database as an executor.
-type Handle<'p, DB, H, L, R, K, X> = PoolHandle<
-    'p,
-    <DB as Database>::Connection,
-    <DB as Database>::Options,
-    H,
-    L,
-    R,
-    K,
-    X,
->;
+type Handle<'p, DB, H, L, R, K, X> = PoolHandle<'p, Pool<DB, H, L>, L, R, K, X>;
 
 // It is one of the two errors of a begin.
 fn is_of_begin(error: &Error) -> bool
@@ -62,7 +54,7 @@ where
     ensures steps { DB.Connection.runs conn.old.raw (handed Q.text Q.arguments Q.kept query) result conn.new.raw }
     ensures causes { StepCauses (DB.Connection.faults conn.old.raw) (DB.Connection.faults conn.new.raw) (Q.arguments query) result }
 {
-    Executor::<DB>::fetch_many(&mut conn.raw, alloc, query)
+    Executor::<DB>::fetch_many(Hold::<DB>::conn_mut(conn), alloc, query)
 }
 
 // Prepares a statement on a connection that was lent.
@@ -78,7 +70,7 @@ where
     ensures text { IfOk result (λ statement. DB.Statement.text statement ≡ sql) }
     ensures cause { IfErr result (FaultCause (DB.Connection.faults conn.old.raw) (DB.Connection.faults conn.new.raw)) }
 {
-    Executor::<DB>::prepare_with(&mut conn.raw, alloc, sql, parameters)
+    Executor::<DB>::prepare_with(Hold::<DB>::conn_mut(conn), alloc, sql, parameters)
 }
 
 // Waits for a connection, runs a query on it and returns it.
@@ -158,7 +150,7 @@ impl<
     R: Wait + Drop,
     K: Clock,
     X: Outside<DB::Connection, DB::Options>,
-> Executor<DB> for PoolHandle<'p, DB::Connection, DB::Options, H, L, R, K, X>
+> Executor<DB> for PoolHandle<'p, PoolOf<DB::Connection, DB::Options, H, L>, L, R, K, X>
 where
     DB::Connection: Executor<DB> + Drop,
 {

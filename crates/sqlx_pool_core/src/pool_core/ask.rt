@@ -6,7 +6,7 @@ ghost use Rattle.sqlx_log.specs.Marks.{is_open, tickets_of, next_ticket};
 ghost use Rattle.sqlx_log.specs.Counts.{asked_in};
 ghost use Rattle.sqlx_log.specs.Answers.{lent_past_at};
 ghost use Rattle.sqlx_member.specs.Logs.{Logs, moment_of};
-ghost use Rattle.sqlx_pool_core.specs.Answers.{is_busy, lent_conn};
+ghost use Rattle.sqlx_member.specs.Answers.{is_busy, lent_conn};
 ghost use Rattle.sqlx_pool_lists.specs.Core.{waiting, free};
 ghost use Rattle.sqlx_log.specs.declared.mark.Mark.{Mark};
 ghost use Rattle.sqlx_pool_lists.specs.Makes.{Makes};

@@ -7,7 +7,7 @@ ghost use Rattle.sqlx_log.specs.Marks.{owner_of, is_shut};
 ghost use Rattle.sqlx_log.specs.Answers.{owns, is_kept_at};
 ghost use Rattle.sqlx_log.specs.EventTable.{closes};
 ghost use Rattle.sqlx_member.specs.Logs.{Logs, moment_of};
-ghost use Rattle.sqlx_pool_core.specs.Answers.{IsGivenAt};
+ghost use Rattle.sqlx_member.specs.Answers.{IsGivenAt};
 ghost use Rattle.sqlx_pool_lists.specs.Limits.{limits_of};
 ghost use Rattle.sqlx_pool_lists.specs.Core.{loan_of};
 ghost use Rattle.sqlx_pool_lists.specs.Balance.{Balance, given_back, one_if};

@@ -7,7 +7,8 @@ ghost use Rattle.sqlx_pool_lists.specs.Core.{ticket_of};
 ghost use Rattle.sqlx_member.specs.Logs.{Logs, moment_of};
 ghost use Rattle.sqlx_pool_lists.specs.StandsFor.{StandsFor};
 ghost use Rattle.sqlx_pool_lists.specs.CoreTurn.{core_turn, turn_at_marks};
-ghost use Rattle.sqlx_pool_core.specs.PollParts.{IfReady, IfRefused, IsForGood, WhereIdleRests, first_depth, tried_answer, next_try_at};
+ghost use Rattle.sqlx_member.specs.CameTo.{IsForGood};
+ghost use Rattle.sqlx_pool_core.specs.PollParts.{IfReady, IfRefused, WhereIdleRests, first_depth, tried_answer, next_try_at};
 ghost use Rattle.sqlx_pool_lists.specs.PollSteps.{phase_for, judged, tested_at, may_test_next, test_answer, test_marks, after_test, connect_answer, connect_marks, after_connect};
 ghost use Rattle.sqlx_pool_core.specs.Walk.{GoesOn, Polls, Test, Connect, last, tried_of};
 

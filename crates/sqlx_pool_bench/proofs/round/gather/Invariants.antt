@@ -1,4 +1,4 @@
-use Rattle.std.proofs.Common.{◌≡◌, ◌+◌, ◌*◌, ◌^◌, ◌<◌, vec_len}
+use Rattle.std.proofs.Common.{◌+◌, ◌*◌, ◌^◌, ◌<◌, vec_len}
 use Rattle.sqlx_pool_bench.proofs.round.gather.Given as goal
 
 -- what isn't gathered yet has room

@@ -1,5 +1,5 @@
-use Rattle.std.proofs.Common.{◌≡◌, ◌∙◌, ◌<◌, ◌^◌, ◌∷◌, ◌++◌, [], false, sym, ap, subst}
-use Rattle.sqlx_family.specs.Pools.{pools_of, new_family}
+use Rattle.std.proofs.Common.{◌∙◌, ◌<◌, ◌^◌, ◌∷◌, ◌++◌, [], false, sym, ap, subst}
+use Rattle.sqlx_family.specs.Pools.{pools_of}
 use Rattle.sqlx_family.specs.IsFamily.{IsFamily}
 use Rattle.sqlx_family.proofs.FamilyLemmas.{new-value, family-new}
 use Rattle.sqlx_family.proofs.family.Family.root.Goals as goal

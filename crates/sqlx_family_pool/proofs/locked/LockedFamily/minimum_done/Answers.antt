@@ -2,9 +2,9 @@ use Rattle.std.proofs.Common.{◌<◌, ◌≤◌, ◌++◌, length, ap, ◌∙�
 use Rattle.sqlx_member.specs.Logs.{moment_of}
 use Rattle.sqlx_pool_lists.specs.MaintenanceSteps.{done_marks}
 use Rattle.sqlx_family.specs.Pools.{pool_in}
-use Rattle.sqlx_pool.specs.Places.{holds_place, done_if_marks}
-use Rattle.sqlx_pool.proofs.LeavesLemmas.{done-leaves}
-use Rattle.sqlx_pool.proofs.StepLemmas.{kept-books, done-lends}
+use Rattle.sqlx_pool_base.specs.Places.{holds_place, done_if_marks}
+use Rattle.sqlx_pool_base.proofs.LeavesLemmas.{done-leaves}
+use Rattle.sqlx_pool_base.proofs.StepLemmas.{kept-books, done-lends}
 use Rattle.sqlx_family_pool.proofs.Replaces.{replaces-step}
 use Rattle.sqlx_family_pool.proofs.StepLemmas.{in-logs, room-there, logs-grow, written, held-marks}
 use Rattle.sqlx_family_pool.proofs.locked.LockedFamily.minimum_done.Goals as goal

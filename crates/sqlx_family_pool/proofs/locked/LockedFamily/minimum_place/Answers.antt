@@ -1,8 +1,8 @@
 use Rattle.std.proofs.Common.{◌<◌, [], List, length, append-nil, refl, ap, ◌∙◌, sym, arith, vec_items}
 use Rattle.sqlx_log.specs.declared.mark.Mark.{Mark}
 use Rattle.sqlx_family.specs.Pools.{pool_in}
-use Rattle.sqlx_pool.proofs.LeavesLemmas.{placed-leaves}
-use Rattle.sqlx_pool.proofs.StepLemmas.{kept-books}
+use Rattle.sqlx_pool_base.proofs.LeavesLemmas.{placed-leaves}
+use Rattle.sqlx_pool_base.proofs.StepLemmas.{kept-books}
 use Rattle.sqlx_family_pool.specs.FamilyState.{family_state}
 use Rattle.sqlx_family_pool.proofs.Replaces.{replaces-put}
 use Rattle.sqlx_family_pool.proofs.StepLemmas.{in-logs, room-there, written, place-few}

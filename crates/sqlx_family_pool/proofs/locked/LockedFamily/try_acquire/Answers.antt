@@ -4,7 +4,7 @@ use Rattle.sqlx_member.specs.Logs.{moment_of}
 use Rattle.sqlx_pool_lists.specs.PollSteps.{try_marks}
 use Rattle.sqlx_family.specs.Pools.{pool_in}
 use Rattle.sqlx_family.specs.RootLine.{passes_in}
-use Rattle.sqlx_pool.proofs.LeavesLemmas.{try-leaves, try-flat}
+use Rattle.sqlx_pool_base.proofs.LeavesLemmas.{try-leaves, try-flat}
 use Rattle.sqlx_family_pool.specs.FamilyState.{family_state}
 use Rattle.sqlx_family_pool.proofs.Replaces.{replaces-put}
 use Rattle.sqlx_family_pool.proofs.StepLemmas.{in-logs, room-there, logs-grow, written, few-held}

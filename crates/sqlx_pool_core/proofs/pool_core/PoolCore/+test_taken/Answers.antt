@@ -3,7 +3,8 @@ use Rattle.sqlx_pool_lists.specs.declared.steps.AfterTest.TheVariants as tested
 use Rattle.sqlx_pool_lists.specs.Core.{Core}
 use Rattle.sqlx_pool_lists.specs.PollSteps.{phase_for, tested_at}
 use Rattle.sqlx_member.proofs.Fair.{makes-nothing}
-use Rattle.sqlx_pool_core.proofs.Polling.{tests-judged, untested-connects, next-found, fewer-idle, tested-goes}
+use Rattle.sqlx_member.proofs.CheckEnds.{tests-judged}
+use Rattle.sqlx_pool_core.proofs.Polling.{untested-connects, next-found, fewer-idle, tested-goes}
 use Rattle.sqlx_pool_core.proofs.pool_core.PoolCore.+test_taken.Goals as goal
 
 pub test_ended-requires-clause-tested : goal.test_ended-requires-clause-tested

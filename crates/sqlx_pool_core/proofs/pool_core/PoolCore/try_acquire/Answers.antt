@@ -2,7 +2,7 @@ use Rattle.sqlx_pool_core.proofs.Alone.{try-alone, moves-alone}
 use Rattle.std.proofs.Common.{rules, refl, ◌≡◌, ◌∙◌, ap, option_map}
 use Rattle.sqlx_pool_lists.specs.Core.{waiting, free}
 use Rattle.sqlx_log.specs.EventTable.{may_pass}
-use Rattle.sqlx_pool_core.specs.Answers.{lent_conn}
+use Rattle.sqlx_member.specs.Answers.{lent_conn}
 use Rattle.sqlx_pool_lists.specs.Balance.{try_room}
 use Rattle.sqlx_pool_lists.specs.PollSteps.{try_marks, try_lent}
 use Rattle.sqlx_pool_core.proofs.AnswersAtMarks.{try-at}

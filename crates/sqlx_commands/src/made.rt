@@ -1,0 +1,42 @@
+//! Plays the made script, and writes its summary.
+ghost use Rattle.std.specs.Prelude.{◌≡◌, ◌≤◌, ◌^◌, ◌<◌, IfOk, IfErr, OnOk};
+ghost use Rattle.sqlx_script.specs.Grammar.{Script, IsScript, script_of};
+ghost use Rattle.sqlx_rules.specs.Output.{output_of};
+ghost use Rattle.sqlx_made.specs.Made.{made_text};
+ghost use Rattle.sqlx_play.specs.Memory.{sure_written};
+ghost use Rattle.sqlx_play.specs.Causes.{TextCause, WrotePart};
+ghost use Rattle.sqlx_commands.specs.MadeRuns.{Summarizes, summary_due};
+ghost use Rattle.sqlx_play.specs.declared.error.PlayError.TheVariants.{OutOfMemory as out_of_memory};
+
+use sqlx_made::{made_script, made_summary};
+use sqlx_play::{ByStore, PlayError, Sink, SureSink, SureSource, play_by, write_all};
+use std::alloc::Global;
+
+// Plays the made script in memory, straight to the store.
+fn played_made(alloc: Global, lines: u32, seed: u32) -> Result<SureSink, PlayError>
+    requires some { 1 ≤ lines }
+    requires few { lines ≤ 10000 }
+    ensures ok { IfOk result (λ sink. (script : Script) × IsScript (made_text lines seed) script × (sure_written sink ≡ output_of script)) }
+    ensures err { IfErr result (λ error. error ≡ out_of_memory) }
+{
+    let text = made_script(alloc, lines, seed)?;
+    let mut source = SureSource::new(text.into_bytes());
+    let mut sink = SureSink::new(alloc);
+    let played = play_by::<ByStore, _, _>(alloc, &mut source, &mut sink)?;
+    drop(played);
+    Ok(sink)
+}
+
+/// Plays the made script of so many lines for this seed in memory, and writes its summary to the sink.
+pub fn make<K: Sink>(alloc: Global, lines: u32, seed: u32, sink: &mut K) -> Result<(), PlayError>
+    requires some { 1 ≤ lines }
+    requires few { lines ≤ 10000 }
+    ensures ok { OnOk result (Summarizes lines seed (K.written sink.old) (K.written sink.new)) }
+    ensures rises { K.faults sink.old ≤ K.faults sink.new }
+    ensures cause { IfErr result (TextCause (λ _. ⊥) (WrotePart (K.written sink.old) (K.written sink.new) (summary_due lines (script_of (made_text lines seed))))
+        (K.faults sink.old) (K.faults sink.new)) }
+{
+    let played = played_made(alloc, lines, seed)?;
+    let summary = made_summary(alloc, lines, played.written())?;
+    write_all(sink, &summary)
+}

@@ -1,0 +1,2 @@
+pub mod IdleQueues
+pub mod HeldLists

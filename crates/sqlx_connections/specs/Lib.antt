@@ -1,0 +1,2 @@
+pub mod HeldList
+pub mod IdleList

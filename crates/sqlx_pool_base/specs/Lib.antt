@@ -1,0 +1,14 @@
+pub use Rattle.sqlx_pool_parts.specs.Booked
+pub use Rattle.sqlx_pool_parts.specs.LogStart
+pub use Rattle.sqlx_pool_parts.specs.State
+pub use Rattle.sqlx_pool_parts.specs.Answers
+pub use Rattle.sqlx_pool_parts.specs.Checks
+pub use Rattle.sqlx_pool_parts.specs.Opened
+pub use Rattle.sqlx_pool_parts.specs.MarkLog
+pub mod Places
+pub mod Stage
+pub mod Polling
+pub mod Refusals
+pub mod Returned
+pub mod Seen
+pub mod Upkeep

@@ -1,4 +1,0 @@
-pub mod TicketPlaces
-pub mod Counting
-pub mod IdleQueues
-pub mod HeldLists

@@ -1,0 +1,2 @@
+pub mod TicketPlaces
+pub mod Counting
