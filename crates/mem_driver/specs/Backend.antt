@@ -70,9 +70,14 @@ abbrev pub BeginsAt : ℕ → Option Act → Session → Outcome → Session →
 BeginsAt zero act before outcome after = BeginsBy act before (refusal_of act before.work) outcome after
 BeginsAt (suc levels) act before outcome after = (outcome ≡ Err error.InvalidSavePointStatement) × (after ≡ before)
 
+-- a ping takes no memory: it is refused exactly where an answer that refuses was handed in
+abbrev pub Pings : Session → Option Refusal → Outcome → Session → Type 0
+Pings before None outcome after = (outcome ≡ Ok tt) × (after ≡ before)
+Pings before (Some reason) outcome after = (outcome ≡ Err (error_of reason)) × (after ≡ refused before)
+
 -- what a call besides queries answers, and the session after it
 abbrev pub Does : Call → Session → Outcome → Session → Type 0
-Does ping before outcome after = Goes before before (refused before) (fault_of before.work.answer) outcome after
+Does ping before outcome after = Pings before (fault_of before.work.answer) outcome after
 Does (begin None) before outcome after = Begins (Level (begin_at (depth before))) before outcome after
 Does (begin (Some text)) before outcome after = BeginsAt (depth before) (asked text None) before outcome after
 Does commit before outcome after = Ends (Level (commit_at (depth before))) before outcome after

@@ -4,3 +4,4 @@ pub mod Answers
 pub mod Prepared
 pub mod Backend
 pub mod Opened
+pub mod Shared

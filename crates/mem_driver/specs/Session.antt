@@ -2,7 +2,7 @@
 use Rattle.std.specs.Prelude.{◌&&◌, ℕ, Bool, true, false, is_some, List, [], Option, refl}
 use Rattle.std.specs.Coded.{Coded, code_by, coded×, coded_bool, coded_list, coded_ℕ}
 use Rattle.lru.specs.LruCache.{LruCache, lru_cache, lru_cache_code}
-use Rattle.sqlx_statements.specs.Cache.{inserted}
+use Rattle.sqlx_text.specs.Cache.{inserted}
 use Rattle.sqlx_any.specs.declared.arguments.AnyArguments.{AnyArguments}
 use Rattle.mem_store.specs.Statements.{read_statement}
 use Rattle.mem_store.specs.Store.{Link as Side, Session as Work, link_code as side_code, session_code as work_code}

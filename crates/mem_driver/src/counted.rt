@@ -8,7 +8,7 @@ ghost use Rattle.mem_driver.specs.Session.{depth, rolled_back, undo};
 
 use crate::session::MemSession;
 use mem_store::{commit_at, rollback_at};
-use sqlx_line::Steps;
+use sqlx_pool_places::Steps;
 use sqlx_text::Error;
 use std::sync::ledger::{Blank, Ledger};
 

@@ -13,7 +13,7 @@ ghost use Rattle.mem_driver.specs.Session.{acted, depth, undo};
 use crate::asked::asked;
 use crate::session::MemSession;
 use mem_store::{Act, statement_of};
-use sqlx_line::Steps;
+use sqlx_pool_places::Steps;
 use sqlx_savepoints::LevelText;
 use sqlx_text::{Error, OutOfMemory, SqlStr};
 use std::sync::ledger::Ledger;

@@ -4,8 +4,7 @@ ghost use Rattle.mem_store.specs.Store.{connected, new_link, closed_at};
 ghost use Rattle.mem_driver.specs.Session.{new_cache};
 
 use mem_store::{MemStore, StoreLink};
-use sqlx_statements::StatementCache;
-use sqlx_text::OutOfMemory;
+use sqlx_text::{OutOfMemory, StatementCache};
 use std::alloc::Global;
 use std::marker::Model;
 

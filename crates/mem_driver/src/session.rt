@@ -12,8 +12,7 @@ use crate::answers::{Steps, all, found, one, written};
 use crate::link::MemLink;
 use mem_store::{Act, Answer, MemStore, StoreSession};
 use sqlx_any::StepList;
-use sqlx_statements::StatementCache;
-use sqlx_text::{Error, OutOfMemory};
+use sqlx_text::{Error, OutOfMemory, StatementCache};
 use std::alloc::Global;
 use std::marker::Model;
 

@@ -1,6 +1,6 @@
 -- Rows that are written in place are those over which the writes are laid, in whatever order the keys stand.
 use Rattle.std.proofs.Common.{◌≡◌, ℕ, zero, suc, ◌+◌, ◌<◌, ℤ, true, false, cond, List, [], ◌∷◌, ◌++◌, length, take, get_or, add-one, arith, Option, Some, None, refl, sym, ap, ◌∙◌}
-use Rattle.sqlx_numbered.specs.Numbered.{items_at}
+use Rattle.sqlx_pool_places.specs.Numbered.{items_at}
 use Rattle.std.specs.Ordering.{int_cmp, eq_by_cmp}
 use Rattle.std.specs.Cmp.{int_cmp_total}
 use Rattle.std.specs.FinMap.{get, insert, remove, from_entries, find, get-insert, get-remove, get-from_entries, same_map, int_cmp-IsAntisymmetric}

@@ -6,8 +6,8 @@ use Rattle.std.specs.Ordering.{int_cmp, eq_by_cmp}
 use Rattle.std.specs.Cmp.{int_cmp_total, eq_by_cmp_equiv}
 use Rattle.std.specs.FinMap.{get, insert, remove, from_entries, find, get-insert, get-remove, get-from_entries, same_map, int_cmp-IsAntisymmetric}
 use Rattle.std.proofs.lemmas.Bool.Decides.{eqb_tells}
-use Rattle.sqlx_numbered.specs.Numbered.{items_at, HasNone, IsFirstAt}
-use Rattle.sqlx_numbered.proofs.Places.{Sides, sides}
+use Rattle.sqlx_pool_places.specs.Numbered.{items_at, HasNone, IsFirstAt}
+use Rattle.sqlx_pool_places.proofs.Places.{Sides, sides}
 use Rattle.mem_store.specs.OwnWrites.{number_of, StandOnce, StandsAt}
 use Rattle.mem_store.specs.UndoLog.{put_back}
 use Rattle.mem_store.proofs.Trees.{tied}

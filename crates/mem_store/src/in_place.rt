@@ -10,7 +10,7 @@ use crate::answer::Answer;
 use crate::link::StoreLink;
 use crate::refusal::Refusal;
 use crate::store::MemStore;
-use sqlx_line::Steps;
+use sqlx_pool_places::Steps;
 use sqlx_savepoints::LevelText;
 use sqlx_text::OutOfMemory;
 use std::marker::Brand;

@@ -7,7 +7,7 @@ ghost use Rattle.mem_store.specs.Undo.{Counts, CountsFall, noted_at, undo_after,
 use crate::rows::Rows;
 use crate::savepoint_stack::SavepointStack;
 use crate::writes::write;
-use sqlx_line::Steps;
+use sqlx_pool_places::Steps;
 use sqlx_savepoints::LevelText;
 use sqlx_text::OutOfMemory;
 use std::alloc::Global;

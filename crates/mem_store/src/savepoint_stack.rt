@@ -13,7 +13,7 @@ ghost use Rattle.mem_store.specs.Undo.{CountsFall, noted};
 use crate::rows::Rows;
 use crate::saved::{Change, Saved};
 use crate::writes::Writes;
-use sqlx_line::Steps;
+use sqlx_pool_places::Steps;
 use sqlx_text::OutOfMemory;
 use std::alloc::Global;
 use std::collections::VecDeque;

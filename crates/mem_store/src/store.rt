@@ -10,7 +10,7 @@ use crate::link::StoreLink;
 use crate::rows::Rows;
 use crate::runs::Runs;
 use crate::session::StoreSession;
-use sqlx_line::Steps;
+use sqlx_pool_places::Steps;
 use sqlx_savepoints::LevelText;
 use sqlx_text::OutOfMemory;
 use std::alloc::Global;

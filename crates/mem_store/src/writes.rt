@@ -2,15 +2,15 @@
 ghost use Rattle.std.specs.Prelude.{◌≡◌, ◌<◌, ◌∷◌, [], length, vec_capacity, IfOk, OnOk, OnErr, IfSome, IfNone, None};
 ghost use Rattle.std.specs.FinMap as finite;
 ghost use Rattle.std.specs.Ordering.{int_cmp};
-ghost use Rattle.sqlx_numbered.specs.Numbered.{items_at};
-ghost use Rattle.sqlx_numbered.specs.Notes.{Tells};
+ghost use Rattle.sqlx_pool_places.specs.Numbered.{items_at};
+ghost use Rattle.sqlx_pool_places.specs.Notes.{Tells};
 ghost use Rattle.sqlx_savepoints.specs.Rows.{laid, written};
 ghost use Rattle.mem_store.specs.OwnWrites.{number_of, StandOnce, StandsAt};
 ghost use Rattle.mem_store.specs.UndoLog.{deletions_done, put_back, unwritten, values_inserted};
 
 use crate::rows::Rows;
 use crate::saved::Overwrite;
-use sqlx_numbered::{Notes, Numbering};
+use sqlx_pool_places::{Notes, Numbering};
 use sqlx_text::OutOfMemory;
 use std::alloc::Global;
 use std::collections::VecDeque;
@@ -47,8 +47,8 @@ impl Model for Writes {
     ghost use Rattle.std.specs.FinMap as finite;
     ghost use Rattle.std.specs.Ordering.{int_cmp};
     ghost use Rattle.std.specs.Coded.{coded_ℤ, coded_option};
-    ghost use Rattle.sqlx_numbered.specs.Numbered.{items_at};
-    ghost use Rattle.sqlx_numbered.specs.Notes.{Tells};
+    ghost use Rattle.sqlx_pool_places.specs.Numbered.{items_at};
+    ghost use Rattle.sqlx_pool_places.specs.Notes.{Tells};
     ghost use Rattle.mem_store.specs.OwnWrites.{number_of, StandOnce};
 
     ghost Value = { finite.FinMap int_cmp (Option ℤ) };

@@ -1,6 +1,6 @@
 //! A row of the shelf.
 
-use sqlx_from_row::{FromColumn, FromRow};
+use sqlx_query_rows::{FromColumn, FromRow};
 use sqlx_text::Error;
 use sqlx_traits::Database;
 use std::alloc::Global;
@@ -17,7 +17,7 @@ where
     String: FromColumn<DB>,
     i64: FromColumn<DB>,
 {
-    ghost use Rattle.sqlx_from_row.specs.FromRow.{Gives, Then};
+    ghost use Rattle.sqlx_query_rows.specs.FromRow.{Gives, Then};
 
     ghost made = { λ row. Then (⟦<String as FromColumn<DB>>⟧.column 0 row) λ title. Then (⟦<i64 as FromColumn<DB>>⟧.column 1 row) λ pages.
         Gives (record { title = title; pages = pages }) };

@@ -3,8 +3,8 @@
 use crate::opening::{closed, opened};
 use crate::shelf::runs;
 use sqlx_any::{Any, AnyOpen, Database, Encode, Executor, IntoArguments, SqlType};
-use sqlx_from_row::FromRow;
 use sqlx_query::{query, query_as};
+use sqlx_query_rows::FromRow;
 use sqlx_text::Error;
 use std::alloc::Global;
 

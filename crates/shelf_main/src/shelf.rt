@@ -3,10 +3,10 @@
 use crate::book::Book;
 use crate::opening::{closed, opened};
 use sqlx_any::{Any, AnyOpen, Database, Encode, Executor, IntoArguments, SqlType};
-use sqlx_from_row::FromRow;
 use sqlx_query::{query, query_as};
+use sqlx_query_rows::FromRow;
 use sqlx_text::Error;
-use sqlx_tx::{Borrowed, Hold, Transaction, calls};
+use sqlx_tx::calls;
 use std::alloc::Global;
 
 /// A book that is added: its title and its pages.
@@ -118,37 +118,9 @@ where
     &'t str: Encode<'t, DB> + SqlType<DB>,
     i64: Encode<'t, DB> + SqlType<DB>,
 {
-    let mut tx = calls::begin::<DB>(alloc, conn)?;
-    let added = add_all::<DB, DB::Connection>(alloc, tx.as_mut(), books);
-    let (holder, kept) = ends::<DB, Borrowed<'_, DB>>(alloc, tx, added.is_ok());
-    let Borrowed(_conn) = holder;
-    both(added, kept)
-}
-
-// Ends a transaction, if what ran in it left it open: it is committed, or given up.
-fn ends<DB: Database, H: Hold<DB>>(
-    alloc: Global,
-    tx: Transaction<DB, H>,
-    is_kept: bool,
-) -> (H, Result<(), Error>) {
-    if !calls::is_in_transaction::<DB>(tx.as_ref()) {
-        (tx.into_holder(), Ok(()))
-    } else if is_kept {
-        tx.commit(alloc)
-    } else {
-        (tx.give_up(), Ok(()))
-    }
-}
-
-// The first refusal of two answers.
-fn both(first: Result<(), Error>, second: Result<(), Error>) -> Result<(), Error> {
-    match first {
-        Ok(()) => second,
-        Err(error) => {
-            drop(second);
-            Err(error)
-        }
-    }
+    calls::within::<DB, _, (), Error>(alloc, conn, |conn| -> Result<(), Error> {
+        add_all::<DB, DB::Connection>(alloc, conn, books)
+    })
 }
 
 // The books of more pages than this, by their titles.

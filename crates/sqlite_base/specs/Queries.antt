@@ -1,12 +1,12 @@
 -- What a text gives with its arguments, or why it is refused: in the words of the crate `sqlite`, where the disk has returned what was written.
-use Rattle.std.specs.Prelude.{◌≡◌, ◌⊎◌, ℕ, ◌==◌, pos, Bool, true, false, if◌then◌else◌, List, [], ◌∷◌, ◌++◌, length, map, codes, Option, Some, None, Ok}
-use Rattle.std.specs.List.{starts_with}
+use Rattle.std.specs.Prelude.{◌≡◌, ◌⊎◌, ℕ, pos, Bool, true, false, if◌then◌else◌, List, [], ◌∷◌, ◌++◌, length, map, Option, Some, None, Ok, Err}
 use Rattle.either.specs.declared.Either.{Either}
 use Rattle.either.specs.declared.Either.TheVariants.{Left, Right}
 use Rattle.sqlite_value.specs.declared.value.Value.{Value}
 use Rattle.sqlite_value.specs.declared.value.Value.TheVariants as value
 use Rattle.sqlite_value.specs.Order.{Row, column}
 use Rattle.sqlite.specs.declared.error.Error.{Error as Cause}
+use Rattle.sqlite.specs.declared.error.Error.TheVariants.{ExecuteReturnedResults}
 use Rattle.sqlite.specs.Files.{file_state}
 use Rattle.sqlite.specs.Held.{state}
 use Rattle.sqlite.specs.Listing.{understood}
@@ -23,7 +23,6 @@ use Rattle.sqlx_any_values.specs.declared.query_result.AnyQueryResult.{AnyQueryR
 use Rattle.sqlx_any_values.specs.declared.value.AnyValueKind.{AnyValueKind}
 use Rattle.sqlx_any_values.specs.declared.value.AnyValueKind.TheVariants as kind
 use Rattle.sqlite_base.specs.Refusals.{IsToldBy, no_kind}
-use Rattle.sqlite_base.specs.Ran.{Refuses}
 use Rattle.sqlite_base.specs.declared.base.Base.{Base}
 use Rattle.sqlite_base.specs.declared.base.Base.TheVariants.{Memory, File}
 
@@ -87,9 +86,14 @@ GainsRows names (values ∷ later) before after = (row : RowParts) × GainsCells
 
 -- ---- queries
 
--- a text whose rows are asked for
-abbrev pub is_select : List ℕ → Bool
-is_select text = starts_with ◌==◌ text (codes "SELECT ")
+-- the cause for which a text isn't executed that gives rows
+abbrev pub tells_of_rows : Cause → Bool
+tells_of_rows ExecuteReturnedResults = true
+tells_of_rows _ = false
+
+-- a text with these values gives rows: it wasn't executed for that, where the disk has returned what was written
+abbrev pub HasRows : List ℕ → Row → State → State → Type 0
+HasRows text values before after = (cause : Cause) × (tells_of_rows cause ≡ true) × (HasCleanDisk after → Executes text values before after (Err cause))
 
 -- a statement that gives rows gives no count
 abbrev pub no_count : AnyQueryResult
@@ -99,18 +103,26 @@ no_count = record { rows_affected = 0; last_insert_id = None }
 abbrev pub IsPrepared : List ℕ → State → State → Outline → Type 0
 IsPrepared text before after outline = HasCleanDisk after → (IsUnchanged before after × (outline.text ≡ text)) × Outlines (understood before.now.schema text) outline
 
--- by what a connection shows, these items are what a text with these values gives: of a text whose rows are asked for its rows under its columns' names, and a result without a count; of any other how many rows it changed, and the number of the last row that was inserted
-abbrev pub Gives : {C : Type 0} → (C → State) → Bool → List ℕ → Row → C → C → List Item → Type 0
-Gives {C = C} state true text values before after items = (outline : Outline) × (prepared : C) × (rows : List Row) × (shown : List Item)
+-- by what a connection shows, these items are the rows of a text with these values, under its columns' names, and a result without a count
+abbrev pub GivesRows : {C : Type 0} → (C → State) → List ℕ → Row → C → C → List Item → Type 0
+GivesRows {C = C} state text values before after items = (outline : Outline) × (prepared : C) × (rows : List Row) × (shown : List Item)
     × IsPrepared text (state before) (state prepared) outline × (HasCleanDisk (state after) → Shown text values (state prepared) (state after) rows)
     × GainsRows outline.columns rows [] shown × (items ≡ shown ++ Left no_count ∷ [])
-Gives state false text values before after items = (count : ℕ) × (HasCleanDisk (state after) → Executes text values (state before) (state after) (Ok count))
+
+-- likewise how many rows a text changed, and the number of the last row that was inserted
+abbrev pub GivesCount : {C : Type 0} → (C → State) → List ℕ → Row → C → C → List Item → Type 0
+GivesCount state text values before after items = (count : ℕ) × (HasCleanDisk (state after) → Executes text values (state before) (state after) (Ok count))
     × (items ≡ Left (record { rows_affected = count; last_insert_id = Some (state after).last_rowid }) ∷ [])
+
+-- these items are what a text with these values gives: of one that gives rows its rows, of any other its count
+abbrev pub Gives : {C : Type 0} → (C → State) → List ℕ → Row → C → C → List Item → Type 0
+Gives {C = C} state text values before after items = GivesCount state text values before after items
+    ⊎ ((asked : C) × HasRows text values (state before) (state asked) × GivesRows state text values asked after items)
 
 -- the same of a database in memory or in a file
 abbrev pub GivesOn : List ℕ → Row → Base → Base → List Item → Type 0
-GivesOn text values (Memory before) (Memory after) items = Gives (state over_memory) (is_select text) text values before after items
-GivesOn text values (File before) (File after) items = Gives file_state (is_select text) text values before after items
+GivesOn text values (Memory before) (Memory after) items = Gives (state over_memory) text values before after items
+GivesOn text values (File before) (File after) items = Gives file_state text values before after items
 GivesOn text values _ _ items = ⊥
 
 -- ---- refused queries
@@ -127,15 +139,23 @@ RefusesToShow text values before after e = (cause : Cause) × (HasCleanDisk afte
 abbrev pub ShowsUnfit : List ℕ → Row → State → State → Error → Type 0
 ShowsUnfit text values before after e = (rows : List Row) × (HasCleanDisk after → Shown text values before after rows) × (e ≡ no_kind)
 
--- by what a connection shows, a text with these values is refused: where its rows are asked for, as it is prepared, or after that as its rows are shown or told; and else as it is executed
-abbrev pub RefusesQuery : {C : Type 0} → (C → State) → Bool → List ℕ → Row → C → C → Error → Type 0
-RefusesQuery {C = C} state true text values before after e = RefusesToPrepare text (state before) (state after) e
+-- a text with these values isn't executed, for another cause than that it gives rows, likewise
+abbrev pub RefusesToExecute : List ℕ → Row → State → State → Error → Type 0
+RefusesToExecute text values before after e = (cause : Cause) × (tells_of_rows cause ≡ false) × (HasCleanDisk after → Executes text values before after (Err cause)) × IsToldBy cause e
+
+-- by what a connection shows, a text with these values is refused as it is prepared, or after that as its rows are shown or told
+abbrev pub RefusesRows : {C : Type 0} → (C → State) → List ℕ → Row → C → C → Error → Type 0
+RefusesRows {C = C} state text values before after e = RefusesToPrepare text (state before) (state after) e
     ⊎ ((outline : Outline) × (prepared : C) × IsPrepared text (state before) (state prepared) outline
     × (RefusesToShow text values (state prepared) (state after) e ⊎ ShowsUnfit text values (state prepared) (state after) e))
-RefusesQuery state false text values before after e = Refuses text values (state before) (state after) e
+
+-- a text with these values is refused as it is executed, or, where it gives rows, as these are asked for
+abbrev pub RefusesQuery : {C : Type 0} → (C → State) → List ℕ → Row → C → C → Error → Type 0
+RefusesQuery {C = C} state text values before after e = RefusesToExecute text values (state before) (state after) e
+    ⊎ ((asked : C) × HasRows text values (state before) (state asked) × RefusesRows state text values asked after e)
 
 -- the same of a database in memory or in a file
 abbrev pub RefusesQueryOn : List ℕ → Row → Base → Base → Error → Type 0
-RefusesQueryOn text values (Memory before) (Memory after) e = RefusesQuery (state over_memory) (is_select text) text values before after e
-RefusesQueryOn text values (File before) (File after) e = RefusesQuery file_state (is_select text) text values before after e
+RefusesQueryOn text values (Memory before) (Memory after) e = RefusesQuery (state over_memory) text values before after e
+RefusesQueryOn text values (File before) (File after) e = RefusesQuery file_state text values before after e
 RefusesQueryOn text values _ _ e = ⊥

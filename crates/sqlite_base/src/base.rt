@@ -5,6 +5,7 @@ ghost use Rattle.sqlite.specs.Opening.{is_open_error};
 ghost use Rattle.sqlite.specs.Steps.{IsEmpty, over_memory};
 ghost use Rattle.sqlite.specs.declared.error.Error.{Error as Cause};
 ghost use Rattle.sqlx_text.specs.declared.error.Error.{Error};
+ghost use Rattle.sqlx_traits.specs.Faults.{CloseCause, OpenCause};
 ghost use Rattle.sqlite_base.specs.OpenedBase.{IsFile, IsInMemory};
 ghost use Rattle.sqlite_base.specs.Refusals.{IsRefusal, IsToldBy, refusal_error};
 ghost use Rattle.sqlite_base.specs.Ran.{RanOn, RefusedOn, RefusesRollback, RolledBackTo, in_transaction};
@@ -43,6 +44,7 @@ impl Base {
     pub fn in_memory(alloc: Global) -> Result<Base, Error>
         ensures opened { IfOk result IsInMemory }
         ensures told { IfErr result IsRefusal }
+        ensures cause { IfErr result OpenCause }
     {
         match Connection::open_in_memory(alloc) {
             Ok(conn) => with_table(alloc, conn),
@@ -119,6 +121,7 @@ impl Base {
     pub fn close(self, alloc: Global) -> Result<(), Refusal>
         ensures closed { OnOk result (HasClosed self) }
         ensures refused { IfErr result (λ refusal. RefusesClose self (refusal_error refusal)) }
+        ensures cause { IfErr result (λ refusal. CloseCause (refusal_error refusal)) }
     {
         match self {
             Base::Memory(conn) => {
@@ -130,10 +133,12 @@ impl Base {
     }
 }
 
+#[tactic(auto, using(crate::proofs::RefusalLemmas::opens_told))]
 fn with_table(alloc: Global, conn: Connection<MemStore>) -> Result<Base, Error>
     requires { IsEmpty (state over_memory conn) }
     ensures opened { IfOk result IsInMemory }
     ensures told { IfErr result IsRefusal }
+    ensures cause { IfErr result OpenCause }
 {
     let mut conn = conn;
     match statements::perform(
@@ -150,6 +155,7 @@ fn with_table(alloc: Global, conn: Connection<MemStore>) -> Result<Base, Error>
 fn close_file(alloc: Global, conn: Connection<FileStore<File>>) -> Result<(), Refusal>
     ensures closed { OnOk result (HasClosed (Base.File conn)) }
     ensures refused { IfErr result (λ refusal. RefusesClose (Base.File conn) (refusal_error refusal)) }
+    ensures cause { IfErr result (λ refusal. CloseCause (refusal_error refusal)) }
 {
     match conn.close_files() {
         Ok(files) => {

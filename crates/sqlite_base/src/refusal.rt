@@ -1,6 +1,6 @@
 //! Why a statement is refused, and the error by which that is told.
 ghost use Rattle.std.specs.Prelude.{◌≡◌, ◌≢◌, ℕ};
-ghost use Rattle.sqlx_traits.specs.Faults.{FaultCause, HasRisen};
+ghost use Rattle.sqlx_traits.specs.Faults.{CloseCause, FaultCause, HasRisen};
 ghost use Rattle.sqlite_base.specs.Refusals.{IsRefusal, IsToldBy, cause_kind, refusal_error};
 
 use sqlite::{Constraint, ErrorCode};
@@ -57,7 +57,8 @@ impl From<OutOfMemory> for Refusal {
 
 /// A refusal of the database, told by its message. Want of memory is told as that.
 pub(crate) fn refused(alloc: Global, cause: sqlite::Error) -> Refusal
-    ensures { IsToldBy cause (refusal_error result) }
+    ensures told { IsToldBy cause (refusal_error result) }
+    ensures cause { CloseCause (refusal_error result) }
 {
     if let sqlite::Error::SqliteFailure(ErrorCode::OutOfMemory) = cause {
         return Refusal::OutOfMemory;

@@ -1,13 +1,14 @@
 //! Statements on the database's own connection.
-ghost use Rattle.std.specs.Prelude.{◌≡◌, ◌⊎◌, ◌∷◌, ◌++◌, [], Bool, IfErr, IfOk, List, Ok, OnOk};
+ghost use Rattle.std.specs.Prelude.{◌≡◌, ◌⊎◌, ◌∷◌, ◌++◌, [], IfErr, IfNone, IfOk, IfSome, List, Ok, OnOk};
 ghost use Rattle.either.specs.declared.Either.TheVariants.{Left};
 ghost use Rattle.sqlite.specs.State.{Executes, HasCleanDisk, Shown};
 ghost use Rattle.sqlite.specs.Held.{state};
 ghost use Rattle.sqlite.specs.Values.{bound};
 ghost use Rattle.sqlx_text.specs.declared.error.Error.{Error};
+ghost use Rattle.sqlx_traits.specs.Faults.{CloseCause};
 ghost use Rattle.sqlite_base.specs.Refusals.{IsUnfit, refusal_error};
 ghost use Rattle.sqlite_base.specs.Ran.{Ran, Refuses};
-ghost use Rattle.sqlite_base.specs.Queries.{GainsRows, Gives, IsPrepared, Item, RefusesQuery, RefusesToPrepare, RefusesToShow, all_taken, is_select, no_count};
+ghost use Rattle.sqlite_base.specs.Queries.{GainsRows, Gives, GivesRows, HasRows, IsPrepared, Item, RefusesQuery, RefusesRows, RefusesToExecute, RefusesToPrepare, RefusesToShow, all_taken, no_count, tells_of_rows};
 
 use crate::refusal::{Refusal, refused};
 use crate::values::{lent_all, row};
@@ -28,6 +29,7 @@ fn changed<S: Alter>(
 ) -> Result<u64, Refusal>
     ensures ran { IfOk result (λ rows. HasCleanDisk (state S.Store conn.new) → Executes text.now (bound values.now) (state S.Store conn.old) (state S.Store conn.new) (Ok rows)) }
     ensures refused { IfErr result (λ refusal. Refuses text.now (bound values.now) (state S.Store conn.old) (state S.Store conn.new) (refusal_error refusal)) }
+    ensures cause { IfErr result (λ refusal. CloseCause (refusal_error refusal)) }
 {
     match conn.execute(text, values) {
         Ok(rows) => Ok(rows as u64),
@@ -106,53 +108,81 @@ fn completed(alloc: Global, statement: &Statement, rows: &[Row]) -> Result<Items
     }
 }
 
-/// Runs a text: one that begins with `SELECT ` gives its rows, any other how many rows it changed.
+/// Runs a text: one that gives rows gives these, any other how many rows it changed.
 pub(crate) fn run<S: Alter>(
     conn: &mut Connection<S>,
     alloc: Global,
     text: &str,
     arguments: &Option<AnyArguments>,
 ) -> Result<Items, Refusal>
-    ensures gave { IfOk result (λ items. Gives (state S.Store) (is_select text.now) text.now (all_taken arguments.now) conn.old conn.new items.items) }
-    ensures refused { IfErr result (λ refusal. (refusal_error refusal ≡ Error.OutOfMemory) ⊎ RefusesQuery (state S.Store) (is_select text.now) text.now (all_taken arguments.now) conn.old conn.new (refusal_error refusal)) }
+    ensures gave { IfOk result (λ items. Gives (state S.Store) text.now (all_taken arguments.now) conn.old conn.new items.items) }
+    ensures refused { IfErr result (λ refusal. (refusal_error refusal ≡ Error.OutOfMemory) ⊎ RefusesQuery (state S.Store) text.now (all_taken arguments.now) conn.old conn.new (refusal_error refusal)) }
 {
     let values = lent_all(alloc, arguments)?;
-    if text.as_bytes().starts_with(b"SELECT ") {
-        select(conn, alloc, text, values.as_slice())
-    } else {
-        execute(conn, alloc, text, values.as_slice())
+    given(conn, alloc, text, values.as_slice())
+}
+
+/// Executes a text, and asks for its rows where it gives some.
+fn given<S: Alter>(
+    conn: &mut Connection<S>,
+    alloc: Global,
+    text: &str,
+    values: &[ValueRef<'_>],
+) -> Result<Items, Refusal>
+    ensures gave { IfOk result (λ items. Gives (state S.Store) text.now (bound values.now) conn.old conn.new items.items) }
+    ensures refused { IfErr result (λ refusal. (refusal_error refusal ≡ Error.OutOfMemory) ⊎ RefusesQuery (state S.Store) text.now (bound values.now) conn.old conn.new (refusal_error refusal)) }
+{
+    match executed(conn, alloc, text, values) {
+        Ok(Some(rows)) => finished(VecDeque::new(alloc), rows, Some(conn.last_insert_rowid())),
+        Ok(None) => select(conn, alloc, text, values),
+        Err(refusal) => Err(refusal),
     }
 }
 
-/// Runs a text whose rows are asked for.
+/// Executes a text, unless it gives rows: how many rows it changed.
+fn executed<S: Alter>(
+    conn: &mut Connection<S>,
+    alloc: Global,
+    text: &str,
+    values: &[ValueRef<'_>],
+) -> Result<Option<u64>, Refusal>
+    ensures ran { IfOk result (λ done. IfSome done (λ rows. HasCleanDisk (state S.Store conn.new) → Executes text.now (bound values.now) (state S.Store conn.old) (state S.Store conn.new) (Ok rows))) }
+    ensures rows { IfOk result (λ done. IfNone done (HasRows text.now (bound values.now) (state S.Store conn.old) (state S.Store conn.new))) }
+    ensures refused { IfErr result (λ refusal. RefusesToExecute text.now (bound values.now) (state S.Store conn.old) (state S.Store conn.new) (refusal_error refusal)) }
+{
+    match conn.execute(text, values) {
+        Ok(rows) => Ok(Some(rows as u64)),
+        Err(error) => {
+            if tells_of_rows(error) {
+                return Ok(None);
+            }
+            Err(refused(alloc, error))
+        }
+    }
+}
+
+/// Whether a text wasn't executed since it gives rows.
+fn tells_of_rows(error: sqlite::Error) -> bool
+    ensures { result ≡ tells_of_rows error }
+{
+    matches!(error, sqlite::Error::ExecuteReturnedResults)
+}
+
+/// The rows of a text that gives some.
 fn select<S: Alter>(
     conn: &mut Connection<S>,
     alloc: Global,
     text: &str,
     values: &[ValueRef<'_>],
 ) -> Result<Items, Refusal>
-    ensures gave { IfOk result (λ items. Gives (state S.Store) Bool.true text.now (bound values.now) conn.old conn.new items.items) }
-    ensures refused { IfErr result (λ refusal. (refusal_error refusal ≡ Error.OutOfMemory) ⊎ RefusesQuery (state S.Store) Bool.true text.now (bound values.now) conn.old conn.new (refusal_error refusal)) }
+    ensures gave { IfOk result (λ items. GivesRows (state S.Store) text.now (bound values.now) conn.old conn.new items.items) }
+    ensures refused { IfErr result (λ refusal. (refusal_error refusal ≡ Error.OutOfMemory) ⊎ RefusesRows (state S.Store) text.now (bound values.now) conn.old conn.new (refusal_error refusal)) }
 {
     let statement = prepared(conn, alloc, text)?;
     match shown(conn, alloc, text, values) {
         Ok(rows) => completed(alloc, &statement, rows.as_slice()),
         Err(refusal) => Err(refusal),
     }
-}
-
-/// Runs any other text.
-fn execute<S: Alter>(
-    conn: &mut Connection<S>,
-    alloc: Global,
-    text: &str,
-    values: &[ValueRef<'_>],
-) -> Result<Items, Refusal>
-    ensures gave { IfOk result (λ items. Gives (state S.Store) Bool.false text.now (bound values.now) conn.old conn.new items.items) }
-    ensures refused { IfErr result (λ refusal. (refusal_error refusal ≡ Error.OutOfMemory) ⊎ RefusesQuery (state S.Store) Bool.false text.now (bound values.now) conn.old conn.new (refusal_error refusal)) }
-{
-    let rows = changed(conn, alloc, text, values)?;
-    finished(VecDeque::new(alloc), rows, Some(conn.last_insert_rowid()))
 }
 
 /// Runs a text of a level.
@@ -163,6 +193,7 @@ pub(crate) fn perform<S: Alter>(
 ) -> Result<(), Refusal>
     ensures ran { OnOk result (Ran text.now (state S.Store conn.old) (state S.Store conn.new)) }
     ensures refused { IfErr result (λ refusal. Refuses text.now [] (state S.Store conn.old) (state S.Store conn.new) (refusal_error refusal)) }
+    ensures cause { IfErr result (λ refusal. CloseCause (refusal_error refusal)) }
 {
     match changed(conn, alloc, text, &[]) {
         Ok(_) => Ok(()),

@@ -1,7 +1,8 @@
 -- Texts of levels that ran.
-use Rattle.std.proofs.Common.{◌≡◌, ℕ, true, List, Result, Ok, Err, IfOk, IfErr, IsOkAnd, OnOk, inl, inr, sym, subst, ◌∙◌}
+use Rattle.std.proofs.Common.{◌≡◌, ◌≤◌, ℕ, true, false, arith, List, Result, Ok, Err, IfOk, IfErr, IsOkAnd, OnErr, OnOk, inl, inr, sym, subst, ◌∙◌}
 use Rattle.sqlx_text.specs.declared.error.Error.TheVariants as error
 use Rattle.sqlx_traits.specs.Calls.{Outcome}
+use Rattle.sqlx_traits.specs.Faults.{HasRisen}
 use Rattle.sqlite_base.specs.Ran.{RanOn, RefusedOn, in_transaction}
 use Rattle.sqlite_driver.specs.Does.{BeginsBy, Pings, RefusesText, RunsText}
 use Rattle.sqlite_driver.specs.declared.connection.SqliteConnection.{SqliteConnection}
@@ -20,19 +21,38 @@ pub ran_settled : (r : Outcome) (text : List ℕ) (before settled after : Sqlite
 ran_settled (Ok done) text before settled after is ran same = (settled.base, is.0, ran, same ∙ is.1)
 ran_settled (Err e) text before settled after is ran same = tt
 
+-- a count that has risen since a later moment has risen
+pub risen_since : (a b c : ℕ) → a ≤ b → HasRisen b c → HasRisen a c
+risen_since a b c later (inl rose) = inl (omega arith)
+risen_since a b c later (inr last) = inr last
+
 -- what was noted is rolled back, and then the text that is there is refused, if it is
 pub refused_settled : {E : Type 0} (r : Outcome) (given : Result (List ℕ) E) (text : List ℕ) (before settled after : SqliteConnection)
-    → given ≡ Ok text → Pings before (Ok tt) settled → IfErr r (RefusedOn text settled.base after.base)
-    → IfErr r (λ e. (due : List ℕ) → IfOk given (λ t. t ≡ due) → RefusesText due before e after.base)
-refused_settled (Ok done) given text before settled after same is refused = tt
-refused_settled (Err e) given text before settled after same is refused =
-    λ due there. inr (inr (settled.base, is.0, subst (λ t. RefusedOn t settled.base after.base e) (subst (λ g. IfOk g (λ t. t ≡ due)) same there) refused))
+    → given ≡ Ok text → Pings before (Ok tt) settled → before.faults ≤ settled.faults → IfErr r (RefusedOn text settled.base after.base)
+    → after.goes_back_to ≡ settled.goes_back_to → OnErr r (HasRisen settled.faults after.faults)
+    → IfErr r (λ e. (due : List ℕ) → IfOk given (λ t. t ≡ due) → RefusesText due before e after)
+refused_settled (Ok done) given text before settled after same is later refused noted rose = tt
+refused_settled (Err e) given text before settled after same is later refused noted rose =
+    λ due there. inr (inr (
+      settled.base,
+      is.0,
+      subst (λ t. RefusedOn t settled.base after.base e) (subst (λ g. IfOk g (λ t. t ≡ due)) same there) refused,
+      noted ∙ is.1,
+      risen_since before.faults settled.faults after.faults later rose,
+    ))
 
 -- a text that ran has begun a transaction, or the begin has failed
 pub begun_by : (first r : Outcome) (text : List ℕ) (before ran after : SqliteConnection)
-    → OnOk first (RunsText text before ran) → (after.base ≡ ran.base) × (after.goes_back_to ≡ ran.goes_back_to)
-    → OnOk r (in_transaction after.base ≡ true) → IfErr r (λ e. e ≡ error.BeginFailed) → OnOk first (BeginsBy text before r after)
-begun_by (Ok done) (Ok also) text before ran after (settled, is, runs, none) same stands failed =
+    → before.faults ≤ ran.faults → OnOk first (RunsText text before ran) → (after.base ≡ ran.base) × (after.goes_back_to ≡ ran.goes_back_to)
+    → OnOk r (in_transaction after.base ≡ true) → IfErr r (λ e. e ≡ error.BeginFailed) → OnErr r (in_transaction after.base ≡ false)
+    → OnErr r (HasRisen ran.faults after.faults) → OnOk first (BeginsBy text before r after)
+begun_by (Ok done) (Ok also) text before ran after later (settled, is, runs, none) same stands failed closed rose =
     ((settled, is, subst (λ b. RanOn text settled b) (sym same.0) runs, same.1 ∙ none), stands)
-begun_by (Ok done) (Err e) text before ran after runs same stands failed = inr (inl failed)
-begun_by (Err e) r text before ran after runs same stands failed = tt
+begun_by (Ok done) (Err e) text before ran after later (settled, is, runs, none) same stands failed closed rose =
+    inr (inl (
+      failed,
+      (settled, is, subst (λ b. RanOn text settled b) (sym same.0) runs, same.1 ∙ none),
+      closed,
+      risen_since before.faults ran.faults after.faults later rose,
+    ))
+begun_by (Err e) r text before ran after later runs same stands failed closed rose = tt

@@ -1,12 +1,12 @@
 //! A connection to a database, and its levels.
 ghost use Rattle.std.specs.Prelude.{◌≡◌, ◌≢◌, ◌≤◌, ◌<◌, ◌+◌, ◌-◌, ℕ, Bool, Err, IfErr, IfOk, IsOkAnd, List, OnErr, OnOk};
 ghost use Rattle.sqlx_text.specs.declared.error.Error.{Error};
-ghost use Rattle.sqlx_traits.specs.Faults.{BeginCause, FaultCause, HasRisen};
+ghost use Rattle.sqlx_traits.specs.Faults.{BeginCause, CloseCause, FaultCause, HasRisen};
 ghost use Rattle.sqlite_base.specs.Refusals.{refusal_error};
 ghost use Rattle.sqlite_base.specs.Ran.{RanOn, RefusedOn, in_transaction};
 ghost use Rattle.sqlite_base.specs.Closed.{HasClosed, RefusesClose};
 ghost use Rattle.sqlite_base.specs.Queries.{all_taken};
-ghost use Rattle.sqlite_driver.specs.Does.{Begins, BeginsBy, Ends, IsNoted, Pings, RefusesText, RunsText, given_up};
+ghost use Rattle.sqlite_driver.specs.Does.{Begins, BeginsBy, Ends, Pings, RefusesText, RunsText, given_up};
 ghost use Rattle.sqlite_driver.specs.Opened.{IsFresh};
 ghost use Rattle.sqlite_driver.specs.Runs.{GivesItems, RefusesItems};
 
@@ -45,6 +45,7 @@ impl SqliteConnection {
     pub(crate) fn refuse(&mut self, refusal: Refusal) -> Error
         ensures rest { self.new ≡ record self.old { faults = self.new.faults } }
         ensures rises { self.old.faults ≤ self.new.faults }
+        ensures risen { HasRisen self.old.faults self.new.faults }
         ensures value { result ≡ refusal_error refusal }
         ensures cause { FaultCause self.old.faults self.new.faults result }
         ensures inside { result ≢ Error.InvalidSavePointStatement }
@@ -91,7 +92,7 @@ impl SqliteConnection {
         arguments: &Option<AnyArguments>,
     ) -> Result<Items, Error>
         ensures gave { IfOk result (λ items. GivesItems text.now (all_taken arguments.now) self.old items.items self.new) }
-        ensures refused { IfErr result (λ e. RefusesItems text.now (all_taken arguments.now) self.old e self.new.base) }
+        ensures refused { IfErr result (λ e. RefusesItems text.now (all_taken arguments.now) self.old e self.new) }
         ensures depth { self.new.depth ≡ self.old.depth }
         ensures rises { self.old.faults ≤ self.new.faults }
         ensures cause { IfErr result (FaultCause self.old.faults self.new.faults) }
@@ -108,7 +109,7 @@ impl SqliteConnection {
     /// Runs a text of a level, likewise.
     fn perform(&mut self, text: Result<SqlStr, OutOfMemory>) -> Result<(), Error>
         ensures ran { OnOk result (IsOkAnd text (λ text. RunsText text self.old self.new)) }
-        ensures refused { IfErr result (λ e. (due : List ℕ) → IfOk text (λ text. text ≡ due) → RefusesText due self.old e self.new.base) }
+        ensures refused { IfErr result (λ e. (due : List ℕ) → IfOk text (λ text. text ≡ due) → RefusesText due self.old e self.new) }
         ensures depth { self.new.depth ≡ self.old.depth }
         ensures rises { self.old.faults ≤ self.new.faults }
         ensures cause { IfErr result (FaultCause self.old.faults self.new.faults) }
@@ -128,6 +129,7 @@ impl SqliteConnection {
         ensures ran { OnOk result (RanOn text self.old.base self.new.base) }
         ensures refused { IfErr result (RefusedOn text self.old.base self.new.base) }
         ensures noted { self.new.goes_back_to ≡ self.old.goes_back_to }
+        ensures risen { OnErr result (HasRisen self.old.faults self.new.faults) }
         ensures depth { self.new.depth ≡ self.old.depth }
         ensures rises { self.old.faults ≤ self.new.faults }
         ensures cause { IfErr result (FaultCause self.old.faults self.new.faults) }
@@ -185,6 +187,8 @@ impl SqliteConnection {
         requires { self.old.depth ≡ 0 }
         ensures begun { OnOk result (in_transaction self.new.base ≡ Bool.true) }
         ensures told { IfErr result (λ e. e ≡ Error.BeginFailed) }
+        ensures none { OnErr result (in_transaction self.new.base ≡ Bool.false) }
+        ensures risen { OnErr result (HasRisen self.old.faults self.new.faults) }
         ensures rest { (self.new.base ≡ self.old.base) × (self.new.goes_back_to ≡ self.old.goes_back_to) }
         ensures ok { OnOk result (self.new.depth ≡ 1) }
         ensures err { OnErr result (self.new.depth ≡ 0) }
@@ -225,7 +229,6 @@ impl SqliteConnection {
     pub(crate) fn give_up(&mut self)
         requires { 0 < self.old.depth }
         ensures new { self.new ≡ given_up self.old }
-        ensures noted { IsNoted self.new.depth self.new.goes_back_to }
         ensures levels { self.new.depth ≡ self.old.depth - 1 }
         ensures faults { self.new.faults ≡ self.old.faults }
     {
@@ -241,6 +244,7 @@ impl SqliteConnection {
     pub(crate) fn end(self) -> Result<(), Error>
         ensures closed { OnOk result (HasClosed self.base) }
         ensures refused { IfErr result (RefusesClose self.base) }
+        ensures cause { IfErr result CloseCause }
     {
         let SqliteConnection { base, alloc, .. } = self;
         match base.close(alloc) {

@@ -33,7 +33,8 @@ impl Faults for SqliteFiles {
 }
 
 impl Connector<Sqlite> for SqliteFiles {
-    /// Opens the file whose path is that of the URL, or a database in memory.
+    /// Opens the file whose path is that of the URL, or a database in memory. A refusal is counted, and nothing else of
+    /// the connector changes.
     fn connect(
         &mut self,
         alloc: Global,
@@ -43,6 +44,7 @@ impl Connector<Sqlite> for SqliteFiles {
         ensures rises { self.old.faults ≤ self.new.faults }
         ensures cause { IfErr result (ConnectCause self.old.faults self.new.faults) }
         ensures opened { OpensFile (λ conn. conn.backend) options.now result }
+        ensures rest { self.new ≡ record self.old { faults = self.new.faults } }
     {
         match opened(alloc, &self.rt, options) {
             Ok(conn) => Ok(AnyConnection::new(conn)),

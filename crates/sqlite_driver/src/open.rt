@@ -1,6 +1,7 @@
 //! A database in memory, opened by a URL.
 ghost use Rattle.std.specs.Prelude.{◌≡◌, ◌⊎◌, IfErr, IfOk, Ok, OnOk, true};
 ghost use Rattle.sqlx_text.specs.declared.error.Error.{Error};
+ghost use Rattle.sqlx_traits.specs.Faults.{OpenCause};
 ghost use Rattle.sqlite_base.specs.OpenedBase.{IsInMemory};
 ghost use Rattle.sqlite_base.specs.Refusals.{IsRefusal};
 ghost use Rattle.sqlite_driver.specs.Opened.{IsFresh, MemoryRefusal, RefusedBy, names_memory, own_scheme};
@@ -29,6 +30,7 @@ impl AnyOpen for SqliteConnection {
 fn expect_memory(alloc: Global, options: &AnyConnectOptions) -> Result<(), Error>
     ensures named { OnOk result ((own_scheme options.now ≡ Ok tt) × (names_memory options.now ≡ true)) }
     ensures refused { IfErr result (λ e. (e ≡ Error.OutOfMemory) ⊎ RefusedBy (MemoryRefusal (names_memory options.now)) (own_scheme options.now) e) }
+    ensures cause { IfErr result OpenCause }
 {
     expect_scheme(alloc, &options.database_url, "sqlite")?;
     if options.database_url.path() != ":memory:" {
@@ -42,6 +44,7 @@ fn expect_memory(alloc: Global, options: &AnyConnectOptions) -> Result<(), Error
 pub(crate) fn in_memory(alloc: Global) -> Result<SqliteConnection, Error>
     ensures opened { IfOk result (λ conn. IsFresh conn × IsInMemory conn.base) }
     ensures told { IfErr result IsRefusal }
+    ensures cause { IfErr result OpenCause }
 {
     match Base::in_memory(alloc) {
         Ok(base) => Ok(SqliteConnection::new(alloc, base)),

@@ -1,7 +1,7 @@
 //! A backend: what a driver has to do so that its connections can stand behind `Any`.
 ghost use Rattle.std.specs.Prelude.{◌≡◌, ◌+◌, ◌-◌, ◌<◌, ◌≤◌, ⊤, ℕ, Bool, Err, IfErr, IfOk, IsSome, List, Ok, OnErr, OnOk, Option, Result, nat_lt};
 ghost use Rattle.sqlx_text.specs.declared.error.Error.{Error};
-ghost use Rattle.sqlx_traits.specs.Faults.{BeginCause, FaultCause};
+ghost use Rattle.sqlx_traits.specs.Faults.{BeginCause, CloseCause, FaultCause, OpenCause};
 ghost use Rattle.sqlx_traits.specs.StepList.{StepCauses, Steps, first_of, rows_of};
 ghost use Rattle.sqlx_traits.specs.Calls as call;
 ghost use Rattle.sqlx_any.specs.Rows.{RowParts, StatementParts};
@@ -49,14 +49,17 @@ pub trait AnyConnectionBackend: Faults + Sized {
     fn name(&self) -> &str
         ensures { result.now ≡ called self.now };
 
-    /// Closes the connection, and tells its peer.
+    /// Closes the connection, and tells its peer. It is refused by the database or on the way to it, or for want of
+    /// memory.
     fn close(self) -> Result<(), Error>
         ensures closes { IfErr result (λ _. closes self ≡ Bool.false) }
+        ensures cause { IfErr result CloseCause }
         ensures ends { ends call.told self result };
 
-    /// Closes the connection at once.
+    /// Closes the connection at once. It is refused as `close` is.
     fn close_hard(self) -> Result<(), Error>
         ensures closes { IfErr result (λ _. closes self ≡ Bool.false) }
+        ensures cause { IfErr result CloseCause }
         ensures ends { ends call.at_once self result };
 
     /// Asks for a sign of life. It leaves the depth.
@@ -186,8 +189,10 @@ pub trait AnyOpen: AnyConnectionBackend {
     /// What may come of opening a connection by options.
     ghost opens: { AnyConnectOptions → Result Self Error → Type 0 };
 
-    /// Opens a connection, which has no level open.
+    /// Opens a connection, which has no level open. It is refused for the options, by the database or on the way to
+    /// it, or for want of memory.
     fn from_options(alloc: Global, options: &AnyConnectOptions) -> Result<Self, Error>
         ensures opened { opens options.now result }
+        ensures cause { IfErr result OpenCause }
         ensures depth { IfOk result (λ backend. Self.levels backend ≡ 0) };
 }

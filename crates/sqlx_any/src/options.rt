@@ -1,11 +1,10 @@
 //! Options by which a connection of a backend is opened.
 ghost use Rattle.std.specs.Prelude.{◌≡◌, Err, IfErr, IfOk, MatchResult, Ok};
-ghost use Rattle.sqlx_traits.specs.Options.{OptionsCause};
+ghost use Rattle.sqlx_traits.specs.Faults.{OpenCause};
 
 use crate::{Any, AnyConnection, AnyOpen};
 use log::LevelFilter;
-use sqlx_statements::LogSettings;
-use sqlx_text::{Error, OutOfMemory};
+use sqlx_text::{Error, LogSettings, OutOfMemory};
 use sqlx_traits::{Connect, ConnectOptions};
 use std::alloc::Global;
 use url::Url;
@@ -44,7 +43,6 @@ impl ConnectOptions for AnyConnectOptions {
 
     fn to_url_lossy(&self, _alloc: Global) -> Result<Url, Error>
         ensures ok { IfOk result (λ url. url ≡ self.now.database_url) }
-        ensures cause { IfErr result OptionsCause }
         ensures memory { IfErr result (λ e. e ≡ Error.OutOfMemory) }
     {
         Ok(self.database_url.clone()?)
@@ -73,6 +71,7 @@ impl ConnectOptions for AnyConnectOptions {
 impl<B: AnyOpen> Connect<Any<B>> for AnyConnectOptions {
     fn connect(&self, alloc: Global) -> Result<AnyConnection<B>, Error>
         ensures depth { IfOk result (λ conn. B.levels conn.backend ≡ 0) }
+        ensures cause { IfErr result OpenCause }
         ensures opened { MatchResult result (λ conn. B.opens self.now (Ok conn.backend)) (λ e. B.opens self.now (Err e)) }
     {
         match B::from_options(alloc, self) {

@@ -1,5 +1,6 @@
 //! Which driver of a list has the scheme of a URL.
-ghost use Rattle.std.specs.Prelude.{◌≡◌, ◌⊎◌};
+ghost use Rattle.std.specs.Prelude.{◌≡◌, ◌⊎◌, IfErr};
+ghost use Rattle.sqlx_traits.specs.Faults.{OpenCause};
 ghost use Rattle.sqlx_traits.specs.Reads.{Answers};
 ghost use Rattle.sqlx_any_values.specs.Drivers.{driver_of, found_driver, no_driver, of_scheme};
 
@@ -21,7 +22,8 @@ pub fn find_driver(alloc: Global, list: &[AnyDriver], url: &Url) -> Result<usize
 
 /// Nothing where the URL has the scheme, and else `Configuration`, as where no driver has it.
 pub fn expect_scheme(alloc: Global, url: &Url, scheme: &str) -> Result<(), Error>
-    ensures { Answers (λ found. found) Error.OutOfMemory (of_scheme scheme.now url.now.scheme) result }
+    ensures found { Answers (λ found. found) Error.OutOfMemory (of_scheme scheme.now url.now.scheme) result }
+    ensures cause { IfErr result OpenCause }
 {
     let own = url.scheme();
     if own == scheme {
@@ -33,7 +35,8 @@ pub fn expect_scheme(alloc: Global, url: &Url, scheme: &str) -> Result<(), Error
 
 // The error of a scheme that no driver has.
 fn no_driver(alloc: Global, scheme: &str) -> Error
-    ensures { (result ≡ no_driver scheme.now) ⊎ (result ≡ Error.OutOfMemory) }
+    ensures told { (result ≡ no_driver scheme.now) ⊎ (result ≡ Error.OutOfMemory) }
+    ensures cause { OpenCause result }
 {
     match format!(in alloc; "no driver found for URL scheme \"{scheme}\"") {
         Ok(text) => Error::Configuration(Fault::Text(UStr::from_string(text))),

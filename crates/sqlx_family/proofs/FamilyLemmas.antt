@@ -4,18 +4,19 @@ use Rattle.std.specs.Prelude.{slice_set}
 use Rattle.std.proofs.lemmas.List.{length-set, length-map, length-append, get_or_append_left}
 use Rattle.std.proofs.lemmas.List.Elements.{All-set, All-head, All-tail, All-weaker, All-get_or, All-append, All-cons, All-nil}
 use Rattle.std.proofs.lemmas.List.Sums.{sum_by-set, sum_by-cons, sum_by_push}
-use Rattle.sqlx_log.specs.declared.mark.Mark.{Mark}
+use Rattle.sqlx_pool_marks.specs.declared.mark.Mark.{Mark}
 use Rattle.sqlx_pool_lists.specs.declared.shared.Shared.{Shared}
 use Rattle.sqlx_pool_lists.specs.declared.options.PoolOptions.{PoolOptions}
 use Rattle.sqlx_pool_lists.specs.Core.{Core, core_of, free, taken, gone, asking, loan, resting}
 use Rattle.sqlx_pool_lists.specs.StandsFor.{StandsIn}
-use Rattle.sqlx_member.specs.Numbers.{Draws, Stays, under_way}
+use Rattle.sqlx_pool_core.specs.Numbers.{Draws, Stays, under_way}
 use Rattle.sqlx_pool_lists.specs.Sound.{IsSound}
 use Rattle.sqlx_pool_lists.specs.MaintenanceSteps.{closed_from}
 use Rattle.sqlx_pool_lists.specs.Shared.{told, shared_of, with_permits}
 use Rattle.sqlx_family.specs.declared.family.FamilyPool.{FamilyPool}
 use Rattle.sqlx_family.specs.Pools.{Pools, pools_of, entry_of, new_pool, new_family}
 use Rattle.sqlx_family.specs.NoPool.{no_pool}
+use Rattle.sqlx_family.specs.Permits.{owned_by, with_less}
 use Rattle.sqlx_family.specs.IsFamily.{permits_of, under_way_in, Joins, IsFamily}
 use Rattle.sqlx_family.proofs.Entries.{entry-is, look-set}
 
@@ -32,7 +33,7 @@ sum-paid h (p ∷ ps) all =
     omega (arith, head, rest, a, b)
 
 joins-more : {C : Type 0} (h later : Shared) → h.next_ticket ≤ later.next_ticket → h.next_conn ≤ later.next_conn → (p : FamilyPool C) → Joins h p → Joins later p
-joins-more h later tu cd p j = record { tickets = let e = j.tickets in omega (arith, e, tu); conns = let e = j.conns in omega (arith, e, cd); paid = j.paid }
+joins-more h later tu cd p j = record { tickets = let e = j.tickets in omega (arith, e, tu); conns = let e = j.conns in omega (arith, e, cd); paid = j.paid; fits = j.fits }
 
 module _ {C : Type 0} (xs : List (FamilyPool C)) (h : Shared) (i : ℕ) (old : FamilyPool C) (mid new : Core C) (f : IsFamily (pools_of xs h)) (lt : i < length xs) (is : old ≡ get_or xs i old) where
   abbrev next : FamilyPool C
@@ -77,9 +78,16 @@ module _ {C : Type 0} (xs : List (FamilyPool C)) (h : Shared) (i : ℕ) (old : F
       mc : h.next_conn ≤ new.next_conn
       mc = let e = draws.more_conns in omega (arith, e, conns)
 
+      room : new.permits ≤ new.options.max_connections
+      room =
+          let k = (subst (Joins h) (sym is) (All-get_or (Joins h) xs i old lt f.joins)).fits in
+          let o = ap (λ o. o.max_connections) opts in
+          let n = ap (λ (n : Core C). n.options.max_connections) heard in
+          omega (arith, k, o, n, permits)
+
       joins_all : All (Joins (shared_of new)) (slice_set xs i next)
       joins_all = All-set (Joins (shared_of new)) xs i next
-          (record { tickets = omega arith; conns = omega arith; paid = let p = sound.paid in omega (arith, p) })
+          (record { tickets = omega arith; conns = omega arith; paid = let p = sound.paid in omega (arith, p); fits = room })
           (All-weaker (Joins h) (Joins (shared_of new)) (joins-more h (shared_of new) mt mc) xs f.joins)
 
       few : new.next_conn + sum_by under_way_in (slice_set xs i next) ≤ 2 ^ 63 + 1 + max_of (get_or (slice_set xs i next) 0 no_pool)
@@ -141,9 +149,9 @@ module _ {C : Type 0} (xs : List (FamilyPool C)) (h : Shared) (from to n : ℕ) 
   sums-lent = ap (λ (o : FamilyPool C). sum_by permits_of lent + permits_of o) is ∙ sum_by-set permits_of xs from low lender lt
 
   pub family-moved : to < length xs → taker ≡ get_or (slice_set xs from (record { core = with_permits (lender.core.permits - n) lender.core; retired = lender.retired })) to taker
-      → n ≤ free lender.core → taken lender.core ≤ lender.core.permits
+      → n ≤ free lender.core → taken lender.core ≤ lender.core.permits → taker.core.permits + n ≤ max_of taker
       → IsFamily (pools_of (slice_set (slice_set xs from (record { core = with_permits (lender.core.permits - n) lender.core; retired = lender.retired })) to (record { core = with_permits (taker.core.permits + n) taker.core; retired = taker.retired })) h)
-  family-moved lt_to is_to few_free paid = record {
+  family-moved lt_to is_to few_free paid room = record {
     some = let a = length-set xs from low in let b = length-set lent to high in let k = f.some in omega (arith, a, b, k);
     few = let a = length-set xs from low in let b = length-set lent to high in let k = f.few in omega (arith, a, b, k);
     small = let k = f.small in omega (arith, k, most, most-lent);
@@ -152,7 +160,7 @@ module _ {C : Type 0} (xs : List (FamilyPool C)) (h : Shared) (from to n : ℕ) 
     first_conn = f.first_conn;
     few_tickets = f.few_tickets;
     few_conns = let k = f.few_conns in omega (arith, k, ways-lent, ways, most, most-lent);
-    joins = All-set (Joins h) lent to high (record { tickets = known.tickets; conns = known.conns; paid = let p = known.paid in omega (arith, p) }) joins-lent;
+    joins = All-set (Joins h) lent to high (record { tickets = known.tickets; conns = known.conns; paid = let p = known.paid in omega (arith, p); fits = room }) joins-lent;
   }
     where
       within : to < length lent
@@ -174,22 +182,40 @@ module _ {C : Type 0} (xs : List (FamilyPool C)) (h : Shared) (from to n : ℕ) 
       lends = subst (Joins h) (sym is) (All-get_or (Joins h) xs from lender lt f.joins)
 
       joins-lent : All (Joins h) lent
-      joins-lent = All-set (Joins h) xs from low (record { tickets = lends.tickets; conns = lends.conns; paid = omega (arith, few_free, paid) }) f.joins
+      joins-lent = All-set (Joins h) xs from low (record { tickets = lends.tickets; conns = lends.conns; paid = omega (arith, few_free, paid); fits = let e = lends.fits in omega (arith, e) }) f.joins
 
       known : Joins h taker
       known = subst (Joins h) (sym is_to) (All-get_or (Joins h) lent to taker within joins-lent)
 
+-- there is room for what moves
+moves-room : {C : Type 0} (xs : List (FamilyPool C)) (h : Shared) (from to n : ℕ) (lender taker : FamilyPool C) → from < length xs → lender ≡ get_or xs from lender → to < length xs
+    → taker ≡ get_or (slice_set xs from (record { core = with_permits (lender.core.permits - n) lender.core; retired = lender.retired })) to taker
+    → owned_by to (with_less from n (pools_of xs h)) + n ≤ (entry_of to (pools_of xs h)).core.options.max_connections → taker.core.permits + n ≤ max_of taker
+moves-room {C} xs h from to n lender taker lt is lt_to is_to room =
+    let place = entry-is (λ (p : FamilyPool C). p.retired) xs from lender lender lt is in
+    let taken_by = ap (λ (p : FamilyPool C). get_or (slice_set xs from (record p { core = with_permits (p.core.permits - n) p.core })) to no_pool) place
+    ∙ entry-is (λ (p : FamilyPool C). p.retired) lent to taker taker (let e = length-set xs from low in omega (arith, e, lt_to)) is_to in
+    let owned = ap permits_of taken_by in
+    let most = ap max_of (sym (entry-is (λ (p : FamilyPool C). p.retired) lent to taker taker (let e = length-set xs from low in omega (arith, e, lt_to)) is_to)) ∙ look-set max_of xs from low lender lt is to refl in
+    omega (arith, owned, most, room)
+  where
+    low : FamilyPool C
+    low = record { core = with_permits (lender.core.permits - n) lender.core; retired = lender.retired }
+
+    lent : List (FamilyPool C)
+    lent = slice_set xs from low
+
 -- the same, by what the family was
 pub family-moves : {C : Type 0} (xs : List (FamilyPool C)) (h : Shared) (now : Pools C) (from to n : ℕ) (lender taker : FamilyPool C) → IsFamily (pools_of xs h) → pools_of xs h ≡ now
-    → from < length now.pools → to < length now.pools → n ≤ free (entry_of from now).core → lender ≡ get_or xs from lender
+    → from < length now.pools → to < length now.pools → n ≤ free (entry_of from now).core → owned_by to (with_less from n now) + n ≤ (entry_of to now).core.options.max_connections → lender ≡ get_or xs from lender
     → taker ≡ get_or (slice_set xs from (record { core = with_permits (lender.core.permits - n) lender.core; retired = lender.retired })) to taker → taken lender.core ≤ lender.core.permits
     → IsFamily (pools_of (slice_set (slice_set xs from (record { core = with_permits (lender.core.permits - n) lender.core; retired = lender.retired })) to (record { core = with_permits (taker.core.permits + n) taker.core; retired = taker.retired })) h)
-family-moves {C} xs h now from to n lender taker f view lt lt_to few is is_to paid =
-    subst (λ (w : Pools C). from < length w.pools → to < length w.pools → n ≤ free (entry_of from w).core
+family-moves {C} xs h now from to n lender taker f view lt lt_to few room is is_to paid =
+    subst (λ (w : Pools C). from < length w.pools → to < length w.pools → n ≤ free (entry_of from w).core → owned_by to (with_less from n w) + n ≤ (entry_of to w).core.options.max_connections
     → IsFamily (pools_of (slice_set (slice_set xs from (record { core = with_permits (lender.core.permits - n) lender.core; retired = lender.retired })) to (record { core = with_permits (taker.core.permits + n) taker.core; retired = taker.retired })) h)) view
-    (λ a b e.
+    (λ a b e r.
     let place = entry-is (λ (p : FamilyPool C). p.retired) xs from lender lender a is in
-    family-moved xs h from to n lender taker f a is b is_to (subst (λ (p : FamilyPool C). n ≤ free p.core) place e) paid) lt lt_to few
+    family-moved xs h from to n lender taker f a is b is_to (subst (λ (p : FamilyPool C). n ≤ free p.core) place e) paid (moves-room xs h from to n lender taker a is b is_to r)) lt lt_to few room
 
 -- a pool that is retired from now on
 pub family-retiring : {C : Type 0} (xs : List (FamilyPool C)) (h : Shared) (i : ℕ) (old : FamilyPool C) → IsFamily (pools_of xs h) → i < length xs → old ≡ get_or xs i old
@@ -203,7 +229,7 @@ family-retiring {C} xs h i old f lt is = record {
   first_conn = f.first_conn;
   few_tickets = f.few_tickets;
   few_conns = let k = f.few_conns in omega (arith, k, ways, most);
-  joins = All-set (Joins h) xs i next_pool (record { tickets = known.tickets; conns = known.conns; paid = known.paid }) f.joins;
+  joins = All-set (Joins h) xs i next_pool (record { tickets = known.tickets; conns = known.conns; paid = known.paid; fits = known.fits }) f.joins;
 }
   where
     next_pool : FamilyPool C
@@ -241,7 +267,7 @@ family-added {C} xs h p f room permits idle tickets conns = record {
     longer = length-append xs (p ∷ [])
 
     joins : Joins h p
-    joins = let a = f.first_ticket in let b = f.first_conn in record { tickets = omega (arith, a, tickets); conns = omega (arith, b, conns); paid = omega (arith, idle) }
+    joins = let a = f.first_ticket in let b = f.first_conn in record { tickets = omega (arith, a, tickets); conns = omega (arith, b, conns); paid = omega (arith, idle); fits = omega (arith, permits) }
 
     most : max_of (get_or (xs ++ p ∷ []) 0 no_pool) ≡ max_of (get_or xs 0 no_pool)
     most = ap max_of (get_or_append_left xs (p ∷ []) no_pool 0 (let k = f.some in omega (arith, k)))
@@ -283,4 +309,4 @@ family-new {C} options small = record {
     shared = record { next_ticket = 1; next_conn = 1; last = record { 0 = 0 } }
 
     joins : Joins shared root
-    joins = record { tickets = omega arith; conns = omega arith; paid = omega arith }
+    joins = record { tickets = omega arith; conns = omega arith; paid = omega arith; fits = omega arith }

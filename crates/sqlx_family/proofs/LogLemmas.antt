@@ -4,17 +4,17 @@ use Rattle.std.proofs.lemmas.Bool.{ne_eqb}
 use Rattle.std.proofs.lemmas.Bool.Decides.{eqb_tells}
 use Rattle.std.proofs.lemmas.List.{get_or-set_same, get_or-set_other, get_or_default, length-set}
 use Rattle.std.specs.Prelude.{slice_set}
-use Rattle.sqlx_log.specs.declared.mark.Mark.{Mark}
-use Rattle.sqlx_log.specs.FairLog.{IsSafe}
-use Rattle.sqlx_log.proofs.ListFacts.{same_number}
+use Rattle.sqlx_pool_marks.specs.declared.mark.Mark.{Mark}
+use Rattle.sqlx_pool_marks.specs.FairLog.{IsSafe}
+use Rattle.sqlx_pool_marks.proofs.ListFacts.{same_number}
 use Rattle.sqlx_pool_lists.specs.declared.shared.Shared.{Shared}
 use Rattle.sqlx_pool_lists.specs.Core.{Core}
 use Rattle.sqlx_pool_lists.specs.StandsFor.{StandsIn}
 use Rattle.sqlx_pool_lists.specs.Makes.{MakesWhere, MakesIn}
-use Rattle.sqlx_member.specs.Numbers.{Draws}
+use Rattle.sqlx_pool_core.specs.Numbers.{Draws}
 use Rattle.sqlx_pool_lists.specs.PollSteps.{asked_marks}
 use Rattle.sqlx_pool_lists.specs.Shared.{told, shared_of, with_permits}
-use Rattle.sqlx_member.proofs.SharedLemmas.{stands-told, stands-permits}
+use Rattle.sqlx_pool_core.proofs.SharedLemmas.{stands-told, stands-permits}
 use Rattle.sqlx_family.specs.declared.family.FamilyPool.{FamilyPool}
 use Rattle.sqlx_family.specs.NoPool.{no_pool}
 use Rattle.sqlx_family.specs.Pools.{Pools, pools_of, entry_of, counts_as_closed, pool_in, with_pool}

@@ -2,10 +2,10 @@
 use Rattle.std.proofs.Common.{◌≡◌, ℕ, ◌+◌, ◌-◌, ◌<◌, ◌||◌, ◌&&◌, inl, inr, Bool, true, false, not, if◌then◌else◌, List, length, Option, Some, None, refl, sym, ap, ◌∙◌, subst, arith, nat_le}
 use Rattle.std.proofs.lemmas.Bool.Decides.{eqb_tells}
 use Rattle.std.proofs.lemmas.List.{get_or-set_same, get_or-set_other, length-set}
-use Rattle.sqlx_log.specs.declared.mark.Mark.{Mark}
-use Rattle.sqlx_log.specs.PollTable.{turn_at_rest}
-use Rattle.sqlx_log.specs.declared.turn.Turn.{Turn}
-use Rattle.sqlx_log.specs.declared.turn.Turn.TheVariants.{NotHeld}
+use Rattle.sqlx_pool_marks.specs.declared.mark.Mark.{Mark}
+use Rattle.sqlx_pool_marks.specs.PollTable.{turn_at_rest}
+use Rattle.sqlx_pool_marks.specs.declared.turn.Turn.{Turn}
+use Rattle.sqlx_pool_marks.specs.declared.turn.Turn.TheVariants.{NotHeld}
 use Rattle.sqlx_pool_lists.specs.declared.ticket.Ticket.{Ticket}
 use Rattle.sqlx_pool_lists.specs.declared.ticket.Phase.{Phase}
 use Rattle.sqlx_pool_lists.specs.declared.ticket.Phase.TheVariants as phase

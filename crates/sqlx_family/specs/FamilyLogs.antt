@@ -1,7 +1,7 @@
 -- A family has a log for each of its pools.
 use Rattle.std.specs.Prelude.{ℕ, ◌<◌, ◌==◌, List, ◌++◌, if◌then◌else◌, length}
-use Rattle.sqlx_log.specs.declared.mark.Mark.{Mark}
-use Rattle.sqlx_log.specs.FairLog.{IsSafe}
+use Rattle.sqlx_pool_marks.specs.declared.mark.Mark.{Mark}
+use Rattle.sqlx_pool_marks.specs.FairLog.{IsSafe}
 use Rattle.sqlx_pool_lists.specs.StandsFor.{StandsIn}
 use Rattle.sqlx_family.specs.Pools.{Pools, pool_in}
 

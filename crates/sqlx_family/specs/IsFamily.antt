@@ -2,7 +2,7 @@
 use Rattle.std.specs.Prelude.{◌≡◌, ℕ, ◌+◌, ◌-◌, ◌^◌, ◌<◌, ◌≤◌, length, sum_by, All}
 use Rattle.sqlx_pool_lists.specs.declared.shared.Shared.{Shared}
 use Rattle.sqlx_pool_lists.specs.Core.{taken}
-use Rattle.sqlx_member.specs.Numbers.{under_way}
+use Rattle.sqlx_pool_core.specs.Numbers.{under_way}
 use Rattle.sqlx_family.specs.declared.family.FamilyPool.{FamilyPool}
 use Rattle.sqlx_family.specs.Pools.{Pools, root_of}
 
@@ -18,11 +18,12 @@ under_way_in p = under_way p.core
 abbrev pub maximum_of : {C : Type 0} → Pools C → ℕ
 maximum_of f = (root_of f).options.max_connections
 
--- The pool knows no number that is still to come, and owns a permit for each connection that has an owner or was leaked, and for all that is under way.
+-- The pool knows no number that is still to come, owns a permit for each connection that has an owner or was leaked, and for all that is under way, and owns no more than its maximum.
 pub record Joins {C : Type 0} (shared : Shared) (p : FamilyPool C) : Type 0 where
   pub tickets : p.core.next_ticket ≤ shared.next_ticket
   pub conns : p.core.next_conn ≤ shared.next_conn
   pub paid : taken p.core ≤ p.core.permits
+  pub fits : p.core.permits ≤ p.core.options.max_connections
 
 -- There is a root, and so few pools that each has a name; the permits that they own add up to the root's maximum; and the numbers have a bound.
 pub record IsFamily {C : Type 0} (f : Pools C) : Type 0 where

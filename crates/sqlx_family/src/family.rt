@@ -16,7 +16,7 @@ mod give;
 mod maintenance;
 mod poll;
 
-use sqlx_member::{Member, Shared};
+use sqlx_pool_core::{Member, Shared};
 use sqlx_pool_lists::PoolOptions;
 use sqlx_text::{Error, Moment, OutOfMemory};
 use std::alloc::Global;
@@ -133,7 +133,7 @@ impl<C> Family<C> {
     }
 
     /// What holds of every family: the permits that its pools own add up to the root's maximum, each pool owns a permit for
-    /// all that is under way in it, and the numbers have a bound. It does nothing.
+    /// all that is under way in it and no more than its own maximum, and the numbers have a bound. It does nothing.
     pub fn bounds(&self)
         ensures { IsFamily self.now }
     {

@@ -1,13 +1,14 @@
 -- A new family, a new child, and a pool that only heard of its family or whose log only got room.
-use Rattle.std.proofs.Common.{◌≡◌, ◌⊎◌, ℕ, zero, suc, Result, Ok, Err, OnErr, ◌+◌, ◌<◌, ◌≤◌, ◌||◌, inl, inr, Bool, false, List, [], ◌∷◌, ◌++◌, map, length, get_or, refl, sym, ap, ◌∙◌, subst, arith, Vec, vec_items, vec_capacity}
+use Rattle.std.proofs.Common.{◌≡◌, ◌⊎◌, ℕ, zero, suc, Result, Ok, Err, OnErr, ◌+◌, ◌<◌, ◌≤◌, ◌||◌, inl, inr, Bool, false, List, [], ◌∷◌, ◌++◌, map, length, get_or, refl, sym, ap, ◌∙◌, subst, arith}
 use Rattle.std.specs.Prelude.{slice_set}
 use Rattle.std.proofs.lemmas.Bool.Decides.{eqb_tells}
 use Rattle.std.proofs.lemmas.List.{get_or-set_same, get_or-set_other, get_or_append_left, get_or_push, map-set, length-map, length-append, append-nil, get_or-map, map-append}
 use Rattle.std.proofs.Math.Seq.{map-set_same}
 use Rattle.std.proofs.lemmas.List.Elements.{All-nil}
 use Rattle.std.proofs.lemmas.List.Sums.{sum_by_push}
-use Rattle.sqlx_log.specs.declared.mark.Mark.{Mark}
-use Rattle.sqlx_log.specs.FairLog.{IsSafe}
+use Rattle.sqlx_pool_marks.specs.declared.mark.Mark.{Mark}
+use Rattle.sqlx_pool_marks.specs.FairLog.{IsSafe}
+use Rattle.sqlx_pool_log.specs.PackedLog.{PackedRow, marks_of, room_of}
 use Rattle.sqlx_pool_lists.specs.declared.shared.Shared.{Shared}
 use Rattle.sqlx_pool_lists.specs.declared.options.PoolOptions.{PoolOptions}
 use Rattle.sqlx_pool_lists.specs.Core.{Core}
@@ -23,7 +24,7 @@ use Rattle.sqlx_family.proofs.LogLemmas.{stand-stepped}
 use Rattle.sqlx_pool_parts.specs.Booked.{Booked}
 use Rattle.sqlx_pool_parts.specs.State.{RestFlat}
 use Rattle.sqlx_family_pool.specs.FamilyState.{family_state, held_in, tickets_in, IsKept}
-use Rattle.sqlx_pool_base.proofs.StepLemmas.{kept-books}
+use Rattle.sqlx_pool.proofs.StepLemmas.{kept-books}
 use Rattle.sqlx_family_pool.proofs.Replaces.{Replaces, replaces-with}
 use Rattle.sqlx_family_pool.proofs.StepLemmas.{in-logs, room-there, written}
 
@@ -82,16 +83,16 @@ module _ {C O : Type 0} (levels : C → ℕ) (max : ℕ) (connect : O) (booked :
       at zero below = omega (arith, enough)
       at (suc q) below = absurd (omega (arith, below))
 
-module _ {C O Z : Type 0} (levels : C → ℕ) (max : ℕ) (connect : O) (booked : Booked) where
-  pub begun : (f : Pools C) (options : PoolOptions) → f ≡ new_family options → options.max_connections ≡ max → booked ≡ record { owned = 0; made = 0 } → (logs : List (Vec Mark Z)) (log : Vec Mark Z) → logs ≡ log ∷ [] → vec_items log ≡ []
-      → marks_due (pool_in 0 f) ≤ vec_capacity log → IsKept levels max (family_state f (map vec_items logs) connect booked) (map vec_capacity logs)
+module _ {C O : Type 0} (levels : C → ℕ) (max : ℕ) (connect : O) (booked : Booked) where
+  pub begun : (f : Pools C) (options : PoolOptions) → f ≡ new_family options → options.max_connections ≡ max → booked ≡ record { owned = 0; made = 0 } → (logs : List (PackedRow)) (log : PackedRow) → logs ≡ log ∷ [] → marks_of log ≡ []
+      → marks_due (pool_in 0 f) ≤ room_of log → IsKept levels max (family_state f (map marks_of logs) connect booked) (map room_of logs)
   begun f options new most empty logs log one none enough =
-      subst (λ (f : Pools C). marks_due (pool_in 0 f) ≤ vec_capacity log → IsKept levels max (family_state f (map vec_items logs) connect booked) (map vec_capacity logs)) (sym new)
-      (λ due. subst (λ (l : List (Vec Mark Z)). IsKept levels max (family_state (new_family options) (map vec_items l) connect booked) (map vec_capacity l)) (sym one)
-      (subst (λ (l : List Mark). IsKept levels max (family_state (new_family options) (l ∷ []) connect booked) (vec_capacity log ∷ [])) (sym none) (begun-so levels max connect booked options most empty (vec_capacity log) due))) enough
+      subst (λ (f : Pools C). marks_due (pool_in 0 f) ≤ room_of log → IsKept levels max (family_state f (map marks_of logs) connect booked) (map room_of logs)) (sym new)
+      (λ due. subst (λ (l : List (PackedRow)). IsKept levels max (family_state (new_family options) (map marks_of l) connect booked) (map room_of l)) (sym one)
+      (subst (λ (l : List Mark). IsKept levels max (family_state (new_family options) (l ∷ []) connect booked) (room_of log ∷ [])) (sym none) (begun-so levels max connect booked options most empty (room_of log) due))) enough
 
   -- a family with one child more
-  module _ (f : Pools C) (logs : List (Vec Mark Z)) (kept : IsKept levels max (family_state f (map vec_items logs) connect booked) (map vec_capacity logs)) (bounds : IsFamily f) (options : PoolOptions) (log : Vec Mark Z) (none : vec_items log ≡ []) (some : 1 ≤ vec_capacity log) where
+  module _ (f : Pools C) (logs : List (PackedRow)) (kept : IsKept levels max (family_state f (map marks_of logs) connect booked) (map room_of logs)) (bounds : IsFamily f) (options : PoolOptions) (log : PackedRow) (none : marks_of log ≡ []) (some : 1 ≤ room_of log) where
     entry-old : (p : ℕ) → p < length f.pools → entry_of p (with_child options f) ≡ entry_of p f
     entry-old p lt = get_or_append_left f.pools (new_pool options 0 ∷ []) no_pool p lt
 
@@ -101,48 +102,48 @@ module _ {C O Z : Type 0} (levels : C → ℕ) (max : ℕ) (connect : O) (booked
         ∙ ap (λ (e : FamilyPool C). told ((entry_of p f).core.shut || e.core.shut) f.shared (entry_of p f).core) (entry-old 0 (let s = bounds.some in omega (arith, s)))
 
     -- what is said of each pool, its log and its room
-    each-pool : (P : Core C → List Mark → ℕ → Type 0) → ((p : ℕ) → p < length f.pools → P (pool_in p f) (get_or (map vec_items logs) p []) (get_or (map vec_capacity logs) p 0)) → ((c : Bool) → P (told c f.shared (new_pool {C = C} options 0).core) [] (vec_capacity log))
-        → (p : ℕ) → p < length (with_child options f).pools → P (pool_in p (with_child options f)) (get_or (map vec_items logs ++ [] ∷ []) p []) (get_or (map vec_capacity logs ++ vec_capacity log ∷ []) p 0)
+    each-pool : (P : Core C → List Mark → ℕ → Type 0) → ((p : ℕ) → p < length f.pools → P (pool_in p f) (get_or (map marks_of logs) p []) (get_or (map room_of logs) p 0)) → ((c : Bool) → P (told c f.shared (new_pool {C = C} options 0).core) [] (room_of log))
+        → (p : ℕ) → p < length (with_child options f).pools → P (pool_in p (with_child options f)) (get_or (map marks_of logs ++ [] ∷ []) p []) (get_or (map room_of logs ++ room_of log ∷ []) p 0)
     each-pool P rest own p below = elim (eqb_tells p (length f.pools)) [
-      | inl is ↦ subst (λ (n : ℕ). P (pool_in n (with_child options f)) (get_or (map vec_items logs ++ [] ∷ []) n []) (get_or (map vec_capacity logs ++ vec_capacity log ∷ []) n 0)) (sym is.1)
-          (subst (λ (e : FamilyPool C). P (told (e.core.shut || (root_of (with_child options f)).shut) f.shared e.core) (get_or (map vec_items logs ++ [] ∷ []) (length f.pools) []) (get_or (map vec_capacity logs ++ vec_capacity log ∷ []) (length f.pools) 0)) (sym (get_or_push f.pools (new_pool options 0) no_pool (length f.pools) refl))
-          (subst (λ (l : List Mark). P (told (false || (root_of (with_child options f)).shut) f.shared (new_pool {C = C} options 0).core) l (get_or (map vec_capacity logs ++ vec_capacity log ∷ []) (length f.pools) 0)) (sym (get_or_push (map vec_items logs) [] [] (length f.pools) kept.standing.each))
-          (subst (P (told (false || (root_of (with_child options f)).shut) f.shared (new_pool {C = C} options 0).core) []) (sym (get_or_push (map vec_capacity logs) (vec_capacity log) 0 (length f.pools) (let a = kept.standing.each in let b = length-map logs vec_items in let c = length-map logs vec_capacity in omega (arith, a, b, c))))
+      | inl is ↦ subst (λ (n : ℕ). P (pool_in n (with_child options f)) (get_or (map marks_of logs ++ [] ∷ []) n []) (get_or (map room_of logs ++ room_of log ∷ []) n 0)) (sym is.1)
+          (subst (λ (e : FamilyPool C). P (told (e.core.shut || (root_of (with_child options f)).shut) f.shared e.core) (get_or (map marks_of logs ++ [] ∷ []) (length f.pools) []) (get_or (map room_of logs ++ room_of log ∷ []) (length f.pools) 0)) (sym (get_or_push f.pools (new_pool options 0) no_pool (length f.pools) refl))
+          (subst (λ (l : List Mark). P (told (false || (root_of (with_child options f)).shut) f.shared (new_pool {C = C} options 0).core) l (get_or (map room_of logs ++ room_of log ∷ []) (length f.pools) 0)) (sym (get_or_push (map marks_of logs) [] [] (length f.pools) kept.standing.each))
+          (subst (P (told (false || (root_of (with_child options f)).shut) f.shared (new_pool {C = C} options 0).core) []) (sym (get_or_push (map room_of logs) (room_of log) 0 (length f.pools) (let a = kept.standing.each in let b = length-map logs marks_of in let c = length-map logs room_of in omega (arith, a, b, c))))
           (own (false || (root_of (with_child options f)).shut)))))
       | inr is ↦
           let lt : p < length f.pools = (let ne = is.1 in let long = length-append f.pools (new_pool {C = C} options 0 ∷ []) in omega (arith, below, ne, long)) in
           let a = kept.standing.each in
-          let b = length-map logs vec_items in
-          let c = length-map logs vec_capacity in
-          subst (λ (k : Core C). P k (get_or (map vec_items logs ++ [] ∷ []) p []) (get_or (map vec_capacity logs ++ vec_capacity log ∷ []) p 0)) (sym (pool-old p lt))
-          (subst (λ (l : List Mark). P (pool_in p f) l (get_or (map vec_capacity logs ++ vec_capacity log ∷ []) p 0)) (sym (get_or_append_left (map vec_items logs) ([] ∷ []) [] p (omega (arith, lt, a))))
-          (subst (P (pool_in p f) (get_or (map vec_items logs) p [])) (sym (get_or_append_left (map vec_capacity logs) (vec_capacity log ∷ []) 0 p (omega (arith, lt, a, b, c)))) (rest p lt)))
+          let b = length-map logs marks_of in
+          let c = length-map logs room_of in
+          subst (λ (k : Core C). P k (get_or (map marks_of logs ++ [] ∷ []) p []) (get_or (map room_of logs ++ room_of log ∷ []) p 0)) (sym (pool-old p lt))
+          (subst (λ (l : List Mark). P (pool_in p f) l (get_or (map room_of logs ++ room_of log ∷ []) p 0)) (sym (get_or_append_left (map marks_of logs) ([] ∷ []) [] p (omega (arith, lt, a))))
+          (subst (P (pool_in p f) (get_or (map marks_of logs) p [])) (sym (get_or_append_left (map room_of logs) (room_of log ∷ []) 0 p (omega (arith, lt, a, b, c)))) (rest p lt)))
     ]
 
-    grown : IsKept levels max (family_state (with_child options f) (map vec_items logs ++ [] ∷ []) connect booked) (map vec_capacity logs ++ vec_capacity log ∷ [])
+    grown : IsKept levels max (family_state (with_child options f) (map marks_of logs ++ [] ∷ []) connect booked) (map room_of logs ++ room_of log ∷ [])
     grown = record {
       standing = record {
-        each = let a = length-append (map vec_items logs) ([] ∷ []) in let b = length-append f.pools (new_pool {C = C} options 0 ∷ []) in let c = kept.standing.each in omega (arith, a, b, c);
+        each = let a = length-append (map marks_of logs) ([] ∷ []) in let b = length-append f.pools (new_pool {C = C} options 0 ∷ []) in let c = kept.standing.each in omega (arith, a, b, c);
         stand = each-pool (λ k l n. StandsIn k l) (λ p lt. kept.standing.stand p lt) (λ c. new-stands options 0 c f.shared bounds.first_ticket bounds.first_conn);
         safe = each-pool (λ k l n. IsSafe k.options.max_connections [] l) (λ p lt. kept.standing.safe p lt) (λ c. tt);
         rest = each-pool (λ k l n. RestFlat levels k.idle) (λ p lt. kept.standing.rest p lt) (λ c. All-nil _);
         most = ap (λ (e : FamilyPool C). e.core.options.max_connections) (entry-old 0 (let s = bounds.some in omega (arith, s))) ∙ kept.standing.most;
         owned = let a = sum_by_push held_in f.pools (new_pool {C = C} options 0) in let b = kept.standing.owned in omega (arith, a, b);
-        made = let a = sum_by_push lents (map vec_items logs) [] in let b = kept.standing.made in omega (arith, a, b);
+        made = let a = sum_by_push lents (map marks_of logs) [] in let b = kept.standing.made in omega (arith, a, b);
       };
       asked = let a = sum_by_push tickets_in f.pools (new_pool {C = C} options 0) in let b = kept.asked in omega (arith, a, b);
       few = let a = sum_by_push tickets_in f.pools (new_pool {C = C} options 0) in let b = kept.few in omega (arith, a, b);
       room = each-pool (λ k l n. length l + marks_due k ≤ n) (λ p lt. kept.room p lt) (λ c. omega (arith, some));
     }
 
-    pub items-pushed : map vec_items (logs ++ log ∷ []) ≡ map vec_items logs ++ [] ∷ []
-    items-pushed = map-append vec_items logs (log ∷ []) ∙ ap (λ (l : List Mark). map vec_items logs ++ l ∷ []) none
+    pub items-pushed : map marks_of (logs ++ log ∷ []) ≡ map marks_of logs ++ [] ∷ []
+    items-pushed = map-append marks_of logs (log ∷ []) ∙ ap (λ (l : List Mark). map marks_of logs ++ l ∷ []) none
 
-    pub child-added : (now : List (Vec Mark Z)) → now ≡ logs ++ log ∷ [] → IsKept levels max (family_state (with_child options f) (map vec_items now) connect booked) (map vec_capacity now)
+    pub child-added : (now : List (PackedRow)) → now ≡ logs ++ log ∷ [] → IsKept levels max (family_state (with_child options f) (map marks_of now) connect booked) (map room_of now)
     child-added now e =
-        subst (λ (l : List (Vec Mark Z)). IsKept levels max (family_state (with_child options f) (map vec_items l) connect booked) (map vec_capacity l)) (sym e)
-        (subst (λ (l : List (List Mark)). IsKept levels max (family_state (with_child options f) l connect booked) (map vec_capacity (logs ++ log ∷ []))) (sym (items-pushed))
-        (subst (λ (l : List ℕ). IsKept levels max (family_state (with_child options f) (map vec_items logs ++ [] ∷ []) connect booked) l) (sym (map-append vec_capacity logs (log ∷ []))) grown))
+        subst (λ (l : List (PackedRow)). IsKept levels max (family_state (with_child options f) (map marks_of l) connect booked) (map room_of l)) (sym e)
+        (subst (λ (l : List (List Mark)). IsKept levels max (family_state (with_child options f) l connect booked) (map room_of (logs ++ log ∷ []))) (sym (items-pushed))
+        (subst (λ (l : List ℕ). IsKept levels max (family_state (with_child options f) (map marks_of logs ++ [] ∷ []) connect booked) l) (sym (map-append room_of logs (log ∷ []))) grown))
 
 -- ---- a log that only got room
 
@@ -151,30 +152,30 @@ pub on-err : {T E P : Type 0} (r : Result T E) → P → OnErr r P
 on-err (Ok t) p = tt
 on-err (Err e) p = p
 
-pub reserved : {C O Z : Type 0} {levels : C → ℕ} {max : ℕ} {f : Pools C} {connect : O} {booked : Booked} (logs : List (Vec Mark Z)) → IsKept levels max (family_state f (map vec_items logs) connect booked) (map vec_capacity logs)
-    → (q : ℕ) (log now : Vec Mark Z) → q < length logs → log ≡ get_or logs q log → vec_items now ≡ vec_items log → vec_capacity log ≤ vec_capacity now
-    → IsKept levels max (family_state f (map vec_items (slice_set logs q now)) connect booked) (map vec_capacity (slice_set logs q now))
+pub reserved : {C O : Type 0} {levels : C → ℕ} {max : ℕ} {f : Pools C} {connect : O} {booked : Booked} (logs : List (PackedRow)) → IsKept levels max (family_state f (map marks_of logs) connect booked) (map room_of logs)
+    → (q : ℕ) (log now : PackedRow) → q < length logs → log ≡ get_or logs q log → marks_of now ≡ marks_of log → room_of log ≤ room_of now
+    → IsKept levels max (family_state f (map marks_of (slice_set logs q now)) connect booked) (map room_of (slice_set logs q now))
 reserved {levels = levels} {max = max} {f = f} {connect = connect} {booked = booked} logs kept q log now lt is items more =
-    subst (λ (l : List (List Mark)). IsKept levels max (family_state f l connect booked) (map vec_capacity (slice_set logs q now))) (sym (map-set_same vec_items logs q now log (items ∙ ap vec_items is)))
-    (subst (IsKept levels max (family_state f (map vec_items logs) connect booked)) (sym (map-set vec_capacity logs q now)) (record {
+    subst (λ (l : List (List Mark)). IsKept levels max (family_state f l connect booked) (map room_of (slice_set logs q now))) (sym (map-set_same marks_of logs q now log (items ∙ ap marks_of is)))
+    (subst (IsKept levels max (family_state f (map marks_of logs) connect booked)) (sym (map-set room_of logs q now)) (record {
       standing = kept.standing;
       asked = kept.asked;
       few = kept.few;
       room = λ p below. elim (eqb_tells p q) [
-        | inl same ↦ subst (λ (n : ℕ). length (get_or (map vec_items logs) n []) + marks_due (pool_in n f) ≤ get_or (slice_set (map vec_capacity logs) q (vec_capacity now)) n 0) (sym same.1)
+        | inl same ↦ subst (λ (n : ℕ). length (get_or (map marks_of logs) n []) + marks_due (pool_in n f) ≤ get_or (slice_set (map room_of logs) q (room_of now)) n 0) (sym same.1)
             (let a = kept.room q (let e = same.1 in omega (arith, e, below)) in
-            let long = length-map logs vec_capacity in
-            let b = get_or-set_same (map vec_capacity logs) q (vec_capacity now) 0 (omega (arith, long, lt)) in
-            let c = get_or-map vec_capacity logs q log 0 lt in
-            let d = ap vec_capacity is in
+            let long = length-map logs room_of in
+            let b = get_or-set_same (map room_of logs) q (room_of now) 0 (omega (arith, long, lt)) in
+            let c = get_or-map room_of logs q log 0 lt in
+            let d = ap room_of is in
             omega (arith, a, b, c, d, more))
-        | inr other ↦ let a = kept.room p below in let b = get_or-set_other (map vec_capacity logs) q p (vec_capacity now) 0 other.1 in omega (arith, a, b)
+        | inr other ↦ let a = kept.room p below in let b = get_or-set_other (map room_of logs) q p (room_of now) 0 other.1 in omega (arith, a, b)
       ];
     }))
 
 -- the marks are as they were
-pub reserved-same : {Z : Type 0} (logs : List (Vec Mark Z)) (q : ℕ) (log now : Vec Mark Z) → log ≡ get_or logs q log → vec_items now ≡ vec_items log → map vec_items (slice_set logs q now) ≡ map vec_items logs
-reserved-same logs q log now is items = map-set_same vec_items logs q now log (items ∙ ap vec_items is)
+pub reserved-same : (logs : List (PackedRow)) (q : ℕ) (log now : PackedRow) → log ≡ get_or logs q log → marks_of now ≡ marks_of log → map marks_of (slice_set logs q now) ≡ map marks_of logs
+reserved-same logs q log now is items = map-set_same marks_of logs q now log (items ∙ ap marks_of is)
 
 -- ---- a pool that only heard of its family
 
@@ -195,19 +196,19 @@ module _ {C : Type 0} (q : ℕ) (f : Pools C) (lt : q < length f.pools) where
       (record { tickets = omega arith; numbers = omega arith; held = omega arith; paid = omega arith })
 
 -- the value under the lock stands, where a pool only heard of its family and its log only got room
-pub kept-heard : {C O Z : Type 0} {levels : C → ℕ} {max : ℕ} {f : Pools C} {connect : O} {booked : Booked} (logs : List (Vec Mark Z)) → IsKept levels max (family_state f (map vec_items logs) connect booked) (map vec_capacity logs)
-    → (q : ℕ) → q < length f.pools → (log now : Vec Mark Z) → log ≡ get_or logs q log → vec_items now ≡ vec_items log → vec_capacity log ≤ vec_capacity now → {g : Pools C} → g ≡ with_pool q (pool_in q f) f
-    → IsKept levels max (family_state g (map vec_items (slice_set logs q now)) connect booked) (map vec_capacity (slice_set logs q now))
+pub kept-heard : {C O : Type 0} {levels : C → ℕ} {max : ℕ} {f : Pools C} {connect : O} {booked : Booked} (logs : List (PackedRow)) → IsKept levels max (family_state f (map marks_of logs) connect booked) (map room_of logs)
+    → (q : ℕ) → q < length f.pools → (log now : PackedRow) → log ≡ get_or logs q log → marks_of now ≡ marks_of log → room_of log ≤ room_of now → {g : Pools C} → g ≡ with_pool q (pool_in q f) f
+    → IsKept levels max (family_state g (map marks_of (slice_set logs q now)) connect booked) (map room_of (slice_set logs q now))
 kept-heard {levels = levels} {max = max} {f = f} {connect = connect} {booked = booked} logs kept q lt log now is items more same =
-    subst (λ (g : Pools _). IsKept levels max (family_state g (map vec_items (slice_set logs q now)) connect booked) (map vec_capacity (slice_set logs q now))) (sym same)
-    (written logs kept q lt log is (heard-replaces q f lt) (heard-makes q f lt) (heard-balance q f lt) (record { options = refl; rest = λ r. r }) connect (kept-books booked [] refl) now (items ∙ sym (append-nil (vec_items log)))
+    subst (λ (g : Pools _). IsKept levels max (family_state g (map marks_of (slice_set logs q now)) connect booked) (map room_of (slice_set logs q now))) (sym same)
+    (written logs kept q lt log is (heard-replaces q f lt) (heard-makes q f lt) (heard-balance q f lt) (record { options = refl; rest = λ r. r }) connect (kept-books booked [] refl) now (items ∙ sym (append-nil (marks_of log)))
     (let room = room-there logs kept q lt log is in omega (arith, room, more)))
 
 -- it stands where the pool heard of its family or not
-pub kept-maybe : {C O Z : Type 0} {levels : C → ℕ} {max : ℕ} {f : Pools C} {connect : O} {booked : Booked} (logs : List (Vec Mark Z)) → IsKept levels max (family_state f (map vec_items logs) connect booked) (map vec_capacity logs)
-    → (q : ℕ) → q < length f.pools → (log now : Vec Mark Z) → log ≡ get_or logs q log → vec_items now ≡ vec_items log → vec_capacity log ≤ vec_capacity now → {g : Pools C} → (g ≡ f) ⊎ (g ≡ with_pool q (pool_in q f) f)
-    → IsKept levels max (family_state g (map vec_items (slice_set logs q now)) connect booked) (map vec_capacity (slice_set logs q now))
+pub kept-maybe : {C O : Type 0} {levels : C → ℕ} {max : ℕ} {f : Pools C} {connect : O} {booked : Booked} (logs : List (PackedRow)) → IsKept levels max (family_state f (map marks_of logs) connect booked) (map room_of logs)
+    → (q : ℕ) → q < length f.pools → (log now : PackedRow) → log ≡ get_or logs q log → marks_of now ≡ marks_of log → room_of log ≤ room_of now → {g : Pools C} → (g ≡ f) ⊎ (g ≡ with_pool q (pool_in q f) f)
+    → IsKept levels max (family_state g (map marks_of (slice_set logs q now)) connect booked) (map room_of (slice_set logs q now))
 kept-maybe {levels = levels} {max = max} {connect = connect} {booked = booked} logs kept q lt log now is items more (inl same) =
-    subst (λ (g : Pools _). IsKept levels max (family_state g (map vec_items (slice_set logs q now)) connect booked) (map vec_capacity (slice_set logs q now))) (sym same)
+    subst (λ (g : Pools _). IsKept levels max (family_state g (map marks_of (slice_set logs q now)) connect booked) (map room_of (slice_set logs q now))) (sym same)
     (reserved logs kept q log now (in-logs logs kept q lt log is) is items more)
 kept-maybe logs kept q lt log now is items more (inr heard) = kept-heard logs kept q lt log now is items more heard

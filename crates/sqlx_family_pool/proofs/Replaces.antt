@@ -13,7 +13,7 @@ use Rattle.sqlx_family.specs.RootLine.{takes_permit, granting}
 use Rattle.sqlx_family.specs.Permits.{owned_by, with_less, moved, granted, settled_if, settled, stepped, retiring}
 use Rattle.sqlx_family.proofs.LogLemmas.{core-retiring}
 use Rattle.sqlx_family.proofs.PollLemmas.{entry-owning, pool-granted}
-use Rattle.sqlx_pool_base.proofs.LeavesLemmas.{Leaves, start-leaves}
+use Rattle.sqlx_pool.proofs.LeavesLemmas.{Leaves, start-leaves}
 
 -- The core of one pool is this one but for its permits, and each other core is what it was but for its permits.
 pub record Replaces {C : Type 0} (q : ℕ) (old : Pools C) (core : Core C) (new : Pools C) : Type 0 where

@@ -15,9 +15,9 @@ use Rattle.sqlx_family.specs.Permits.{owned_by}
 use Rattle.sqlx_family.specs.IsFamily.{permits_of}
 use Rattle.sqlx_family_pool.specs.FamilyState.{FamilyState, IsStanding}
 use Rattle.sqlx_family.specs.RootLine.{has_permit_left}
-use Rattle.sqlx_pool_base.specs.Places.{back_if, holds_place}
-use Rattle.sqlx_pool_base.specs.Refusals.{IsTryRefusal}
-use Rattle.sqlx_pool_base.proofs.SeenLemmas.{back-why}
+use Rattle.sqlx_pool.specs.Places.{back_if, holds_place}
+use Rattle.sqlx_pool.specs.Refusals.{IsTryRefusal}
+use Rattle.sqlx_pool.proofs.SeenLemmas.{back-why}
 use Rattle.sqlx_family_pool.specs.Seen.{bare_family, SawFamily}
 use Rattle.sqlx_family_pool.specs.Upkeep.{has_room_in, IsFilledIn}
 
@@ -57,7 +57,7 @@ closed-full pool state false is e = never e
 
 -- so a connection comes back only where none may be opened, or no place is held
 pub back-filled : {C O : Type 0} (pool : ℕ) (state : FamilyState C O) (raw : C) (back : Option C) → back ≡ back_if (holds_place (pool_in pool state.family)) (pool_in pool state.family).closed (Some raw) → is_some back ≡ true → IsFilledIn pool state
-back-filled pool state raw back is some = by (back-why (holds_place (pool_in pool state.family)) (counts_as_closed pool state.family) raw (sym (ap is_some is) ∙ some))
+back-filled pool state raw back is some = by (back-why (holds_place (pool_in pool state.family)) (counts_as_closed pool state.family) (Some raw) (sym (ap is_some is) ∙ some))
   where
     by : (counts_as_closed pool state.family ≡ true) ⊎ (holds_place (pool_in pool state.family) ≡ false) → IsFilledIn pool state
     by (inl closed) = inl (closed-full pool state (counts_as_closed pool state.family) refl closed)

@@ -1,14 +1,15 @@
 -- The value under the lock stands after a step of one pool whose marks were written behind that pool's log.
-use Rattle.std.proofs.Common.{◌≡◌, ◌≢◌, ◌==◌, not, ℕ, ◌+◌, ◌^◌, ◌<◌, ◌≤◌, ◌⊎◌, inl, inr, Bool, true, false, Option, Some, None, List, [], ◌∷◌, ◌++◌, map, length, get_or, sum_by, All, refl, sym, ap, ◌∙◌, subst, arith, Vec, vec_items, vec_capacity}
+use Rattle.std.proofs.Common.{◌≡◌, ◌≢◌, ◌==◌, not, ℕ, ◌+◌, ◌^◌, ◌<◌, ◌≤◌, ◌⊎◌, inl, inr, Bool, true, false, Option, Some, None, List, [], ◌∷◌, ◌++◌, map, length, get_or, sum_by, All, refl, sym, ap, ◌∙◌, subst, arith}
 use Rattle.std.specs.Prelude.{slice_set}
 use Rattle.std.proofs.lemmas.Bool.Decides.{eqb_tells}
 use Rattle.std.proofs.lemmas.List.{get_or-set_same, get_or-set_other, get_or-map, map-set, length-set, length-map, length-append}
 use Rattle.std.proofs.lemmas.List.Elements.{All-head, All-tail}
 use Rattle.std.proofs.lemmas.List.Sums.{sum_by-set, sum_by-cons}
-use Rattle.sqlx_log.specs.declared.mark.Mark.{Mark}
-use Rattle.sqlx_log.specs.FairLog.{IsSafe}
-use Rattle.sqlx_log.proofs.Counting.{count-append}
-use Rattle.sqlx_log.proofs.FairLaws.{safe-append}
+use Rattle.sqlx_pool_marks.specs.declared.mark.Mark.{Mark}
+use Rattle.sqlx_pool_marks.specs.FairLog.{IsSafe}
+use Rattle.sqlx_pool_marks.proofs.Counting.{count-append}
+use Rattle.sqlx_pool_marks.proofs.FairLaws.{safe-append}
+use Rattle.sqlx_pool_log.specs.PackedLog.{PackedRow, marks_of, room_of}
 use Rattle.sqlx_pool_lists.specs.declared.shared.Shared.{Shared}
 use Rattle.sqlx_pool_lists.specs.declared.options.PoolOptions.{PoolOptions}
 use Rattle.sqlx_pool_lists.specs.Core.{Core}
@@ -19,7 +20,7 @@ use Rattle.sqlx_pool_lists.specs.declared.steps.Verdict.{Verdict}
 use Rattle.sqlx_pool_lists.specs.declared.steps.Verdict.TheVariants as verdict
 use Rattle.sqlx_pool_lists.specs.Balance.{Balance, is_lent, lents, ends, marks_due, place_room}
 use Rattle.sqlx_pool_lists.specs.PollSteps.{test_answer, after_refusal}
-use Rattle.sqlx_member.specs.CameTo.{IfAccepted}
+use Rattle.sqlx_pool_core.specs.CameTo.{IfAccepted}
 use Rattle.sqlx_pool_lists.specs.MaintenanceSteps.{done_marks}
 use Rattle.sqlx_pool_parts.specs.Answers.{IfTestLends}
 use Rattle.sqlx_family.specs.declared.family.FamilyPool.{FamilyPool}
@@ -29,10 +30,10 @@ use Rattle.sqlx_family.specs.IsFamily.{permits_of, Joins, IsFamily, maximum_of}
 use Rattle.sqlx_family.specs.FamilyLogs.{with_marks, MakesTogether, FamilyLogs}
 use Rattle.sqlx_family.proofs.LogLemmas.{same, other}
 use Rattle.sqlx_pool_parts.specs.Booked.{Booked}
-use Rattle.sqlx_pool_base.specs.Places.{done_if_marks}
+use Rattle.sqlx_pool.specs.Places.{done_if_marks}
 use Rattle.sqlx_pool_parts.specs.State.{RestFlat}
-use Rattle.sqlx_pool_base.proofs.LeavesLemmas.{Leaves}
-use Rattle.sqlx_pool_base.proofs.StepLemmas.{Books}
+use Rattle.sqlx_pool.proofs.LeavesLemmas.{Leaves}
+use Rattle.sqlx_pool.proofs.StepLemmas.{Books}
 use Rattle.sqlx_family_pool.specs.FamilyState.{family_state, with_made, held_in, tickets_in, IsKept}
 use Rattle.sqlx_family_pool.proofs.Replaces.{Replaces, sum-but}
 
@@ -56,19 +57,19 @@ few-held f is =
 
 -- ---- logs by their pools' names
 
-module _ {Z : Type 0} (logs : List (Vec Mark Z)) (q : ℕ) (log : Vec Mark Z) (lt : q < length logs) (is : log ≡ get_or logs q log) where
-  pub items-at : get_or (map vec_items logs) q [] ≡ vec_items log
-  items-at = get_or-map vec_items logs q log [] lt ∙ ap vec_items (sym is)
+module _ (logs : List (PackedRow)) (q : ℕ) (log : PackedRow) (lt : q < length logs) (is : log ≡ get_or logs q log) where
+  pub items-at : get_or (map marks_of logs) q [] ≡ marks_of log
+  items-at = get_or-map marks_of logs q log [] lt ∙ ap marks_of (sym is)
 
-  pub capacity-at : get_or (map vec_capacity logs) q 0 ≡ vec_capacity log
-  capacity-at = get_or-map vec_capacity logs q log 0 lt ∙ ap vec_capacity (sym is)
+  pub capacity-at : get_or (map room_of logs) q 0 ≡ room_of log
+  capacity-at = get_or-map room_of logs q log 0 lt ∙ ap room_of (sym is)
 
-  module _ (now : Vec Mark Z) (made : List Mark) (grew : vec_items now ≡ vec_items log ++ made) where
+  module _ (now : PackedRow) (made : List Mark) (grew : marks_of now ≡ marks_of log ++ made) where
     -- the log of this pool has the marks behind it, and the others are as they were
-    pub logs-grow : map vec_items (slice_set logs q now) ≡ with_made q made (map vec_items logs)
+    pub logs-grow : map marks_of (slice_set logs q now) ≡ with_made q made (map marks_of logs)
     logs-grow =
-        map-set vec_items logs q now
-        ∙ ap (slice_set (map vec_items logs) q) (grew ∙ ap (λ (l : List Mark). l ++ made) (sym items-at))
+        map-set marks_of logs q now
+        ∙ ap (slice_set (map marks_of logs) q) (grew ∙ ap (λ (l : List Mark). l ++ made) (sym items-at))
 
 -- the same log by log
 pub grows-at : (q : ℕ) (made : List Mark) (logs : List (List Mark)) → q < length logs → (p : ℕ) → get_or (with_made q made logs) p [] ≡ with_marks q made (λ r. get_or logs r []) p
@@ -184,25 +185,25 @@ module _ {C O : Type 0} {levels : C → ℕ} {max : ℕ} {f : Pools C} {logs : L
     }
 
 -- The same, where the logs are vectors: a step of the pool whose log was written to.
-module _ {C O Z : Type 0} {levels : C → ℕ} {max : ℕ} {f : Pools C} {connect : O} {booked : Booked} (logs : List (Vec Mark Z)) (kept : IsKept levels max (family_state f (map vec_items logs) connect booked) (map vec_capacity logs))
-    (q : ℕ) (lt : q < length f.pools) (log : Vec Mark Z) (is : log ≡ get_or logs q log) where
+module _ {C O : Type 0} {levels : C → ℕ} {max : ℕ} {f : Pools C} {connect : O} {booked : Booked} (logs : List (PackedRow)) (kept : IsKept levels max (family_state f (map marks_of logs) connect booked) (map room_of logs))
+    (q : ℕ) (lt : q < length f.pools) (log : PackedRow) (is : log ≡ get_or logs q log) where
   pub in-logs : q < length logs
-  in-logs = let a = kept.standing.each in let b = length-map logs vec_items in omega (arith, lt, a, b)
+  in-logs = let a = kept.standing.each in let b = length-map logs marks_of in omega (arith, lt, a, b)
 
   -- the pool's log has room for what is due
-  pub room-there : length (vec_items log) + marks_due (pool_in q f) ≤ vec_capacity log
+  pub room-there : length (marks_of log) + marks_due (pool_in q f) ≤ room_of log
   room-there = let a = kept.room q lt in let b = ap length (items-at logs q log in-logs is) in let c = capacity-at logs q log in-logs is in omega (arith, a, b, c)
 
   pub written : {core : Core C} {g : Pools C} {made : List Mark} {backs room : ℕ} → Replaces q f core g → FamilyLogs f q made g → Balance (pool_in q f) (pool_in q g) made backs room → Leaves levels (pool_in q f) core
-      → (connect : O) {now_booked : Booked} → Books booked now_booked made backs → (now : Vec Mark Z) → vec_items now ≡ vec_items log ++ made → length (vec_items log) + marks_due (pool_in q f) + room ≤ vec_capacity now
-      → IsKept levels max (family_state g (map vec_items (slice_set logs q now)) connect now_booked) (map vec_capacity (slice_set logs q now))
+      → (connect : O) {now_booked : Booked} → Books booked now_booked made backs → (now : PackedRow) → marks_of now ≡ marks_of log ++ made → length (marks_of log) + marks_due (pool_in q f) + room ≤ room_of now
+      → IsKept levels max (family_state g (map marks_of (slice_set logs q now)) connect now_booked) (map room_of (slice_set logs q now))
   written {core} {g} {made} {backs} {room} replaces makes balance leaves connect {now_booked} books now grew enough =
-      subst (λ (l : List (List Mark)). IsKept levels max (family_state g l connect now_booked) (map vec_capacity (slice_set logs q now))) (sym (logs-grow logs q log in-logs is now made grew))
-      (stepped kept q lt core g made backs room replaces makes balance leaves connect now_booked books (map vec_capacity (slice_set logs q now))
-      (λ p ne. ap (λ (l : List ℕ). get_or l p 0) (map-set vec_capacity logs q now) ∙ get_or-set_other (map vec_capacity logs) q p (vec_capacity now) 0 ne)
+      subst (λ (l : List (List Mark)). IsKept levels max (family_state g l connect now_booked) (map room_of (slice_set logs q now))) (sym (logs-grow logs q log in-logs is now made grew))
+      (stepped kept q lt core g made backs room replaces makes balance leaves connect now_booked books (map room_of (slice_set logs q now))
+      (λ p ne. ap (λ (l : List ℕ). get_or l p 0) (map-set room_of logs q now) ∙ get_or-set_other (map room_of logs) q p (room_of now) 0 ne)
       (let a = ap length (items-at logs q log in-logs is) in
-      let within : q < length (map vec_capacity logs) = (let b = length-map logs vec_capacity in let c = in-logs in omega (arith, b, c)) in
-      let here : get_or (map vec_capacity (slice_set logs q now)) q 0 ≡ vec_capacity now = ap (λ (l : List ℕ). get_or l q 0) (map-set vec_capacity logs q now) ∙ get_or-set_same (map vec_capacity logs) q (vec_capacity now) 0 within in
+      let within : q < length (map room_of logs) = (let b = length-map logs room_of in let c = in-logs in omega (arith, b, c)) in
+      let here : get_or (map room_of (slice_set logs q now)) q 0 ≡ room_of now = ap (λ (l : List ℕ). get_or l q 0) (map-set room_of logs q now) ∙ get_or-set_same (map room_of logs) q (room_of now) 0 within in
       omega (arith, a, here, enough)))
 
 -- the marks of a place that is held

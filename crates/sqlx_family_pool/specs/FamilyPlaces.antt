@@ -1,11 +1,11 @@
 -- What becomes of a family by a place for the minimum of one of its pools.
 use Rattle.std.specs.Prelude.{ℕ, Bool, true, false, Option, List}
-use Rattle.sqlx_log.specs.declared.mark.Mark.{Mark}
+use Rattle.sqlx_pool_marks.specs.declared.mark.Mark.{Mark}
 use Rattle.sqlx_pool_lists.specs.Core.{Core}
 use Rattle.sqlx_pool_lists.specs.MaintenanceSteps.{done}
 use Rattle.sqlx_family.specs.Pools.{Pools, pool_in}
 use Rattle.sqlx_family.specs.Permits.{stepped}
-use Rattle.sqlx_pool_base.specs.Places.{holds_place, done_if_marks}
+use Rattle.sqlx_pool.specs.Places.{holds_place, done_if_marks}
 
 module _ {C : Type 0} where
   -- the marks of a place of the pool that was used or given up at a moment, where one was held

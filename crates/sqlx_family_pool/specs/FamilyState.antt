@@ -1,7 +1,7 @@
 -- The value under the lock of a family of pools.
 use Rattle.std.specs.Prelude.{◌≡◌, ℕ, ◌+◌, ◌^◌, ◌<◌, ◌≤◌, List, [], ◌++◌, length, sum_by, slice_index_or, slice_set}
-use Rattle.sqlx_log.specs.declared.mark.Mark.{Mark}
-use Rattle.sqlx_log.specs.FairLog.{IsSafe}
+use Rattle.sqlx_pool_marks.specs.declared.mark.Mark.{Mark}
+use Rattle.sqlx_pool_marks.specs.FairLog.{IsSafe}
 use Rattle.sqlx_pool_lists.specs.Balance.{lents, marks_due}
 use Rattle.sqlx_family.specs.declared.family.FamilyPool.{FamilyPool}
 use Rattle.sqlx_family.specs.Pools.{Pools, pool_in}

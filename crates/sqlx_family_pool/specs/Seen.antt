@@ -1,4 +1,4 @@
--- What a call saw under the lock of a family of pools, which it let go again.
+-- What a call of a family's pools says of a state that stood under the lock, which it let go again.
 use Rattle.std.specs.Prelude.{ℕ, ⊤}
 use Rattle.sqlx_family_pool.specs.FamilyState.{FamilyState, IsNamed, IsStanding, family_state}
 
@@ -6,10 +6,10 @@ use Rattle.sqlx_family_pool.specs.FamilyState.{FamilyState, IsNamed, IsStanding,
 abbrev pub bare_family : {C O : Type 0} → FamilyState C O → FamilyState C (⊤)
 bare_family state = family_state state.family state.logs tt state.booked
 
--- of a state that stood under the lock of a family this held
+-- a family of this maximum may stand in a state of which this holds; nothing ties that state to a lock
 abbrev pub SawFamily : {C : Type 0} → (C → ℕ) → ℕ → (FamilyState C (⊤) → Type 0) → Type 0
 SawFamily {C = C} levels max holds = (state : FamilyState C (⊤)) × IsStanding levels max state × holds state
 
--- so of a pool that has a name there
+-- so of a pool, where it has its name there
 abbrev pub SawIn : {C : Type 0} → (C → ℕ) → ℕ → ℕ → (FamilyState C (⊤) → Type 0) → Type 0
 SawIn levels max pool holds = SawFamily levels max (λ state. IsNamed pool state → holds state)

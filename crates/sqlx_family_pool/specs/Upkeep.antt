@@ -2,11 +2,11 @@
 use Rattle.std.specs.Prelude.{◌≡◌, ◌⊎◌, ◌^◌, ◌<◌, ◌≤◌, ℕ, Bool, true, false, List, Option}
 use Rattle.sqlx_text.specs.declared.Moment.{Moment}
 use Rattle.sqlx_pool_lists.specs.declared.steps.Idle.{Idle}
-use Rattle.sqlx_member.specs.Logs.{moment_of}
+use Rattle.sqlx_pool_core.specs.Logs.{moment_of}
 use Rattle.sqlx_pool_lists.specs.MaintenanceSteps.{close_answer, has_place_if, reap_answer}
 use Rattle.sqlx_family.specs.Pools.{counts_as_closed, pool_in}
 use Rattle.sqlx_family.specs.RootLine.{passes_in}
-use Rattle.sqlx_pool_base.specs.Places.{holds_place}
+use Rattle.sqlx_pool.specs.Places.{holds_place}
 use Rattle.sqlx_family_pool.specs.FamilyState.{FamilyState}
 
 module _ {C O : Type 0} where

@@ -5,16 +5,16 @@ ghost use Rattle.sqlx_pool_lists.specs.Balance.{one_if};
 ghost use Rattle.sqlx_pool_lists.specs.PollSteps.{phase_for, may_cancel};
 ghost use Rattle.sqlx_family.specs.Pools.{pool_in};
 ghost use Rattle.sqlx_pool_parts.specs.Booked.{CountsIf};
-ghost use Rattle.sqlx_pool_base.specs.Polling.{is_ready, IfReady, IfFailed, IfPending};
-ghost use Rattle.sqlx_pool_base.specs.Refusals.{IsEnd, IsPollRefusal};
-ghost use Rattle.sqlx_pool_base.specs.Stage.{has_lent, IfLent, IfEnded};
+ghost use Rattle.sqlx_pool.specs.Polling.{is_ready, IfReady, IfFailed, IfPending};
+ghost use Rattle.sqlx_pool.specs.Refusals.{IsEnd, IsPollRefusal};
+ghost use Rattle.sqlx_pool.specs.Stage.{has_lent, IfLent, IfEnded};
 ghost use Rattle.sqlx_family_pool.specs.Seen.{SawFamily};
 
 mod waits;
 
 use crate::{FamilyConnectionOf, FamilyPollOf, FamilyPoolOf};
-use sqlx_pool_base::stage::Stage;
-use sqlx_pool_base::{Held, Loans, Polling, Tally};
+use sqlx_pool::stage::Stage;
+use sqlx_pool::{Held, Loans, Polling, Tally};
 use sqlx_pool_core::Outside;
 use sqlx_pool_parts::checks::close_left;
 use sqlx_text::{Depth, Moment};
@@ -59,7 +59,6 @@ impl<C: Depth + Drop, O: Drop, H: Ledger, L: Loans> FamilyAcquiringOf<C, O, H, L
         out: &mut X,
         tally: &mut Tally<L>,
     ) -> FamilyPollOf<C, O, H, L>
-        requires { 0 < tally.old.parts }
         ensures tally { CountsIf (is_ready result) tally.old tally.new }
         ensures flat { IfReady result (λ conn. C.levels conn.raw ≡ 0) }
         ensures again { IfPending result (λ waits. (waits.pool.name ≡ self.pool.name) × (waits.client ≡ self.client) × (waits.ticket ≡ self.ticket)) }
@@ -88,7 +87,6 @@ impl<C: Depth + Drop, O: Drop, H: Ledger, L: Loans> FamilyAcquiringOf<C, O, H, L
         out: &mut X,
         tally: &mut Tally<L>,
     ) -> FamilyPollOf<C, O, H, L>
-        requires parts { 0 < tally.old.parts }
         requires flat { IfLent begun (λ lent. C.levels lent.raw ≡ 0) }
         requires causes { IfEnded begun IsEnd }
         ensures parts { tally.new.parts ≡ tally.old.parts }

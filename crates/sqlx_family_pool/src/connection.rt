@@ -2,11 +2,11 @@
 
 ghost use Rattle.std.specs.Prelude.{◌≡◌, ◌≤◌, ℕ, true, false, IfErr};
 ghost use Rattle.sqlx_text.specs.declared.error.Error.{Error};
-ghost use Rattle.sqlx_pool_base.specs.Returned.{was_kept};
+ghost use Rattle.sqlx_pool.specs.Returned.{was_kept};
 
 use crate::FamilyPoolOf;
-use sqlx_member::idle_check::Check;
-use sqlx_pool_base::{Held, Loans, Returned};
+use sqlx_pool::{Held, Loans, Returned};
+use sqlx_pool_core::idle_check::Check;
 use sqlx_pool_core::{Given, Lent, Openings, Outside};
 use sqlx_pool_parts::checks::{close_by, passes};
 use sqlx_text::{Depth, Error, Moment};

@@ -1,7 +1,7 @@
 //! A connection of a pool of a family holds its connection, as a transaction wants it.
 
 use crate::FamilyConnectionOf;
-use sqlx_pool_base::Loans;
+use sqlx_pool::Loans;
 use sqlx_traits::Database;
 use sqlx_tx::Hold;
 use std::sync::ledger::Ledger;

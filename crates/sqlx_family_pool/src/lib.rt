@@ -15,7 +15,7 @@ pub use acquiring::FamilyAcquiringOf;
 pub use connection::FamilyConnectionOf;
 pub use locked::LockedFamily;
 pub use pool::FamilyPoolOf;
-use sqlx_pool_base::Polling;
+use sqlx_pool::Polling;
 use sqlx_traits::Database;
 
 /// What a poll of a pool of a family came to.

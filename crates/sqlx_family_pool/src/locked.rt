@@ -2,7 +2,7 @@
 
 ghost use Rattle.std.specs.Prelude.{◌≡◌, ℕ, ◌+◌, ◌-◌, ◌^◌, ◌<◌, ◌≤◌, ◌↔◌, ◌⊎◌, List, [], ◌∷◌, ◌++◌, Err, IfOk, IfErr, OnOk, OnErr, length};
 ghost use Rattle.sqlx_text.specs.declared.error.Error.{Error};
-ghost use Rattle.sqlx_log.specs.declared.mark.Mark.{Mark};
+ghost use Rattle.sqlx_pool_marks.specs.declared.mark.Mark.{Mark};
 ghost use Rattle.sqlx_family.specs.Pools.{new_family, with_child};
 ghost use Rattle.sqlx_pool_parts.specs.Booked.{Booked, Tallied};
 ghost use Rattle.sqlx_family_pool.specs.FamilyState.{FamilyState};
@@ -15,8 +15,9 @@ mod questions;
 mod returns;
 
 use sqlx_family::Family;
-use sqlx_pool_base::{Loans, Tally};
-use sqlx_pool_core::{Mark, PoolOptions};
+use sqlx_pool::{Loans, Tally};
+use sqlx_pool_core::PoolOptions;
+use sqlx_pool_log::PackedLog;
 use sqlx_pool_parts::books::Books;
 use sqlx_text::{Depth, Error, OutOfMemory};
 use std::alloc::Global;
@@ -30,7 +31,7 @@ const POOLS: usize = (1 << 32) - 1;
 /// connections are opened, and the books of two ledgers, which count all pools.
 pub struct LockedFamily<C: Depth, O, H: Ledger, L: Loans> {
     family: Family<C>,
-    logs: Vec<Vec<Mark>>,
+    logs: Vec<PackedLog>,
     connect: O,
     books: Books<H, L>,
 }
@@ -51,14 +52,15 @@ impl<C: Depth + Drop, O: Drop, H: Ledger, L: Loans> Drop for LockedFamily<C, O, 
 }
 
 impl<C: Depth, O, H: Ledger, L: Loans> Model for LockedFamily<C, O, H, L> {
-    ghost use Rattle.std.specs.Prelude.{map, vec_items, vec_capacity};
+    ghost use Rattle.std.specs.Prelude.{map};
+    ghost use Rattle.sqlx_pool_log.specs.PackedLog.{marks_of, room_of};
     ghost use Rattle.sqlx_family_pool.specs.FamilyState.{FamilyState, family_state, IsKept};
 
     ghost Value = { FamilyState C O };
 
-    ghost view = { λ s. family_state s.family (map vec_items s.logs.items) s.connect s.books };
+    ghost view = { λ s. family_state s.family (map marks_of s.logs.items) s.connect s.books };
 
-    ghost invariant = { λ s. IsKept C.levels L.max (family_state s.family (map vec_items s.logs.items) s.connect s.books) (map vec_capacity s.logs.items) };
+    ghost invariant = { λ s. IsKept C.levels L.max (family_state s.family (map marks_of s.logs.items) s.connect s.books) (map room_of s.logs.items) };
 }
 
 impl<C: Depth + Drop, O: Drop, H: Ledger, L: Loans> LockedFamily<C, O, H, L> {
@@ -75,7 +77,7 @@ impl<C: Depth + Drop, O: Drop, H: Ledger, L: Loans> LockedFamily<C, O, H, L> {
         requires tries { (1 ≤ options.idle_tries) × (options.idle_tries ≤ 16) }
         requires max { options.max_connections ≡ L.max }
         requires held { (held.name ≡ H.name) × (held.parts ≡ H.parts) × (held.parts ≡ 2 ^ 32) }
-        requires loans { (loans.name ≡ L.name) × (loans.parts ≡ L.parts) }
+        requires loans { (loans.name ≡ L.name) × (loans.parts ≡ L.parts) × (1 ≤ loans.parts) }
         ensures family { IfOk result (λ made. made.0.family ≡ new_family options) }
         ensures logs { IfOk result (λ made. made.0.logs ≡ [] ∷ []) }
         ensures connect { IfOk result (λ made. made.0.connect ≡ connect) }
@@ -85,7 +87,7 @@ impl<C: Depth + Drop, O: Drop, H: Ledger, L: Loans> LockedFamily<C, O, H, L> {
         let Ok(mut logs) = Vec::with_capacity(alloc, 1) else {
             return Err(OutOfMemory);
         };
-        let Ok(log) = Vec::with_capacity(alloc, family.due(0)) else {
+        let Ok(log) = PackedLog::with_capacity(alloc, family.due(0)) else {
             return Err(OutOfMemory);
         };
         logs.push_reserved(log);
@@ -120,7 +122,7 @@ impl<C: Depth + Drop, O: Drop, H: Ledger, L: Loans> LockedFamily<C, O, H, L> {
         let Ok(()) = self.logs.reserve(1) else {
             return Err(Error::OutOfMemory);
         };
-        let Ok(log) = Vec::with_capacity(alloc, 1) else {
+        let Ok(log) = PackedLog::with_capacity(alloc, 1) else {
             return Err(Error::OutOfMemory);
         };
         self.family.bounds();

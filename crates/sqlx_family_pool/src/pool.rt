@@ -2,7 +2,7 @@
 
 ghost use Rattle.std.specs.Prelude.{◌≡◌, ℕ, ◌+◌, ◌-◌, ◌^◌, ◌<◌, ◌≤◌, ◌⊎◌, [], Err, is_some, length, IfOk, IfErr, IfSome, OnErr};
 ghost use Rattle.sqlx_text.specs.declared.error.Error.{Error};
-ghost use Rattle.sqlx_log.specs.FairLog.{IsSafe};
+ghost use Rattle.sqlx_pool_marks.specs.FairLog.{IsSafe};
 ghost use Rattle.sqlx_pool_lists.specs.Core.{size};
 ghost use Rattle.sqlx_family.specs.Pools.{entry_of, pool_in, counts_as_closed, new_pool};
 ghost use Rattle.sqlx_family.specs.Permits.{owned_by};
@@ -10,7 +10,7 @@ ghost use Rattle.sqlx_pool_parts.specs.Booked.{CountsIf};
 ghost use Rattle.sqlx_pool_parts.specs.MarkLog.{IsUncut};
 ghost use Rattle.sqlx_pool_parts.specs.Opened.{IsOpenable};
 ghost use Rattle.sqlx_family_steps.specs.FamilySteps.{try_lent_in};
-ghost use Rattle.sqlx_pool_base.specs.Refusals.{IsAskRefusal, IsTryRefusal};
+ghost use Rattle.sqlx_pool.specs.Refusals.{IsAskRefusal, IsTryRefusal};
 ghost use Rattle.sqlx_family_pool.specs.FamilyState.{log_of};
 ghost use Rattle.sqlx_family_pool.specs.Handles.{IsChildOf};
 ghost use Rattle.sqlx_family_pool.specs.Seen.{SawFamily, SawIn};
@@ -20,7 +20,7 @@ mod maintenance;
 mod polls;
 
 use crate::{FamilyAcquiringOf, FamilyConnectionOf, LockedFamily};
-use sqlx_pool_base::{Loans, MarkLog, Tally};
+use sqlx_pool::{Loans, MarkLog, Tally};
 use sqlx_pool_core::PoolOptions;
 use sqlx_pool_parts::sleepers::Sleepers;
 use sqlx_text::{Depth, Error, Moment, OutOfMemory};
@@ -70,7 +70,7 @@ impl<C: Depth + Drop, O: Drop, H: Ledger, L: Loans> FamilyPoolOf<C, O, H, L> {
     ) -> Result<(Self, Tally<L>), OutOfMemory>
         requires options { IsOpenable options L.max }
         requires held { (held.name ≡ H.name) × (held.parts ≡ H.parts) × (held.parts ≡ 2 ^ 32) }
-        requires loans { (loans.name ≡ L.name) × (loans.parts ≡ L.parts) }
+        requires loans { (loans.name ≡ L.name) × (loans.parts ≡ L.parts) × (1 ≤ loans.parts) }
         ensures name { IfOk result (λ made. made.0.name ≡ 0) }
         ensures options { IfOk result (λ made. made.0.options ≡ options) }
         ensures tally { IfOk result (λ made. made.1 ≡ record { parts = L.parts; loans = 0 }) }
@@ -191,7 +191,6 @@ impl<C: Depth + Drop, O: Drop, H: Ledger, L: Loans> FamilyPoolOf<C, O, H, L> {
         client: u32,
         tally: &mut Tally<L>,
     ) -> Result<Option<FamilyConnectionOf<C, O, H, L>>, Error>
-        requires { 0 < tally.old.parts }
         ensures saw { let name = self.now.name in IfOk result (λ lent. SawIn C.levels L.max name (λ state. is_some lent ≡ is_some (try_lent_in name state.family))) }
         ensures tally { IfOk result (λ lent. CountsIf (is_some lent) tally.old tally.new) }
         ensures flat { IfOk result (λ lent. IfSome lent (λ conn. C.levels conn.raw ≡ 0)) }

@@ -2,7 +2,7 @@
 
 ghost use Rattle.std.specs.Prelude.{◌≡◌, ℕ, ◌-◌, ◌^◌, ◌<◌, ◌≤◌, ◌⊎◌, [], Err, true, is_some, IfSome, IfOk, IfErr, OnErr, length};
 ghost use Rattle.sqlx_text.specs.declared.error.Error.{Error};
-ghost use Rattle.sqlx_log.specs.FairLog.{IsSafe};
+ghost use Rattle.sqlx_pool_marks.specs.FairLog.{IsSafe};
 ghost use Rattle.sqlx_pool_lists.specs.Core.{size};
 ghost use Rattle.sqlx_pool_lists.specs.PollSteps.{phase_for, may_cancel};
 ghost use Rattle.sqlx_family.specs.Pools.{entry_of, pool_in, counts_as_closed, new_pool};
@@ -11,14 +11,14 @@ ghost use Rattle.sqlx_family_steps.specs.FamilySteps.{try_lent_in};
 ghost use Rattle.sqlx_pool_parts.specs.Answers.{lent_alone};
 ghost use Rattle.sqlx_pool_parts.specs.Booked.{CountsIf};
 ghost use Rattle.sqlx_pool_parts.specs.MarkLog.{IsUncut};
-ghost use Rattle.sqlx_pool_base.specs.Refusals.{IsAskRefusal, IsTryRefusal};
+ghost use Rattle.sqlx_pool.specs.Refusals.{IsAskRefusal, IsTryRefusal};
 ghost use Rattle.sqlx_family_pool.specs.FamilyState.{log_of};
 ghost use Rattle.sqlx_family_pool.specs.Handles.{IsChildOf};
 ghost use Rattle.sqlx_family_pool.specs.Seen.{SawFamily, SawIn};
 ghost use Rattle.sqlx_family_pool.specs.Upkeep.{AreLoansUsed, AreTicketsUsed, has_room_in, IsClosedIn, IsFilledIn, IsNextTicket, to_close_in, to_reap_in};
 
 use crate::LockedFamily;
-use sqlx_pool_base::{Held, Loans, MarkLog, Tally};
+use sqlx_pool::{Held, Loans, MarkLog, Tally};
 use sqlx_pool_core::{Idle, Lent, PoolOptions};
 use sqlx_text::{Depth, Error, Moment, OutOfMemory};
 use std::alloc::Global;
@@ -84,7 +84,6 @@ impl<C: Depth, O, H: Ledger, L: Loans> LockedFamily<C, O, H, L> {
         client: u32,
         tally: &mut Tally<L>,
     ) -> Result<Option<(Lent<C>, Held<H>)>, Error>
-        requires { 0 < tally.old.parts }
         ensures saw { IfOk result (λ lent. SawIn C.levels L.max pool (λ state. is_some lent ≡ is_some (try_lent_in pool state.family))) }
         ensures tally { IfOk result (λ lent. CountsIf (is_some lent) tally.old tally.new) }
         ensures flat { IfOk result (λ lent. IfSome (lent_alone lent) (λ l. C.levels l.raw ≡ 0)) }

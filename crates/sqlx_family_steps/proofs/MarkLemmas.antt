@@ -1,7 +1,7 @@
 -- How much room marks take that are written or not, and a mark by the two cases.
 use Rattle.std.proofs.Common.{◌≡◌, ℕ, ◌*◌, length, Bool, true, false, cond, List, [], ◌∷◌, refl, sym}
-use Rattle.sqlx_log.specs.declared.mark.Mark.{Mark}
-use Rattle.sqlx_log.specs.declared.mark.Mark.TheVariants.{Opened, Kept}
+use Rattle.sqlx_pool_marks.specs.declared.mark.Mark.{Mark}
+use Rattle.sqlx_pool_marks.specs.declared.mark.Mark.TheVariants.{Opened, Kept}
 use Rattle.sqlx_pool_lists.specs.Balance.{one_if}
 
 -- a mark, or none, by the two cases

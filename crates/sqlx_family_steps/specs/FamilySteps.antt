@@ -7,7 +7,7 @@ use Rattle.sqlx_pool_lists.specs.Core.{Core, ticket_of, loan_of}
 use Rattle.sqlx_pool_lists.specs.CoreTurn.{turn_of}
 use Rattle.sqlx_pool_lists.specs.Edits.{at_moment, asked}
 use Rattle.sqlx_pool_lists.specs.PollSteps.{start_answer, started, try_lent, after_try}
-use Rattle.sqlx_member.specs.ReturnSteps.{core_after_give}
+use Rattle.sqlx_pool_core.specs.ReturnSteps.{core_after_give}
 use Rattle.sqlx_family.specs.Pools.{Pools, pool_in, with_pool}
 use Rattle.sqlx_family.specs.RootLine.{is_entitled, granting, passes_in}
 use Rattle.sqlx_family.specs.Permits.{stepped}

@@ -1,12 +1,13 @@
 //! What a family is asked by a name that may be nobody's.
 
-ghost use Rattle.std.specs.Prelude.{◌≡◌, ◌<◌, ◌≤◌, false, [], IfOk, get_or, length, map, nat_lt, vec_items};
-ghost use Rattle.sqlx_log.specs.declared.mark.Mark.{Mark};
+ghost use Rattle.std.specs.Prelude.{◌≡◌, ◌<◌, ◌≤◌, false, [], IfOk, get_or, length, map, nat_lt};
+ghost use Rattle.sqlx_pool_marks.specs.declared.mark.Mark.{Mark};
 ghost use Rattle.sqlx_family.specs.Pools.{pool_in, counts_as_closed};
+ghost use Rattle.sqlx_pool_log.specs.PackedLog.{marks_of};
 ghost use Rattle.sqlx_pool_parts.specs.MarkLog.{IsUncut};
 
 use sqlx_family::Family;
-use sqlx_log::Mark;
+use sqlx_pool_log::PackedLog;
 use sqlx_pool_parts::MarkLog;
 use sqlx_text::OutOfMemory;
 use std::alloc::Global;
@@ -30,21 +31,10 @@ pub fn is_closed<C>(family: &Family<C>, pool: u32) -> bool
     }
 }
 
-// A copy of these marks.
-fn copied(alloc: Global, marks: &[Mark]) -> Result<Vec<Mark>, OutOfMemory>
-    ensures { IfOk result (λ copy. copy.items ≡ marks.now) }
-{
-    let mut copy = Vec::new(alloc);
-    match copy.extend_from_slice(marks) {
-        Ok(()) => Ok(copy),
-        Err(_) => Err(OutOfMemory),
-    }
-}
-
 /// The maximum of a pool, and a copy of its log.
 pub fn read_log<C>(
     family: &Family<C>,
-    logs: &[Vec<Mark>],
+    logs: &[PackedLog],
     pool: u32,
     alloc: Global,
 ) -> Result<(u32, MarkLog), OutOfMemory>
@@ -52,9 +42,11 @@ pub fn read_log<C>(
     requires each { length family.now.pools ≤ length logs.now }
     ensures most { IfOk result (λ read. read.0 ≡ (pool_in pool family.now).options.max_connections) }
     ensures uncut { IfOk result (λ read. IsUncut read.1) }
-    ensures marks { IfOk result (λ read. read.1.marks.items ≡ get_or (map vec_items logs.now) pool []) }
+    ensures marks { IfOk result (λ read. read.1.marks.items ≡ get_or (map marks_of logs.now) pool []) }
 {
     let max = family.options(pool).get_max_connections();
-    let marks = copied(alloc, logs[pool as usize].as_slice())?;
+    let Ok(marks) = logs[pool as usize].marks(alloc) else {
+        return Err(OutOfMemory);
+    };
     Ok((max, MarkLog::new(Vec::new(alloc), 0, marks)))
 }

@@ -1,7 +1,4 @@
--- A whole script, line by line.
-pub mod Parts
+-- A whole script.
 pub mod RunsAdded
-pub mod Lines
-pub mod Causes
-pub mod Scripts
-pub mod Complete
+pub mod Standing
+pub mod Played

@@ -1,6 +1,7 @@
-pub mod Faults
-pub mod Status
-pub mod Memory
-pub mod Standard
+pub mod ScriptRuns
+pub mod outside
+pub mod stage
+pub mod events
+pub mod StandsAt
 pub mod Causes
 pub mod Plays

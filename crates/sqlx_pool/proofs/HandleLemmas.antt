@@ -3,7 +3,7 @@ use Rattle.std.proofs.Common.{◌≡◌, ◌⊎◌, ℕ, List, [], ◌∷◌, Op
 use Rattle.sqlx_text.specs.declared.error.Error.{Error}
 use Rattle.sqlx_text.specs.declared.error.Error.TheVariants as error
 use Rattle.sqlx_text.specs.declared.fault.Fault.{Fault}
-use Rattle.sqlx_member.specs.Outside.{HasRisen}
+use Rattle.sqlx_pool_core.specs.Outside.{HasRisen}
 use Rattle.sqlx_traits.specs.Faults.{FaultCause}
 use Rattle.sqlx_traits.specs.StepList.{StepCause, StepCauses}
 use Rattle.sqlx_traits.specs.Handed.{Handed}
@@ -22,7 +22,7 @@ cause_counted a b before now (error.TypeNotFound _) rose cause = rose
 cause_counted a b before now (error.ColumnIndexOutOfBounds _ _) rose cause = rose
 cause_counted a b before now (error.ColumnNotFound _) rose cause = rose
 cause_counted a b before now (error.ColumnDecode _ _) rose cause = rose
-cause_counted a b before now (error.Encode _) rose cause = rose
+cause_counted a b before now (error.Encode _) rose cause = cause
 cause_counted a b before now (error.Decode _) rose cause = rose
 cause_counted a b before now (error.AnyDriverError _) rose cause = rose
 cause_counted a b before now error.PoolTimedOut rose cause = rose

@@ -1,1 +1,11 @@
+pub mod StepLemmas
+pub mod CutLemmas
+pub mod LeavesLemmas
+pub mod RefusalLemmas
+pub mod SeenLemmas
+pub mod KeptLemmas
+pub mod UpkeepLemmas
+pub mod AskLemmas
+pub mod EndLemmas
+pub mod TallyLemmas
 pub mod HandleLemmas

@@ -4,17 +4,18 @@ use Rattle.sqlx_text.specs.declared.error.Error.{Error}
 use Rattle.sqlx_text.specs.declared.error.Error.TheVariants as error
 use Rattle.sqlx_text.specs.declared.io_fault.IoFault.TheVariants.{Other}
 use Rattle.sqlx_pool_parts.specs.Booked.{Tallied, CountsIf}
-use Rattle.sqlx_pool_base.specs.Refusals.{IsPollRefusal}
+use Rattle.sqlx_pool.specs.Refusals.{IsPollRefusal}
 
--- one of the two errors of a begin, which an executor may not answer
-abbrev pub is_of_begin : Error → Bool
-is_of_begin error.InvalidSavePointStatement = true
-is_of_begin error.BeginFailed = true
-is_of_begin other = false
+-- one of the errors that no driver's executor may answer: the two of a begin, and that of arguments which can't be had
+abbrev pub is_of_no_driver : Error → Bool
+is_of_no_driver error.InvalidSavePointStatement = true
+is_of_no_driver error.BeginFailed = true
+is_of_no_driver (error.Encode fault) = true
+is_of_no_driver other = false
 
--- an error of the lending, as an executor tells it: for one of a begin, which a connect may answer, the database wasn't reached
+-- an error of the lending, as an executor tells it: for one of these, which a connect may answer, the database wasn't reached
 abbrev pub told : Error → Error
-told e = if is_of_begin e then error.Io Other else e
+told e = if is_of_no_driver e then error.Io Other else e
 
 -- no connection was lent, for a cause of the pool or of a connect: no loan was counted, and the answer is one of its error
 abbrev pub WasRefused : ℕ → ℕ → Tallied → Tallied → (Error → Type 0) → Type 0

@@ -4,7 +4,7 @@ ghost use Rattle.std.specs.Prelude.{◌≡◌, ⊤, None, Ok, Result};
 ghost use Rattle.sqlx_text.specs.declared.error.Error.{Error};
 ghost use Rattle.sqlx_pool.specs.Acquired.{Holds, BeginsOn};
 
-use sqlx_pool_base::{Loans, PoolConnectionOf};
+use crate::{Loans, PoolConnectionOf};
 use sqlx_text::Error;
 use sqlx_traits::Database;
 use sqlx_tx::{Borrowed, Hold, Transaction};

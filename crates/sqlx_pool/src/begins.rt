@@ -3,11 +3,9 @@
 ghost use Rattle.std.specs.Prelude.{◌≡◌, ◌<◌, ◌≤◌, ℕ, None, Some};
 ghost use Rattle.sqlx_pool.specs.Begun.{Begins, BeginsLent, BegunOnLent, has_lent, was_lent};
 ghost use Rattle.sqlx_pool_parts.specs.Booked.{CountsIf};
-ghost use Rattle.sqlx_pool_base.specs.Refusals.{AreLoansUsed, IsPollRefusal, IsTryRefusal};
-ghost use Rattle.sqlx_pool_base.specs.Seen.{Saw};
+ghost use Rattle.sqlx_pool.specs.Refusals.{IsPollRefusal, MayRefuseTry};
 
-use crate::BeginRefused;
-use sqlx_pool_base::{Clock, Loans, Pool, PoolConnection, PoolOf, Tally};
+use crate::{BeginRefused, Clock, Loans, Pool, PoolConnection, PoolOf, Tally};
 use sqlx_pool_core::Outside;
 use sqlx_text::{Error, Moment, SqlStr};
 use sqlx_traits::Database;
@@ -49,8 +47,7 @@ fn try_begin_by<DB: Database, H: Ledger, L: Loans, R: Wait>(
 ) -> Result<Option<Transaction<DB, PoolConnection<DB, H, L>>>, BeginRefused<DB, H, L>>
 where
     DB::Connection: Drop,
-    requires { 0 < tally.old.parts }
-    ensures begins { Begins DB.TransactionManager.does DB.Connection.levels DB.Connection.faults (λ lent. lent.raw) (IsTryRefusal (Saw DB.Connection.levels L.max L.cuts AreLoansUsed)) statement result }
+    ensures begins { Begins DB.TransactionManager.does DB.Connection.levels DB.Connection.faults (λ lent. lent.raw) MayRefuseTry statement result }
     ensures tally { CountsIf (has_lent result) tally.old tally.new }
 {
     match pool.try_acquire(rt, alloc, now, client, tally) {
@@ -89,7 +86,6 @@ fn begin_by<
 ) -> Result<Transaction<DB, PoolConnection<DB, H, L>>, BeginRefused<DB, H, L>>
 where
     DB::Connection: Drop,
-    requires { 0 < tally.old.parts }
     ensures begins { BeginsLent DB.TransactionManager.does DB.Connection.levels DB.Connection.faults (λ lent. lent.raw) (IsPollRefusal (X.faults out.old) (X.faults out.new)) statement result }
     ensures tally { CountsIf (was_lent result) tally.old tally.new }
     ensures counts { (X.faults out.old ≤ X.faults out.new) × (X.refusals out.old ≤ X.refusals out.new) }
@@ -122,7 +118,6 @@ pub trait PoolBegin<DB: Database, H: Ledger, L: Loans> {
         out: &mut X,
         tally: &mut Tally<L>,
     ) -> Result<Transaction<DB, PoolConnection<DB, H, L>>, BeginRefused<DB, H, L>>
-        requires { 0 < tally.old.parts }
         ensures begins { BeginsLent DB.TransactionManager.does DB.Connection.levels DB.Connection.faults (λ lent. lent.raw) (IsPollRefusal (X.faults out.old) (X.faults out.new)) None result }
         ensures tally { CountsIf (was_lent result) tally.old tally.new }
         ensures counts { (X.faults out.old ≤ X.faults out.new) × (X.refusals out.old ≤ X.refusals out.new) };
@@ -138,7 +133,6 @@ pub trait PoolBegin<DB: Database, H: Ledger, L: Loans> {
         tally: &mut Tally<L>,
         statement: SqlStr,
     ) -> Result<Transaction<DB, PoolConnection<DB, H, L>>, BeginRefused<DB, H, L>>
-        requires { 0 < tally.old.parts }
         ensures begins { BeginsLent DB.TransactionManager.does DB.Connection.levels DB.Connection.faults (λ lent. lent.raw) (IsPollRefusal (X.faults out.old) (X.faults out.new)) (Some statement) result }
         ensures tally { CountsIf (was_lent result) tally.old tally.new }
         ensures counts { (X.faults out.old ≤ X.faults out.new) × (X.refusals out.old ≤ X.refusals out.new) };
@@ -153,8 +147,7 @@ pub trait PoolBegin<DB: Database, H: Ledger, L: Loans> {
         client: u32,
         tally: &mut Tally<L>,
     ) -> Result<Option<Transaction<DB, PoolConnection<DB, H, L>>>, BeginRefused<DB, H, L>>
-        requires { 0 < tally.old.parts }
-        ensures begins { Begins DB.TransactionManager.does DB.Connection.levels DB.Connection.faults (λ lent. lent.raw) (IsTryRefusal (Saw DB.Connection.levels L.max L.cuts AreLoansUsed)) None result }
+        ensures begins { Begins DB.TransactionManager.does DB.Connection.levels DB.Connection.faults (λ lent. lent.raw) MayRefuseTry None result }
         ensures tally { CountsIf (has_lent result) tally.old tally.new };
 
     /// As `try_begin`, by a statement of your own.
@@ -167,8 +160,7 @@ pub trait PoolBegin<DB: Database, H: Ledger, L: Loans> {
         tally: &mut Tally<L>,
         statement: SqlStr,
     ) -> Result<Option<Transaction<DB, PoolConnection<DB, H, L>>>, BeginRefused<DB, H, L>>
-        requires { 0 < tally.old.parts }
-        ensures begins { Begins DB.TransactionManager.does DB.Connection.levels DB.Connection.faults (λ lent. lent.raw) (IsTryRefusal (Saw DB.Connection.levels L.max L.cuts AreLoansUsed)) (Some statement) result }
+        ensures begins { Begins DB.TransactionManager.does DB.Connection.levels DB.Connection.faults (λ lent. lent.raw) MayRefuseTry (Some statement) result }
         ensures tally { CountsIf (has_lent result) tally.old tally.new };
 }
 

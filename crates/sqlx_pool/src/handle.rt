@@ -1,15 +1,13 @@
 //! A pool as an executor: each call waits for a connection, works on it and returns it.
 
 ghost use Rattle.std.specs.Prelude.{◌≡◌, ℕ, ◌<◌, ◌≤◌, true, IfOk, IfErr, OnOk, OnErr};
-ghost use Rattle.sqlx_member.specs.Outside.{HasRisen};
+ghost use Rattle.sqlx_pool_core.specs.Outside.{HasRisen};
 ghost use Rattle.sqlx_pool_parts.specs.Booked.{CountsIf};
-ghost use Rattle.sqlx_pool_base.specs.Refusals.{IsPollRefusal};
+ghost use Rattle.sqlx_pool.specs.Refusals.{IsPollRefusal};
 
 mod executor;
 
-use crate::Acquire;
-use crate::counting::Counting;
-use sqlx_pool_base::{Clock, Loans, PoolConnection, PoolConnectionOf, PoolOf, Tally};
+use crate::{Acquire, Clock, Loans, PoolConnection, PoolConnectionOf, PoolOf, Tally};
 use sqlx_pool_core::Outside;
 use sqlx_text::{Depth, Error};
 use sqlx_traits::{Database, Faults};
@@ -26,7 +24,7 @@ pub struct PoolHandle<'p, P, L: Loans, R, K, X> {
     clock: K,
     client: u32,
     out: X,
-    tally: Counting<L>,
+    tally: Tally<L>,
     // How many calls were made of it.
     calls: u64,
 }
@@ -42,7 +40,6 @@ pub trait PoolExecutor<L: Loans>: Sized {
         out: X,
         tally: Tally<L>,
     ) -> PoolHandle<'p, Self, L, R, K, X>
-        requires { 0 < tally.parts }
         ensures clock { result.clock ≡ clock }
         ensures out { result.out ≡ out }
         ensures tally { result.tally ≡ tally }
@@ -53,7 +50,7 @@ pub trait PoolExecutor<L: Loans>: Sized {
             clock,
             client,
             out,
-            tally: Counting::new(tally),
+            tally,
             calls: 0,
         }
     }
@@ -91,7 +88,7 @@ impl<
             calls: _,
         } = self;
         drop(rt);
-        (clock, out, tally.into_tally())
+        (clock, out, tally)
     }
 
     // Waits for a connection. Each call is counted, since it may be refused.
@@ -104,13 +101,13 @@ impl<
         ensures rises { self.old.calls ≤ self.new.calls }
     {
         self.calls = self.calls.saturating_add(1);
-        self.tally.acquire::<C, O, H, R, K, X>(
-            self.pool,
+        self.pool.acquire_wait::<R, K, X>(
             &self.rt,
             alloc,
             &mut self.clock,
             self.client,
             &mut self.out,
+            &mut self.tally,
         )
     }
 

@@ -1,23 +1,105 @@
-//! A connection pool that threads share, as a database's users have it: the pool of `sqlx_pool_base`, as an executor and
-//! as what a transaction begins on.
+//! A connection pool that threads share: the pool behind a lock, its tickets and the connections that it lends, with the
+//! log of all that its steps did; and the pool as an executor and as what a transaction begins on.
+//!
+//! The rules are those of `sqlx_pool_core`. Here they are made steps under one lock, whose value always stands for
+//! its log; the connects, pings and hooks run between these steps, while the lock is free.
 #![tactic(auto)]
 
 mod acquire;
+mod acquiring;
 mod begins;
-mod counting;
+mod blanks;
+mod client;
+mod close_event;
+mod connection;
 mod handle;
+mod hold;
+mod kept;
+mod locked;
 mod maybe;
+mod pool;
+mod pool_connect;
+pub mod stage;
+mod stood;
 
 pub use acquire::Acquire;
+pub use acquiring::{AcquiringOf, Polling, PoolPollOf};
 pub use begins::{BeginRefusedOf, PoolBegin};
+pub use blanks::BlanksOf;
+pub use client::{PoolClientOf, PoolClientsOf};
+pub use close_event::{CloseEventOf, Step};
+pub use connection::{PoolConnectionOf, Returned};
 pub use handle::{PoolExecutor, PoolHandle};
+pub use locked::Locked;
 pub use maybe::{MaybePoolConnection, MaybePoolConnectionOf};
-pub use sqlx_pool_base::{
-    Acquiring, AcquiringOf, Clock, CloseEvent, CloseEventOf, CloseState, Connector, FixedClock,
-    Held, Hooks, Loans, Locked, LogStart, Mark, MarkLog, NoHooks, Openings, OptionsConnector,
-    Parts, Polling, Pool, PoolConnect, PoolConnection, PoolConnectionMetadata, PoolConnectionOf,
-    PoolOf, PoolOptions, PoolPoll, PoolPollOf, Returned, Step, Tally, Why, stage,
+pub use pool::PoolOf;
+pub use pool_connect::PoolConnect;
+pub use sqlx_pool_core::{CloseState, Mark, Openings, PoolConnectionMetadata, PoolOptions};
+pub use sqlx_pool_parts::{
+    Clock, FixedClock, Held, Hooks, Loans, LogStart, MarkLog, NoHooks, OptionsConnector, Parts,
+    Tally,
 };
+pub use sqlx_traits::Connector;
+use sqlx_traits::Database;
+pub use stage::Why;
+pub use stood::{FrontOf, Stood};
+
+/// The pool of a database.
+pub type Pool<DB, H, L> = PoolOf<<DB as Database>::Connection, <DB as Database>::Options, H, L>;
+
+/// What the pool of a database is made with.
+pub type Blanks<DB> = BlanksOf<<DB as Database>::Connection, <DB as Database>::Options>;
+
+/// A ticket of a database's pool.
+pub type Acquiring<DB, H, L> = AcquiringOf<
+    <DB as Database>::Connection,
+    <DB as Database>::Options,
+    H,
+    L,
+>;
+
+/// A connection that the pool of a database has lent.
+pub type PoolConnection<DB, H, L> = PoolConnectionOf<
+    <DB as Database>::Connection,
+    <DB as Database>::Options,
+    H,
+    L,
+>;
+
+/// The pool of a database, and the clients that may yet be made of it.
+pub type PoolClients<DB, H, L> = PoolClientsOf<
+    <DB as Database>::Connection,
+    <DB as Database>::Options,
+    H,
+    L,
+>;
+
+/// A client of a database's pool.
+pub type PoolClient<DB, H, L> = PoolClientOf<
+    <DB as Database>::Connection,
+    <DB as Database>::Options,
+    H,
+    L,
+>;
+
+/// What a poll of a database's pool came to.
+pub type PoolPoll<DB, H, L> = PoolPollOf<
+    <DB as Database>::Connection,
+    <DB as Database>::Options,
+    H,
+    L,
+>;
+
+/// What a caller has seen of the pool of a database.
+pub type PoolFront<DB, L> = FrontOf<<DB as Database>::Connection, <DB as Database>::Options, L>;
+
+/// What tells that the pool of a database is closed.
+pub type CloseEvent<DB, H, L> = CloseEventOf<
+    <DB as Database>::Connection,
+    <DB as Database>::Options,
+    H,
+    L,
+>;
 
 /// Why no transaction was begun on a connection of a database's pool.
 pub type BeginRefused<DB, H, L> = BeginRefusedOf<PoolConnection<DB, H, L>>;

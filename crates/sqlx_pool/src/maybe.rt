@@ -2,7 +2,7 @@
 
 ghost use Rattle.std.specs.Prelude.{◌≡◌};
 
-use sqlx_pool_base::PoolConnection;
+use crate::PoolConnection;
 use sqlx_traits::Database;
 use sqlx_tx::Hold;
 

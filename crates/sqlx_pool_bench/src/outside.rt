@@ -1,8 +1,8 @@
 //! A connection without anything behind it, and the outside that opens it: what is measured is the pool alone.
 
-ghost use Rattle.sqlx_member.specs.Calls as call;
+ghost use Rattle.sqlx_pool_core.specs.Calls as call;
 
-use sqlx_pool_base::PoolConnectionMetadata;
+use sqlx_pool::PoolConnectionMetadata;
 use sqlx_pool_core::Outside;
 use sqlx_text::{Depth, Error};
 use std::alloc::Global;

@@ -6,13 +6,13 @@ use crate::nanos;
 use crate::outside::{Conn, Opens};
 use crate::words::Words;
 use crate::worker::{Job, Part, work_off};
-use sqlx_pool_base::{Loans, PoolConnect, PoolOf, PoolOptions, Tally};
+use sqlx_pool::{BlanksOf, Loans, PoolConnect, PoolOf, PoolOptions, Tally};
 use sqlx_text::Moment;
 use std::alloc::{AllocError, Global};
 use std::marker::Brand;
 use std::rt::Clock;
 use std::sync::Wait;
-use std::sync::ledger::{Blank, Ledger};
+use std::sync::ledger::Ledger;
 use std::thread::{self, Threads};
 
 // How many marks the log of the pool has behind its start, when it is cut.
@@ -103,15 +103,13 @@ fn counted<H: Ledger + Send + Sync, L: Loans + Send + Sync, R: Wait + Threads + 
     alloc: Global,
     words: Words,
     timed: bool,
-    held: Blank,
-    made: Blank,
+    blanks: BlanksOf<Conn, ()>,
 ) -> Result<Round, AllocError>
     requires workers { words.workers < 2 ^ 16 }
     requires maximum { 1 ≤ words.maximum }
     requires max { words.maximum ≡ L.max }
     requires cuts { L.cuts ≡ true }
-    requires held { (held.name ≡ H.name) × (held.parts ≡ H.parts) × (held.parts ≡ 2 ^ 32) }
-    requires made { (made.name ≡ L.name) × (made.parts ≡ L.parts) × (made.parts ≡ 2 ^ 32) }
+    requires blanks { (blanks.held.name ≡ H.name) × (H.parts ≡ 2 ^ 32) × (blanks.loans.name ≡ L.name) × (L.parts ≡ 2 ^ 32) × (blanks.opened.seen.book ≡ L.book) }
 {
     let options = PoolOptions::new()
         .max_connections(words.maximum)
@@ -124,8 +122,7 @@ fn counted<H: Ledger + Send + Sync, L: Loans + Send + Sync, R: Wait + Threads + 
         (),
         Moment(0),
         &mut out,
-        held,
-        made,
+        blanks,
     );
     match opened {
         Ok((pool, tally)) => {
@@ -150,7 +147,5 @@ pub fn made<R: Wait + Threads + Clock + Sync>(
     requires workers { words.workers < 2 ^ 16 }
     requires maximum { 1 ≤ words.maximum }
 {
-    let held = Blank::new(1 << 32);
-    let made = Blank::new(1 << 32);
-    counted::<Brand, Brand, R>(rt, alloc, words, timed, held, made)
+    counted::<Brand, Brand, R>(rt, alloc, words, timed, BlanksOf::new())
 }

@@ -4,7 +4,7 @@ ghost use Rattle.std.specs.Prelude.{◌≡◌, ◌+◌, ◌^◌, ◌<◌, ◌≤
 
 use crate::nanos;
 use crate::outside::{Conn, Opens};
-use sqlx_pool_base::{FixedClock, Loans, PoolOf, Tally};
+use sqlx_pool::{FixedClock, Loans, PoolOf, Tally};
 use sqlx_text::Moment;
 use std::alloc::Global;
 use std::rt::Clock;
@@ -37,7 +37,6 @@ fn one_loan<H: Ledger, L: Loans, R: Wait>(
     client: u32,
     tally: &mut Tally<L>,
 )
-    requires { 0 < tally.old.parts }
     ensures parts { tally.new.parts ≡ tally.old.parts }
     ensures loans { tally.new.loans ≤ tally.old.loans + 1 }
 {

@@ -2,27 +2,27 @@
 use Rattle.std.proofs.Common.{◌≡◌, ℕ, ◌+◌, ◌^◌, ◌<◌, ◌≤◌, ◌⊎◌, max, inl, inr, Bool, true, false, not, nat_lt, List, [], ◌∷◌, ◌++◌, Option, Result, Ok, Err, IfOk, refl, sym, ap, ◌∙◌, subst, arith}
 use Rattle.std.specs.Prelude.{⊤}
 use Rattle.std.proofs.lemmas.Bool.{ltb-true, and_parts}
-use Rattle.sqlx_log.specs.declared.mark.Mark.{Mark}
-use Rattle.sqlx_log.specs.declared.turn.Turn.{Turn}
-use Rattle.sqlx_log.specs.Standing.{next_after, next_number}
-use Rattle.sqlx_log.specs.Marks.{asked_number, opened_number}
-use Rattle.sqlx_log.specs.EventTable.{may_pass}
+use Rattle.sqlx_pool_marks.specs.declared.mark.Mark.{Mark}
+use Rattle.sqlx_pool_marks.specs.declared.turn.Turn.{Turn}
+use Rattle.sqlx_pool_marks.specs.Standing.{next_after, next_number}
+use Rattle.sqlx_pool_marks.specs.Marks.{asked_number, opened_number}
+use Rattle.sqlx_pool_marks.specs.EventTable.{may_pass}
 use Rattle.sqlx_pool_lists.specs.declared.options.PoolOptions.{PoolOptions}
 use Rattle.sqlx_pool_lists.specs.declared.steps.Start.{Start}
 use Rattle.sqlx_pool_lists.specs.Core.{Core, waiting, free}
 use Rattle.sqlx_pool_lists.specs.Sound.{IsSound}
 use Rattle.sqlx_pool_core.specs.Alone.{IsAlone}
-use Rattle.sqlx_member.specs.Numbers.{Draws, Stays, under_way}
+use Rattle.sqlx_pool_core.specs.Numbers.{Draws, Stays, under_way}
 use Rattle.sqlx_pool_lists.specs.StandsFor.{StandsIn, StandsFor}
 use Rattle.sqlx_pool_lists.specs.Makes.{MakesWhere, MakesIn, Makes}
-use Rattle.sqlx_member.specs.Logs.{Logs}
+use Rattle.sqlx_pool_core.specs.Logs.{Logs}
 use Rattle.sqlx_pool_lists.specs.Balance.{Balance, ask_room}
 use Rattle.sqlx_pool_lists.specs.CoreTurn.{before, core_turn, InOwnLine, PastOwnLine}
 use Rattle.sqlx_pool_lists.specs.PollTable.{phase_turn}
 use Rattle.sqlx_pool_lists.specs.PollSteps.{phase_for, start_answer}
 use Rattle.sqlx_pool_lists.specs.MaintenanceSteps.{closed_from}
-use Rattle.sqlx_member.proofs.Stands.{stands-in}
-use Rattle.sqlx_member.proofs.TurnAtMarks.{core_turn-stands}
+use Rattle.sqlx_pool_core.proofs.Stands.{stands-in}
+use Rattle.sqlx_pool_core.proofs.TurnAtMarks.{core_turn-stands}
 
 -- ---- it stays alone
 

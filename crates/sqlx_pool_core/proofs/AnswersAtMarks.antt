@@ -1,12 +1,12 @@
 -- What each call answers, by the marks that the core stands for.
 use Rattle.std.proofs.Common.{◌≡◌, ℕ, ◌+◌, ◌≤◌, ◌==◌, ◌&&◌, ◌||◌, not, Bool, true, false, cond, List, [], ◌∷◌, map, length, find, count_by, is_some, option_map, Option, Some, None, refl, sym, ap, ap₂, ◌∙◌, subst, arith}
-use Rattle.sqlx_log.specs.declared.mark.Mark.{Mark}
-use Rattle.sqlx_log.specs.Marks.{Loan, is_loan_of, owner_of, loans_of, idle_of, tickets_of}
-use Rattle.sqlx_log.specs.Born.{IsBorn}
-use Rattle.sqlx_log.specs.Counts.{asked_in, is_asked_by}
-use Rattle.sqlx_log.specs.EventTable.{may_pass, closes, closes_at, is_old_since, size_at}
-use Rattle.sqlx_log.specs.Answers.{owns, is_kept_at, first_conn, lent_past_at, waits_if}
-use Rattle.sqlx_log.proofs.ListFacts.{count_by-cons, find-map, found_All, length_map}
+use Rattle.sqlx_pool_marks.specs.declared.mark.Mark.{Mark}
+use Rattle.sqlx_pool_marks.specs.Marks.{Loan, is_loan_of, owner_of, loans_of, idle_of, tickets_of}
+use Rattle.sqlx_pool_marks.specs.Born.{IsBorn}
+use Rattle.sqlx_pool_marks.specs.Counts.{asked_in, is_asked_by}
+use Rattle.sqlx_pool_marks.specs.EventTable.{may_pass, closes, closes_at, is_old_since, size_at}
+use Rattle.sqlx_pool_marks.specs.Answers.{owns, is_kept_at, first_conn, lent_past_at, waits_if}
+use Rattle.sqlx_pool_marks.proofs.ListFacts.{count_by-cons, find-map, found_All, length_map}
 use Rattle.sqlx_pool_lists.specs.Limits.{limits_of}
 use Rattle.sqlx_pool_lists.specs.declared.ticket.Ticket.{Ticket}
 use Rattle.sqlx_pool_lists.specs.declared.ticket.OwnedConn.{OwnedConn}
@@ -20,12 +20,12 @@ use Rattle.sqlx_pool_lists.specs.Core.{Core, is_out, is_held_by, asking, loan, r
 use Rattle.sqlx_pool_lists.specs.Sound.{IsSound, holds}
 use Rattle.sqlx_pool_lists.specs.StandsFor.{StandsFor}
 use Rattle.sqlx_pool_lists.specs.PollSteps.{phase_for, may_cancel, is_in_line, try_lent}
-use Rattle.sqlx_member.specs.Answers.{is_busy, lent_conn, is_kept, is_held}
-use Rattle.sqlx_member.specs.ReturnSteps.{give_answer}
+use Rattle.sqlx_pool_core.specs.Answers.{is_busy, lent_conn, is_kept, is_held}
+use Rattle.sqlx_pool_core.specs.ReturnSteps.{give_answer}
 use Rattle.sqlx_pool_core.proofs.MaintenanceAtMarks.{passes-at}
-use Rattle.sqlx_member.proofs.Known.{loan-found}
-use Rattle.sqlx_member.proofs.Stands.{IsHeldBorn, stands-in}
-use Rattle.sqlx_member.proofs.TurnAtMarks.{idle-stands, owned-stands, size-stands}
+use Rattle.sqlx_pool_core.proofs.Known.{loan-found}
+use Rattle.sqlx_pool_core.proofs.Stands.{IsHeldBorn, stands-in}
+use Rattle.sqlx_pool_core.proofs.TurnAtMarks.{idle-stands, owned-stands, size-stands}
 
 -- ---- owners
 

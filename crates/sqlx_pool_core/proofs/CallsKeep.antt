@@ -1,17 +1,17 @@
 -- What no call of the outside changes, over the chains of calls that a test, a try, a poll and a keeping of the minimum are.
 use Rattle.std.proofs.Common.{ℕ, ◌≤◌, List, [], ◌∷◌}
-use Rattle.sqlx_log.specs.declared.mark.Mark.{Mark}
-use Rattle.sqlx_member.specs.declared.idle_check.Opening.{Opening}
-use Rattle.sqlx_member.specs.declared.idle_check.Opening.TheVariants as opening
+use Rattle.sqlx_pool_marks.specs.declared.mark.Mark.{Mark}
+use Rattle.sqlx_pool_core.specs.declared.idle_check.Opening.{Opening}
+use Rattle.sqlx_pool_core.specs.declared.idle_check.Opening.TheVariants as opening
 use Rattle.sqlx_pool_lists.specs.declared.steps.Openings.{Openings}
 use Rattle.sqlx_pool_lists.specs.declared.steps.Polled.{Polled}
 use Rattle.sqlx_pool_lists.specs.declared.steps.Verdict.{Verdict}
-use Rattle.sqlx_member.specs.Calls.{Call}
+use Rattle.sqlx_pool_core.specs.Calls.{Call}
 use Rattle.sqlx_pool_lists.specs.Core.{Core}
 use Rattle.sqlx_pool_core.specs.Minimum.{filled, Keeps, KeepsMinimum}
 use Rattle.sqlx_pool_lists.specs.PollSteps.{after_test}
 use Rattle.sqlx_pool_core.specs.Walk.{Next, Test, Connect, Answer, then_by, judges, Goes, Polls}
-use Rattle.sqlx_member.proofs.CheckKeeps.{kept, risen, same, tests-keep, tries-keep}
+use Rattle.sqlx_pool_core.proofs.CheckKeeps.{kept, risen, same, tests-keep, tries-keep}
 
 -- a fact that no call ends, over a whole poll and the minimum
 module _ {C O X : Type 0} (does : Call C O → X → X → Type 0) (depth : X → C → ℕ) (P : X → Type 0) (step : (c : Call C O) (old new : X) → does c old new → P old → P new) where

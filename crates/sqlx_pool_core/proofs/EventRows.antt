@@ -2,11 +2,11 @@
 use Rattle.std.proofs.Common.{◌≡◌, ℕ, true, false, List, [], ◌∷◌, ◌++◌, Some, None, refl}
 use Rattle.sqlx_pool_lists.specs.Limits.{limits_of}
 use Rattle.log.specs.declared.level.LevelFilter.TheVariants.{Off}
-use Rattle.sqlx_log.specs.declared.mark.Mark.{Mark}
-use Rattle.sqlx_log.specs.declared.mark.Mark.TheVariants.{Asked, Opened, Lent, Kept, Leaked, Ended, Shut}
+use Rattle.sqlx_pool_marks.specs.declared.mark.Mark.{Mark}
+use Rattle.sqlx_pool_marks.specs.declared.mark.Mark.TheVariants.{Asked, Opened, Lent, Kept, Leaked, Ended, Shut}
 use Rattle.sqlx_pool_lists.specs.declared.options.PoolOptions.{PoolOptions}
 use Rattle.sqlx_pool_lists.specs.declared.steps.CloseState.TheVariants as state
-use Rattle.sqlx_log.specs.EventTable.{reaped_at, has_place_at, closed_at}
+use Rattle.sqlx_pool_marks.specs.EventTable.{reaped_at, has_place_at, closed_at}
 use Rattle.sqlx_pool_lists.specs.MaintenanceSteps.{close_state_of}
 
 -- a pool of this maximum, in which a connection is idle for 10 at most and lives for 100

@@ -3,19 +3,19 @@ use Rattle.std.proofs.Common.{◌≡◌, ℕ, ◌+◌, ◌≤◌, ◌<◌, ◌�
 use Rattle.std.proofs.lemmas.Bool.{lt-ltb}
 use Rattle.sqlx_text.specs.declared.error.Error.{Error}
 use Rattle.sqlx_pool_lists.specs.declared.options.PoolOptions.{PoolOptions}
-use Rattle.sqlx_member.specs.declared.idle_check.Opening.{Opening}
-use Rattle.sqlx_member.specs.declared.idle_check.Opening.TheVariants.{Opened, Rejected, Transient, Failed}
+use Rattle.sqlx_pool_core.specs.declared.idle_check.Opening.{Opening}
+use Rattle.sqlx_pool_core.specs.declared.idle_check.Opening.TheVariants.{Opened, Rejected, Transient, Failed}
 use Rattle.sqlx_pool_lists.specs.declared.steps.Openings.{Openings}
-use Rattle.sqlx_member.specs.Calls.{Call, Facts}
-use Rattle.sqlx_member.specs.Chain.{Tries}
+use Rattle.sqlx_pool_core.specs.Calls.{Call, Facts}
+use Rattle.sqlx_pool_core.specs.Chain.{Tries}
 use Rattle.sqlx_pool_lists.specs.Core.{Core}
 use Rattle.sqlx_pool_lists.specs.MaintenanceSteps.{has_place, lacks}
 use Rattle.sqlx_pool_core.specs.Minimum.{filled, opened_of, is_short, Keeps, KeepsMinimum}
-use Rattle.sqlx_member.specs.Outside.{is_want}
-use Rattle.sqlx_member.proofs.CheckKeeps.{tries-more}
+use Rattle.sqlx_pool_core.specs.Outside.{is_want}
+use Rattle.sqlx_pool_core.proofs.CheckKeeps.{tries-more}
 use Rattle.sqlx_pool_core.proofs.KeepRuns.{SoFar, so-none, so-place, so-opened, kept-so, kept-place}
-use Rattle.sqlx_member.proofs.CheckEnds as tried
-use Rattle.sqlx_member.proofs.CheckEnds.{never}
+use Rattle.sqlx_pool_core.proofs.CheckEnds as tried
+use Rattle.sqlx_pool_core.proofs.CheckEnds.{never}
 
 -- ---- the whole keeping
 

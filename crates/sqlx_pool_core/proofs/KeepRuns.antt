@@ -1,24 +1,24 @@
 -- The openings of a keeping of the minimum, one behind the other.
 use Rattle.std.proofs.Common.{◌≡◌, ℕ, ◌+◌, ◌<◌, ◌≤◌, max, nat_lt, Bool, true, false, zero, suc, List, [], ◌∷◌, ◌++◌, length-append, append-nil, append_assoc, Option, Some, None, refl, sym, ap, ◌∙◌, subst, arith}
 use Rattle.std.proofs.lemmas.List.Elements.{All-nil, All-push}
-use Rattle.sqlx_log.specs.declared.mark.Mark.{Mark}
-use Rattle.sqlx_log.specs.declared.mark.Mark.TheVariants as mark
-use Rattle.sqlx_member.specs.declared.idle_check.Opening.{Opening}
-use Rattle.sqlx_member.specs.declared.idle_check.Opening.TheVariants.{Opened, Rejected, Transient, Failed}
+use Rattle.sqlx_pool_marks.specs.declared.mark.Mark.{Mark}
+use Rattle.sqlx_pool_marks.specs.declared.mark.Mark.TheVariants as mark
+use Rattle.sqlx_pool_core.specs.declared.idle_check.Opening.{Opening}
+use Rattle.sqlx_pool_core.specs.declared.idle_check.Opening.TheVariants.{Opened, Rejected, Transient, Failed}
 use Rattle.sqlx_pool_lists.specs.declared.steps.Idle.{Idle}
 use Rattle.sqlx_pool_lists.specs.declared.steps.Openings.{Openings}
-use Rattle.sqlx_member.specs.Calls.{Call, Facts}
-use Rattle.sqlx_member.specs.Chain.{Tries}
+use Rattle.sqlx_pool_core.specs.Calls.{Call, Facts}
+use Rattle.sqlx_pool_core.specs.Chain.{Tries}
 use Rattle.sqlx_pool_lists.specs.Core.{Core}
 use Rattle.sqlx_pool_lists.specs.Edits.{at_moment, opened, kept}
 use Rattle.sqlx_pool_lists.specs.MaintenanceSteps.{done, done_at, done_marks, placed, placed_back, has_place, lacks}
-use Rattle.sqlx_member.specs.Logs.{Logs}
+use Rattle.sqlx_pool_core.specs.Logs.{Logs}
 use Rattle.sqlx_pool_core.specs.Minimum.{raw_of, filled, filled_marks, opened_of, openings_made, IsFresh, Opens, Keeps, KeepsMinimum}
 use Rattle.sqlx_pool_core.proofs.Maintenance.{place-open}
 use Rattle.sqlx_pool_core.proofs.Polling.{logs-then, logs-by}
-use Rattle.sqlx_member.proofs.CheckEnds.{tries-rest}
+use Rattle.sqlx_pool_core.proofs.CheckEnds.{tries-rest}
 use Rattle.sqlx_pool_core.proofs.Lacking.{below-lack, place-left}
-use Rattle.sqlx_member.proofs.Fair.{makes-nothing}
+use Rattle.sqlx_pool_core.proofs.Fair.{makes-nothing}
 
 -- ---- marks
 

@@ -4,13 +4,13 @@ use Rattle.std.specs.Prelude.{nat_lt, All}
 use Rattle.std.proofs.lemmas.Bool.Decides.{nat_tests}
 use Rattle.std.proofs.lemmas.List.Sums.{count_by-le-length}
 use Rattle.std.proofs.lemmas.List.{length-append}
-use Rattle.sqlx_line.specs.Line.{TicketLine, ComesLast, is_waiting, is_below_edge, entitled, beyond, first_beyond, pushed, without, passed, advanced}
-use Rattle.sqlx_line.specs.Laws.{IsServed}
-use Rattle.sqlx_line.proofs.Edge.{left_out, below-joined, below-left_out, length-left_out, not-all-below, numbered_found}
+use Rattle.sqlx_pool_places.specs.Line.{TicketLine, ComesLast, is_waiting, is_below_edge, entitled, beyond, first_beyond, pushed, without, passed, advanced}
+use Rattle.sqlx_pool_places.specs.Laws.{IsServed}
+use Rattle.sqlx_pool_places.proofs.Edge.{left_out, below-joined, below-left_out, length-left_out, not-all-below, numbered_found}
 use Rattle.sqlx_pool_lists.specs.Core.{Core, waiting, free}
 use Rattle.sqlx_pool_lists.specs.Sound.{IsSound, IsRising}
 use Rattle.sqlx_pool_core.specs.KeptLine.{waiting_numbers, IsLined, IsNearlyLined, let_in}
-use Rattle.sqlx_tickets.proofs.Counting.{rising-filter}
+use Rattle.sqlx_pool_lists.proofs.Counting.{rising-filter}
 use Rattle.sqlx_pool_lists.specs.Core.{waits}
 use Rattle.sqlx_pool_core.proofs.WaitingNumbers.{length-numbers, numbers-below, numbers-sorted}
 

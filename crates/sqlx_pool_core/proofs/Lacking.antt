@@ -1,9 +1,9 @@
 -- How many connections a pool lacks of its minimum, while they are opened one behind the other.
 use Rattle.std.proofs.Common.{◌≡◌, ℕ, ◌+◌, ◌-◌, ◌^◌, ◌<◌, ◌≤◌, min, nat_lt, Bool, true, false, not, ◌&&◌, length, length-append, refl, sym, ap, ◌∙◌, arith, if◌then◌else◌}
 use Rattle.std.proofs.lemmas.Bool.{ltb-true, ltb-false, lt-ltb, le-ltb}
-use Rattle.sqlx_log.specs.Counts.{free_of}
+use Rattle.sqlx_pool_marks.specs.Counts.{free_of}
 use Rattle.sqlx_pool_lists.specs.Core.{Core, waiting, gone, free, size}
-use Rattle.sqlx_log.specs.EventTable.{may_pass, may_open, lacking}
+use Rattle.sqlx_pool_marks.specs.EventTable.{may_pass, may_open, lacking}
 use Rattle.sqlx_pool_lists.specs.MaintenanceSteps.{has_place, lacks}
 use Rattle.sqlx_pool_core.specs.Minimum.{Opens}
 

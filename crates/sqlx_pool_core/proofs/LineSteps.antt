@@ -2,18 +2,18 @@
 use Rattle.std.proofs.Common.{◌≡◌, ℕ, ◌+◌, ◌^◌, ◌<◌, ◌≤◌, ◌⊎◌, min, max, inl, inr, ◌==◌, ◌&&◌, Bool, true, false, not, cond, List, [], ◌∷◌, ◌++◌, length, map, Option, Some, None, option_map, refl, sym, ap, subst, ◌∙◌, arith}
 use Rattle.std.specs.Prelude.{nat_lt, if◌then◌else◌, count_by}
 use Rattle.std.proofs.lemmas.Bool.{ltb-true, and_parts}
-use Rattle.sqlx_log.specs.declared.mark.Mark.{Mark}
-use Rattle.sqlx_log.specs.declared.mark.Mark.TheVariants.{Left, Ended}
-use Rattle.sqlx_log.specs.declared.turn.Turn.{Turn}
-use Rattle.sqlx_log.specs.declared.turn.Turn.TheVariants as turned
-use Rattle.sqlx_log.proofs.Counting.{one, count-cons, count-push}
-use Rattle.sqlx_log.specs.PollTable.{turn_at_rest}
+use Rattle.sqlx_pool_marks.specs.declared.mark.Mark.{Mark}
+use Rattle.sqlx_pool_marks.specs.declared.mark.Mark.TheVariants.{Left, Ended}
+use Rattle.sqlx_pool_marks.specs.declared.turn.Turn.{Turn}
+use Rattle.sqlx_pool_marks.specs.declared.turn.Turn.TheVariants as turned
+use Rattle.sqlx_pool_marks.proofs.Counting.{one, count-cons, count-push}
+use Rattle.sqlx_pool_marks.specs.PollTable.{turn_at_rest}
 use Rattle.sqlx_pool_lists.specs.PollTable.{is_at_rest, backs_off_until}
 use Rattle.sqlx_pool_lists.specs.CoreTurn.{before, is_first_in_line, turn_of, core_turn}
-use Rattle.sqlx_tickets.proofs.Counting.{count-ended}
-use Rattle.sqlx_member.proofs.TurnCases.{turn-test, turn-connect}
-use Rattle.sqlx_line.specs.Line.{TicketLine, is_waiting, is_below_edge, entitled, pushed, without}
-use Rattle.sqlx_line.proofs.Edge.{left_out, below, edge_tells}
+use Rattle.sqlx_pool_lists.proofs.Counting.{count-ended}
+use Rattle.sqlx_pool_core.proofs.TurnCases.{turn-test, turn-connect}
+use Rattle.sqlx_pool_places.specs.Line.{TicketLine, is_waiting, is_below_edge, entitled, pushed, without}
+use Rattle.sqlx_pool_places.proofs.Edge.{left_out, below, edge_tells}
 use Rattle.sqlx_pool_lists.specs.declared.ticket.Ticket.{Ticket}
 use Rattle.sqlx_pool_lists.specs.declared.ticket.OwnedConn.{OwnedConn}
 use Rattle.sqlx_pool_lists.specs.declared.ticket.Phase.{Phase}
@@ -30,19 +30,19 @@ use Rattle.sqlx_pool_lists.specs.declared.steps.AfterTest.{AfterTest}
 use Rattle.sqlx_pool_lists.specs.declared.steps.AfterTest.TheVariants as tested
 use Rattle.sqlx_pool_lists.specs.declared.steps.AfterConnect.{AfterConnect}
 use Rattle.sqlx_pool_lists.specs.declared.steps.AfterConnect.TheVariants as connected
-use Rattle.sqlx_log.specs.EventTable.{may_pass}
+use Rattle.sqlx_pool_marks.specs.EventTable.{may_pass}
 use Rattle.sqlx_pool_lists.specs.Core.{Core, is_out, has_gone, waits, waiting, gone, free, size, loan_of, ticket_of}
 use Rattle.sqlx_pool_lists.specs.Edits.{at_moment, asked, unasked, with_ticket, without_ticket, to_test, to_try, to_try_at, to_next, to_connect, to_back_off}
 use Rattle.sqlx_pool_lists.specs.PollSteps.{phase_for, is_in_line, start_answer, leaving, start_marks, started, cancel_marks, cancelled, judged, tested_at, test_answer, test_marks, after_test, wait_of, try_answer_at, connect_answer, connect_marks, after_connect, try_lent, try_marks, after_try}
 use Rattle.sqlx_pool_lists.specs.Sound.{IsSound, IsRising, number_of}
-use Rattle.sqlx_member.proofs.Found.{rising-bound}
+use Rattle.sqlx_pool_core.proofs.Found.{rising-bound}
 use Rattle.std.proofs.lemmas.Bool.Decides.{nat_tests}
 use Rattle.sqlx_pool_lists.specs.Balance.{Balance, is_asked, is_ended, is_lent, asks, ends, lents, given_back, one_if, try_room}
-use Rattle.sqlx_member.specs.ReturnSteps.{give_marks, core_after_give, end_marks, released, detach_marks, leak_marks, leaked}
+use Rattle.sqlx_pool_core.specs.ReturnSteps.{give_marks, core_after_give, end_marks, released, detach_marks, leak_marks, leaked}
 use Rattle.sqlx_pool_lists.specs.MaintenanceSteps.{done, has_place_if, placed, closed_from, reaped}
 use Rattle.sqlx_pool_core.specs.KeptLine.{waiting_numbers, IsLined, IsNearlyLined, IsLone, leaves, taken_out}
-use Rattle.sqlx_tickets.proofs.TicketPlaces.{all-counted}
-use Rattle.sqlx_member.proofs.PollCode.{among}
+use Rattle.sqlx_pool_lists.proofs.TicketPlaces.{all-counted}
+use Rattle.sqlx_pool_core.proofs.PollCode.{among}
 use Rattle.sqlx_pool_core.proofs.WaitingNumbers.{length-numbers, numbers-asked, numbers-ended, numbers-left, numbers-without, numbers-with, before-numbers}
 use Rattle.sqlx_pool_core.proofs.KeptLine.{nearly-beside, nearly-ended, nearly-left, nearly-asked, lined-beside, lined-past, one_if_waiting, Fewer, fewer, line-rises}
 
@@ -376,7 +376,7 @@ start-nearly {C} core new line q k t m r s n l told answer is moves =
 -- ---- who is entitled
 
 -- the client's ticket waits in the line
-waits_there : {C : Type 0} (core : Core C) (line : TicketLine) (k t : ℕ) (x : Ticket) → IsSound core → IsLined core line → ticket_of k t core.tickets ≡ Some x → waits x ≡ true → is_waiting t line ≡ true
+pub waits_there : {C : Type 0} (core : Core C) (line : TicketLine) (k t : ℕ) (x : Ticket) → IsSound core → IsLined core line → ticket_of k t core.tickets ≡ Some x → waits x ≡ true → is_waiting t line ≡ true
 waits_there core line k t x s l found w = by (is_waiting t line) refl
   where
     by : (b : Bool) → is_waiting t line ≡ b → b ≡ true

@@ -2,8 +2,8 @@
 use Rattle.std.proofs.Common.{◌≡◌, ℕ, ◌+◌, ◌<◌, ◌≤◌, ◌==◌, ◌⊎◌, inl, inr, ◌&&◌, ◌||◌, Bool, true, false, not, cond, List, [], ◌∷◌, length, map, Option, Some, None, option_map, refl, sym, ap, subst, ◌∙◌, arith, length-append}
 use Rattle.std.specs.Prelude.{nat_lt, filter, find}
 use Rattle.std.proofs.lemmas.Bool.Decides.{nat_tests}
-use Rattle.sqlx_line.specs.Line.{TicketLine, is_below_edge, entitled, beyond, first_beyond, pushed, without, passed, advanced}
-use Rattle.sqlx_line.proofs.Edge.{has, below-joined, some_found, not_below}
+use Rattle.sqlx_pool_places.specs.Line.{TicketLine, is_below_edge, entitled, beyond, first_beyond, pushed, without, passed, advanced}
+use Rattle.sqlx_pool_places.proofs.Edge.{has, below-joined, some_found, not_below}
 use Rattle.sqlx_pool_lists.specs.declared.ticket.Ticket.{Ticket}
 use Rattle.sqlx_pool_lists.specs.declared.ticket.Phase.{Phase}
 use Rattle.sqlx_pool_lists.specs.declared.ticket.Phase.TheVariants as phase
@@ -12,9 +12,11 @@ use Rattle.sqlx_pool_lists.specs.CoreTurn.{is_first_in_line}
 use Rattle.sqlx_pool_lists.specs.Edits.{at_moment, asked}
 use Rattle.sqlx_pool_lists.specs.PollSteps.{phase_for, is_in_line}
 use Rattle.sqlx_pool_lists.specs.Sound.{IsSound, IsRising, number_of}
-use Rattle.sqlx_pool_core.specs.KeptLine.{waiting_numbers, IsLined, Looks, is_entitled, Entitles, EntitlesBeyond, taken_out}
+use Rattle.sqlx_pool_core.specs.KeptLine.{waiting_numbers, IsLined, Looks, Entitles, EntitlesBeyond, taken_out}
+use Rattle.sqlx_pool_core.specs.LonePool.{LonePool, lone_of, is_entitled, MovesOnce}
 use Rattle.sqlx_pool_core.proofs.KeptLine.{Fewer, fewer, line-rises, beyond-counts}
 use Rattle.sqlx_pool_core.proofs.LineSteps.{edge-first}
+use Rattle.sqlx_pool_core.proofs.LonePools.{keeps-entitled, keeps-same}
 
 -- ---- who is found beyond the edge
 
@@ -104,13 +106,36 @@ not_entitled core line k t s l at = by (ticket_of k t core.tickets) refl
 
 -- ---- how often a step looks
 
-pub looks : {C : Type 0} (old new : Core C) (line mid next : TicketLine) (before first after : ℕ) → IsLined old line → IsLined new next → first ≤ before + 1 → beyond mid + old.next_ticket ≤ beyond line + new.next_ticket
-    → after + beyond next ≡ first + beyond mid → after ≤ first + 1 → IsSound old → mid.edge ≡ line.edge → (after ≤ first) ⊎ EntitlesBeyond new mid → Looks old new before after
-looks old new line mid next before first after l m once fewer moved twice s edge turn = record {
-  few = omega (arith, once, twice);
-  let_in = omega (arith, beyond-counts old line l, beyond-counts new next m, l.few_moves, m.few_moves, once, fewer, moved);
-  turns = by turn;
-}
+-- What a step did to the line, where it was left so that one ticket may be entitled that isn't yet, and how often it looked.
+pub record Serving {C : Type 0} (core new : Core C) (line mid next : TicketLine) (first after : ℕ) : Type 0 where
+  pub cost : after + beyond next ≡ first + beyond mid
+  pub once : after ≤ first + 1
+  pub turns : (after ≤ first) ⊎ EntitlesBeyond new mid
+  pub moves : after + mid.moves ≡ first + next.moves
+  pub edge : MovesOnce mid next
+  pub lined : IsLined new next
+  pub sound : IsSound new
+
+same_once : (line mid next : TicketLine) → mid.edge ≡ line.edge → mid.moves ≡ line.moves → MovesOnce mid next → MovesOnce line next
+same_once line mid next edge moves (inl still) = inl (still.0 ∙ edge, still.1 ∙ moves)
+same_once line mid next edge moves (inr on) = inr (subst (λ (n : ℕ). n < next.edge) edge on.0, on.1 ∙ ap (λ (n : ℕ). n + 1) moves)
+
+moves_more : (line next : TicketLine) → MovesOnce line next → line.moves ≤ next.moves
+moves_more line next (inl still) = omega (arith, still.1)
+moves_more line next (inr on) = omega (arith, on.1)
+
+pub looks : {C : Type 0} (old new : Core C) (line mid next : TicketLine) (before first after : ℕ) → IsSound old → IsLined old line → first ≤ before + 1 → beyond mid + old.next_ticket ≤ beyond line + new.next_ticket
+    → mid.edge ≡ line.edge → mid.moves ≡ line.moves → Serving old new line mid next first after → Looks (lone_of old line) (lone_of new next) before after
+looks old new line mid next before first after s l once fewer edge same v =
+    let on : MovesOnce line next = same_once line mid next edge same v.edge in
+    let more : line.moves ≤ next.moves = moves_more line next on in
+    record {
+      moves = omega (arith, once, v.moves, same, more);
+      few = omega (arith, once, v.once);
+      let_in = omega (arith, beyond-counts old line l, beyond-counts new next v.lined, l.few_moves, v.lined.few_moves, once, fewer, v.cost);
+      turns = by v.turns;
+      keeps = keeps-entitled old new line next s l v.sound v.lined on;
+    }
   where
     by : (after ≤ first) ⊎ EntitlesBeyond new mid → (after ≤ before + 1) ⊎ Entitles old new
     by (inl still) = inl (omega (arith, still, once))
@@ -122,8 +147,10 @@ looks old new line mid next before first after l m once fewer moved twice s edge
     })
 
 -- a step that looks only where the edge moves
-pub looks-beside : {C : Type 0} (core now new : Core C) (line next : TicketLine) (before after : ℕ) → core ≡ now → IsLined core line → IsLined new next → core.next_ticket ≤ new.next_ticket → after + beyond next ≡ before + beyond line → after ≤ before + 1 → IsSound core → (after ≤ before) ⊎ EntitlesBeyond new line → Looks now new before after
-looks-beside {C} core now new line next before after view l m more moved once s turn = subst (λ (c : Core C). Looks c new before after) view (looks core new line line next before before after l m (omega arith) (omega (arith, more)) moved once s refl turn)
+pub looks-beside : {C : Type 0} (core : Core C) (now : LonePool C) (new : Core C) (line next : TicketLine) (before after : ℕ) → lone_of core line ≡ now → IsSound core → IsLined core line → core.next_ticket ≤ new.next_ticket
+    → Serving core new line line next before after → Looks now (lone_of new next) before after
+looks-beside {C} core now new line next before after view s l more v =
+    subst (λ (c : LonePool C). Looks c (lone_of new next) before after) view (looks core new line line next before before after s l (omega arith) (omega (arith, more)) refl refl v)
 
 fewer-beyond : {C : Type 0} (core : Core C) (line : TicketLine) (t : ℕ) (b : Bool) → IsSound core → IsLined core line → beyond (taken_out b t line) ≤ beyond line
 fewer-beyond core line t false s l = omega arith
@@ -140,23 +167,30 @@ same_edge : (t : ℕ) (b : Bool) (line : TicketLine) → (taken_out b t line).ed
 same_edge t true line = refl
 same_edge t false line = refl
 
+same_moves : (t : ℕ) (b : Bool) (line : TicketLine) → (taken_out b t line).moves ≡ line.moves
+same_moves t true line = refl
+same_moves t false line = refl
+
 -- a step that takes a ticket out
-pub looks-without : {C : Type 0} (core now new : Core C) (line mid next : TicketLine) (t : ℕ) (b : Bool) (before first after : ℕ) → core ≡ now → IsSound core → IsLined core line → mid ≡ taken_out b t line → IsLined new next → core.next_ticket ≤ new.next_ticket → first ≤ before + 1
-    → after + beyond next ≡ first + beyond mid → after ≤ first + 1 → (after ≤ first) ⊎ EntitlesBeyond new mid → Looks now new before after
-looks-without {C} core now new line mid next t b before first after view s l is m more once moved twice turn =
+pub looks-without : {C : Type 0} (core : Core C) (now : LonePool C) (new : Core C) (line mid next : TicketLine) (t : ℕ) (b : Bool) (before first after : ℕ) → lone_of core line ≡ now → IsSound core → IsLined core line → mid ≡ taken_out b t line
+    → core.next_ticket ≤ new.next_ticket → first ≤ before + 1 → Serving core new line mid next first after → Looks now (lone_of new next) before after
+looks-without {C} core now new line mid next t b before first after view s l is more once v =
     let less : beyond mid ≤ beyond line = subst (λ (x : TicketLine). beyond x ≤ beyond line) (sym is) (fewer-beyond core line t b s l) in
-    subst (λ (c : Core C). Looks c new before after) view (looks core new line mid next before first after l m once (omega (arith, more, less)) moved twice s (ap (λ (x : TicketLine). x.edge) is ∙ same_edge t b line) turn)
+    subst (λ (c : LonePool C). Looks c (lone_of new next) before after) view
+    (looks core new line mid next before first after s l once (omega (arith, more, less)) (ap (λ (x : TicketLine). x.edge) is ∙ same_edge t b line) (ap (λ (x : TicketLine). x.moves) is ∙ same_moves t b line) v)
 
 -- an ask
-pub looks-asked : {C : Type 0} (core now new : Core C) (line mid next : TicketLine) (k d m before first after : ℕ) → core ≡ now → IsLined core line → new ≡ at_moment m (asked k d core) → mid ≡ pushed core.next_ticket line → IsLined new next → first ≡ before + 1
-    → after + beyond next ≡ first + beyond mid → after ≤ first + 1 → IsSound core → (after ≤ first) ⊎ EntitlesBeyond new mid → Looks now new before after
-looks-asked {C} core now new line mid next k d m before first after view l is joins n once moved twice s turn =
+pub looks-asked : {C : Type 0} (core : Core C) (now : LonePool C) (new : Core C) (line mid next : TicketLine) (k d m before first after : ℕ) → lone_of core line ≡ now → IsSound core → IsLined core line → new ≡ at_moment m (asked k d core)
+    → mid ≡ pushed core.next_ticket line → first ≡ before + 1 → Serving core new line mid next first after → Looks now (lone_of new next) before after
+looks-asked {C} core now new line mid next k d m before first after view s l is joins once v =
     let more : new.next_ticket ≡ core.next_ticket + 1 = ap (λ (c : Core C). c.next_ticket) is in
     let e : entitled (pushed core.next_ticket line) ≡ entitled line = below-joined core.next_ticket line.edge line.waiting l.edge in
     let long : length (pushed core.next_ticket line).waiting ≡ length line.waiting + 1 = length-append line.waiting (core.next_ticket ∷ []) in
     let beyond_more : beyond mid ≤ beyond line + 1 = subst (λ (x : TicketLine). beyond x ≤ beyond line + 1) (sym joins) (omega (arith, e, long)) in
-    subst (λ (c : Core C). Looks c new before after) view (looks core new line mid next before first after l n (omega (arith, once)) (omega (arith, more, beyond_more)) moved twice s (ap (λ (x : TicketLine). x.edge) joins) turn)
+    subst (λ (c : LonePool C). Looks c (lone_of new next) before after) view
+    (looks core new line mid next before first after s l (omega (arith, once)) (omega (arith, more, beyond_more)) (ap (λ (x : TicketLine). x.edge) joins) (ap (λ (x : TicketLine). x.moves) joins) v)
 
--- a step that changes nothing
-pub looks-once : {C : Type 0} (now new : Core C) (before after : ℕ) → new ≡ now → after ≡ before + 1 → Looks now new before after
-looks-once {C} now new before after is once = subst (λ (c : Core C). Looks now c before after) (sym is) (record { few = omega (arith, once); let_in = omega (arith, once); turns = inl (omega (arith, once)) })
+-- a step that changes nothing, and looks once at most
+pub looks-nothing : {C : Type 0} (now new : LonePool C) (before after : ℕ) → new ≡ now → after ≤ before + 1 → Looks now new before after
+looks-nothing {C} now new before after is once =
+    subst (λ (c : LonePool C). Looks now c before after) (sym is) (record { moves = omega (arith, once); few = omega (arith, once); let_in = omega (arith, once); turns = inl (omega (arith, once)); keeps = keeps-same now })

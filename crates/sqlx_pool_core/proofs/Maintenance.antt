@@ -5,12 +5,12 @@ use Rattle.sqlx_pool_lists.specs.Edits.{at_moment}
 use Rattle.std.proofs.lemmas.Bool.{ltb-true}
 use Rattle.sqlx_pool_lists.specs.Core.{Core, size}
 use Rattle.sqlx_pool_lists.specs.MaintenanceSteps.{has_place, placed, placed_back, done_at, done_marks}
-use Rattle.sqlx_member.specs.declared.idle_check.Opening.{Opening}
-use Rattle.sqlx_member.specs.declared.idle_check.Opening.TheVariants.{Opened}
-use Rattle.sqlx_member.specs.Logs.{Logs}
+use Rattle.sqlx_pool_core.specs.declared.idle_check.Opening.{Opening}
+use Rattle.sqlx_pool_core.specs.declared.idle_check.Opening.TheVariants.{Opened}
+use Rattle.sqlx_pool_core.specs.Logs.{Logs}
 use Rattle.sqlx_pool_core.proofs.Polling.{logs-then, logs-by}
-use Rattle.sqlx_member.specs.Calls.{Call}
-use Rattle.sqlx_member.specs.Chain.{Tries}
+use Rattle.sqlx_pool_core.specs.Calls.{Call}
+use Rattle.sqlx_pool_core.specs.Chain.{Tries}
 use Rattle.sqlx_pool_core.specs.Minimum.{raw_of, filled, filled_marks, opened_of, is_short, Keeps, KeepsMinimum}
 
 -- The tries of all, where these are still to come.

@@ -2,19 +2,19 @@
 use Rattle.std.proofs.Common.{◌≡◌, ℕ, ◌||◌, Bool, true, false, cond, List, [], ◌∷◌, map, find, length, All, Option, Some, None, option_map, refl, sym, ap, ◌∙◌}
 use Rattle.std.proofs.lemmas.List.Elements.{All-head, All-tail}
 use Rattle.sqlx_pool_lists.specs.Limits.{limits_of}
-use Rattle.sqlx_log.specs.declared.mark.Mark.{Mark}
+use Rattle.sqlx_pool_marks.specs.declared.mark.Mark.{Mark}
 use Rattle.sqlx_pool_lists.specs.declared.options.PoolOptions.{PoolOptions}
 use Rattle.sqlx_pool_lists.specs.declared.steps.Idle.{Idle}
-use Rattle.sqlx_log.specs.Marks.{idle_of, loans_of, leaked_of, tickets_of}
-use Rattle.sqlx_log.specs.Counts.{left_in, free_of}
+use Rattle.sqlx_pool_marks.specs.Marks.{idle_of, loans_of, leaked_of, tickets_of}
+use Rattle.sqlx_pool_marks.specs.Counts.{left_in, free_of}
 use Rattle.sqlx_pool_lists.specs.Core.{Core, resting, waiting, free}
 use Rattle.sqlx_pool_lists.specs.StandsFor.{StandsIn, StandsFor}
-use Rattle.sqlx_log.specs.EventTable.{is_idle_too_long, may_pass, may_open, lacking}
+use Rattle.sqlx_pool_marks.specs.EventTable.{is_idle_too_long, may_pass, may_open, lacking}
 use Rattle.sqlx_pool_lists.specs.MaintenanceSteps.{is_reaped_at, reap_answer, has_place, lacks, close_answer}
-use Rattle.sqlx_log.specs.EventTable.{may_pass_at, is_old_since, is_beyond_at, entry_conn, reaped_at, has_place_at, lacking_at, closed_at}
+use Rattle.sqlx_pool_marks.specs.EventTable.{may_pass_at, is_old_since, is_beyond_at, entry_conn, reaped_at, has_place_at, lacking_at, closed_at}
 use Rattle.sqlx_pool_lists.specs.MaintenanceSteps.{idle_conn}
-use Rattle.sqlx_member.proofs.Stands.{IsIdleBorn, stands-in}
-use Rattle.sqlx_member.proofs.TurnAtMarks.{gone-stands, waiting-stands, owned-stands, size-stands}
+use Rattle.sqlx_pool_core.proofs.Stands.{IsIdleBorn, stands-in}
+use Rattle.sqlx_pool_core.proofs.TurnAtMarks.{gone-stands, waiting-stands, owned-stands, size-stands}
 
 -- ---- found alike
 

@@ -1,9 +1,9 @@
 -- The contract of a whole poll, put together of those of its parts.
 use Rattle.std.proofs.Common.{◌≡◌, ℕ, Bool, true, false, ◌==◌, Option, Some, None, option_map, List, [], ◌∷◌, ◌++◌, refl, sym, ap, ◌∙◌, subst, append-nil, eq-eqb, if◌then◌else◌, ◌<◌, length, drop, arith}
 use Rattle.sqlx_text.specs.declared.Moment.{Moment}
-use Rattle.sqlx_log.specs.declared.mark.Mark.{Mark}
+use Rattle.sqlx_pool_marks.specs.declared.mark.Mark.{Mark}
 use Rattle.sqlx_pool_lists.specs.declared.options.PoolOptions.{PoolOptions}
-use Rattle.sqlx_member.specs.declared.idle_check.Opening.{Opening}
+use Rattle.sqlx_pool_core.specs.declared.idle_check.Opening.{Opening}
 use Rattle.sqlx_pool_lists.specs.declared.steps.Idle.{Idle}
 use Rattle.sqlx_pool_lists.specs.declared.steps.Start.{Start}
 use Rattle.sqlx_pool_lists.specs.declared.steps.Verdict.{Verdict}
@@ -14,18 +14,18 @@ use Rattle.sqlx_pool_lists.specs.declared.steps.Polled.{Polled}
 use Rattle.sqlx_pool_lists.specs.declared.ticket.Ticket.{Ticket}
 use Rattle.sqlx_pool_lists.specs.declared.ticket.Phase.{Phase}
 use Rattle.sqlx_pool_lists.specs.declared.ticket.Phase.TheVariants as phase
-use Rattle.sqlx_member.specs.Calls.{Call}
-use Rattle.sqlx_member.specs.Chain.{Tests}
+use Rattle.sqlx_pool_core.specs.Calls.{Call}
+use Rattle.sqlx_pool_core.specs.Chain.{Tests}
 use Rattle.sqlx_pool_lists.specs.Core.{Core, ticket_of}
 use Rattle.sqlx_pool_lists.specs.Edits.{with_ticket, to_connect, to_next, tested_so_far}
-use Rattle.sqlx_member.specs.Logs.{Logs}
+use Rattle.sqlx_pool_core.specs.Logs.{Logs}
 use Rattle.sqlx_pool_lists.specs.Makes.{Makes}
 use Rattle.sqlx_pool_lists.specs.CoreTurn.{core_turn}
 use Rattle.sqlx_pool_core.specs.PollParts.{untested}
 use Rattle.sqlx_pool_lists.specs.PollSteps.{phase_for, start_answer, start_marks, started, judged, tested_at, after_refusal, test_answer, test_marks, after_test, try_answer_at, connect_answer}
 use Rattle.sqlx_pool_core.specs.Walk.{Next, Test, Answer, first, then_by, tried_of, judges, tells, Goes, GoesOn, Polls}
-use Rattle.sqlx_member.proofs.Fair.{makes-then}
-use Rattle.sqlx_member.proofs.CheckEnds.{tests-judged}
+use Rattle.sqlx_pool_core.proofs.Fair.{makes-then}
+use Rattle.sqlx_pool_core.proofs.CheckEnds.{tests-judged}
 use Rattle.sqlx_pool_core.proofs.WholePoll.{ticket-with}
 
 pub logs-then : {C : Type 0} (core mid new : Core C) (one two : List Mark) → mid.options ≡ core.options → Logs core one mid → Logs mid two new → Logs core (one ++ two) new

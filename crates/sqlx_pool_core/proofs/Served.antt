@@ -1,13 +1,13 @@
 -- An ask that is served at once makes what an ask, a start and an accepted test make, one behind another.
 use Rattle.std.proofs.Common.{◌≡◌, ℕ, suc, ◌+◌, ◌^◌, ◌<◌, ◌≤◌, Bool, true, false, cond, not, ◌&&◌, ◌==◌, List, [], ◌∷◌, ◌++◌, take, drop, count_by, length, Option, Some, None, is_some, max, inl, refl, sym, ap, ap₂, ◌∙◌, subst, append_assoc, arith}
 use Rattle.std.specs.Prelude.{IfSome}
-use Rattle.sqlx_log.specs.declared.mark.Mark.{Mark}
-use Rattle.sqlx_log.specs.declared.mark.Mark.TheVariants.{Asked, Left, Taken, Lent, Ended}
-use Rattle.sqlx_log.specs.Born.{IsBorn}
-use Rattle.sqlx_log.specs.FairLog.{IsFair}
-use Rattle.sqlx_log.specs.Marks.{opened_number}
-use Rattle.sqlx_log.proofs.FairLaws.{fair-append}
-use Rattle.sqlx_log.proofs.ListFacts.{found_All, count_by-cons, count_by-push, length-push, same_number}
+use Rattle.sqlx_pool_marks.specs.declared.mark.Mark.{Mark}
+use Rattle.sqlx_pool_marks.specs.declared.mark.Mark.TheVariants.{Asked, Left, Taken, Lent, Ended}
+use Rattle.sqlx_pool_marks.specs.Born.{IsBorn}
+use Rattle.sqlx_pool_marks.specs.FairLog.{IsFair}
+use Rattle.sqlx_pool_marks.specs.Marks.{opened_number}
+use Rattle.sqlx_pool_marks.proofs.FairLaws.{fair-append}
+use Rattle.sqlx_pool_marks.proofs.ListFacts.{found_All, count_by-cons, count_by-push, length-push, same_number}
 use Rattle.sqlx_pool_lists.specs.declared.ticket.Ticket.{Ticket}
 use Rattle.sqlx_pool_lists.specs.declared.ticket.Phase.TheVariants as phase
 use Rattle.sqlx_pool_lists.specs.declared.steps.Idle.{Idle}
@@ -17,22 +17,22 @@ use Rattle.sqlx_pool_lists.specs.Sound.{IsSound, rests}
 use Rattle.sqlx_pool_core.specs.Alone.{IsAlone}
 use Rattle.sqlx_pool_lists.specs.StandsFor.{StandsIn, StandsFor}
 use Rattle.sqlx_pool_lists.specs.Makes.{MakesIn, MakesWhere}
-use Rattle.sqlx_member.specs.Logs.{Logs}
-use Rattle.sqlx_member.specs.Numbers.{Draws, Stays}
+use Rattle.sqlx_pool_core.specs.Logs.{Logs}
+use Rattle.sqlx_pool_core.specs.Numbers.{Draws, Stays}
 use Rattle.sqlx_pool_lists.specs.Balance.{Balance, serve_room}
 use Rattle.sqlx_pool_lists.specs.CoreTurn.{before, InOwnLine}
 use Rattle.sqlx_pool_core.specs.KeptLine.{IsLined, IsLone}
 use Rattle.sqlx_pool_lists.specs.Edits.{asked, at_moment, with_ticket, to_test, core_without_ticket, core_without_first, lent_to}
 use Rattle.sqlx_pool_lists.specs.PollSteps.{try_lent, serve_marks, after_serve}
-use Rattle.sqlx_line.specs.Line.{TicketLine}
-use Rattle.sqlx_member.proofs.Stands.{stands-in, IsTicketBorn}
-use Rattle.sqlx_member.proofs.Known.{ticket-changed, gone-changed, gone-left_le, idle-first}
-use Rattle.sqlx_member.proofs.AskSoundness.{sound-asked}
-use Rattle.sqlx_member.proofs.StartMakes.{makes-test}
-use Rattle.sqlx_member.proofs.PollMakes.{makes-asked, makes-served}
+use Rattle.sqlx_pool_places.specs.Line.{TicketLine}
+use Rattle.sqlx_pool_core.proofs.Stands.{stands-in, IsTicketBorn}
+use Rattle.sqlx_pool_core.proofs.Known.{ticket-changed, gone-changed, gone-left_le, idle-first}
+use Rattle.sqlx_pool_core.proofs.AskSoundness.{sound-asked}
+use Rattle.sqlx_pool_core.proofs.StartMakes.{makes-test}
+use Rattle.sqlx_pool_core.proofs.PollMakes.{makes-asked, makes-served}
 use Rattle.sqlx_pool_core.proofs.Alone.{number-append, alone-step, alone-makes}
 use Rattle.sqlx_pool_core.proofs.LineSteps.{without_last}
-use Rattle.sqlx_member.proofs.Fair.{makes-none}
+use Rattle.sqlx_pool_core.proofs.Fair.{makes-none}
 use Rattle.sqlx_pool_core.proofs.KeptLine.{lined-past}
 
 -- ---- what it makes

@@ -7,15 +7,15 @@ use Rattle.std.specs.Ordering.{nat_cmp}
 use Rattle.std.proofs.lemmas.Bool.Decides.{nat_tests}
 use Rattle.std.proofs.lemmas.List.Elements.{All-nil, All-cons}
 use Rattle.std.proofs.lemmas.List.Sums.{take_while-cons}
-use Rattle.sqlx_line.proofs.Edge.{left_out, below}
-use Rattle.sqlx_log.proofs.Counting.{one, count-cons}
+use Rattle.sqlx_pool_places.proofs.Edge.{left_out, below}
+use Rattle.sqlx_pool_marks.proofs.Counting.{one, count-cons}
 use Rattle.sqlx_pool_lists.specs.declared.ticket.Ticket.{Ticket}
 use Rattle.sqlx_pool_lists.specs.Core.{waits, waiting, ticket_of}
 use Rattle.sqlx_pool_lists.specs.Sound.{IsRising, number_of}
 use Rattle.sqlx_pool_lists.specs.Edits.{with_ticket, without_ticket}
-use Rattle.sqlx_tickets.specs.Place.{IsAmong}
+use Rattle.sqlx_pool_lists.specs.Place.{IsAmong}
 use Rattle.sqlx_pool_lists.specs.CoreTurn.{before, is_another}
-use Rattle.sqlx_member.proofs.Found.{of-none}
+use Rattle.sqlx_pool_core.proofs.Found.{of-none}
 use Rattle.sqlx_pool_core.specs.KeptLine.{waiting_numbers}
 
 -- the first ticket's number, where it waits, and the others'

@@ -6,14 +6,14 @@ use Rattle.sqlx_pool_lists.specs.declared.ticket.Phase.TheVariants as phase
 use Rattle.sqlx_pool_lists.specs.declared.steps.Tried.{Tried}
 use Rattle.sqlx_pool_lists.specs.declared.steps.Tried.TheVariants as tried
 use Rattle.sqlx_pool_lists.specs.Core.{Core, is_of, is_out, ticket_of}
-use Rattle.sqlx_log.specs.declared.turn.Turn.{Turn}
-use Rattle.sqlx_log.specs.declared.turn.Turn.TheVariants as turn
+use Rattle.sqlx_pool_marks.specs.declared.turn.Turn.{Turn}
+use Rattle.sqlx_pool_marks.specs.declared.turn.Turn.TheVariants as turn
 use Rattle.sqlx_pool_lists.specs.declared.steps.Idle.{Idle}
 use Rattle.sqlx_pool_lists.specs.declared.steps.Start.TheVariants as start
 use Rattle.sqlx_pool_lists.specs.CoreTurn.{is_first_in_line, turn_of, core_turn}
-use Rattle.sqlx_log.specs.PollTable.{in_time}
+use Rattle.sqlx_pool_marks.specs.PollTable.{in_time}
 use Rattle.sqlx_pool_lists.specs.PollTable.{is_at_rest, backs_off_until}
-use Rattle.sqlx_member.proofs.TurnCases.{unless_first, turn-test}
+use Rattle.sqlx_pool_core.proofs.TurnCases.{unless_first, turn-test}
 use Rattle.sqlx_pool_lists.specs.Edits.{with_ticket, to_test, to_try, to_try_at, to_connect}
 use Rattle.sqlx_pool_lists.specs.PollSteps.{start_answer, started, connect_answer, try_answer_at, phase_for}
 use Rattle.sqlx_pool_core.specs.PollParts.{untested, next_try_at, tried_answer}

@@ -1,7 +1,7 @@
 -- A pool that belongs to no family.
 use Rattle.std.specs.Prelude.{◌≡◌, ◌+◌, ◌^◌, ◌≤◌}
 use Rattle.sqlx_pool_lists.specs.Core.{Core}
-use Rattle.sqlx_member.specs.Numbers.{under_way}
+use Rattle.sqlx_pool_core.specs.Numbers.{under_way}
 
 -- It owns all its permits, counts as closed where it is shut, and its numbers have a bound.
 pub record IsAlone {C : Type 0} (core : Core C) : Type 0 where

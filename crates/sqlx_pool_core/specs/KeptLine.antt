@@ -1,15 +1,14 @@
 -- The line of a lone pool's waiting tickets, kept as an edge, and what a step may look at it.
-use Rattle.std.specs.Prelude.{◌≡◌, ℕ, ◌+◌, ◌-◌, ◌<◌, ◌≤◌, ◌⊎◌, ◌&&◌, Bool, true, false, List, map, filter, min, length}
-use Rattle.sqlx_line.specs.Line.{TicketLine, entitled, beyond, without, is_below_edge}
-use Rattle.sqlx_line.specs.Laws.{IsServed}
+use Rattle.std.specs.Prelude.{◌≡◌, ℕ, ◌+◌, ◌-◌, ◌<◌, ◌≤◌, ◌⊎◌, Bool, true, false, List, map, filter, min, length}
+use Rattle.sqlx_pool_places.specs.Line.{TicketLine, entitled, beyond, without, is_below_edge}
+use Rattle.sqlx_pool_places.specs.Laws.{IsServed}
 use Rattle.sqlx_pool_lists.specs.declared.ticket.Ticket.{Ticket}
 use Rattle.sqlx_pool_lists.specs.declared.steps.Start.{Start}
 use Rattle.sqlx_pool_lists.specs.declared.steps.Start.TheVariants as start
 use Rattle.sqlx_pool_lists.specs.Core.{Core, waits, waiting, free}
 use Rattle.sqlx_pool_lists.specs.Sound.{number_of}
 use Rattle.sqlx_pool_core.specs.Alone.{IsAlone}
-use Rattle.sqlx_pool_lists.specs.CoreTurn.{is_first_in_line}
-use Rattle.sqlx_pool_lists.specs.PollSteps.{phase_for, is_in_line}
+use Rattle.sqlx_pool_core.specs.LonePool.{LonePool, KeepsEntitled, is_entitled}
 
 -- the numbers of the tickets that wait
 abbrev pub waiting_numbers : List Ticket → List ℕ
@@ -39,10 +38,6 @@ pub record IsLone {C : Type 0} (core : Core C) (line : TicketLine) : Type 0 wher
 abbrev pub let_in : {C : Type 0} → Core C → ℕ
 let_in core = core.next_ticket - 1 - (waiting core.tickets - free core)
 
--- the client's ticket waits, and fewer waiting tickets precede it than permits are free
-abbrev pub is_entitled : {C : Type 0} → ℕ → ℕ → Core C → Bool
-is_entitled k t core = is_in_line (phase_for k t core.tickets) && is_first_in_line t core
-
 -- A client's ticket is entitled that wasn't.
 pub record Entitles {C : Type 0} (old new : Core C) : Type 0 where
   pub client : ℕ
@@ -57,11 +52,13 @@ pub record EntitlesBeyond {C : Type 0} (core : Core C) (line : TicketLine) : Typ
   pub is : is_entitled client ticket core ≡ true
   pub beyond : is_below_edge ticket line ≡ false
 
--- A step looks at the line at most twice: once, and once more if it lets one more ticket in. Where it looks twice, a ticket is entitled behind it that wasn't before it.
-pub record Looks {C : Type 0} (old new : Core C) (before after : ℕ) : Type 0 where
+-- A step looks at the line at most once, and once more if the edge moves: then one more ticket is let in, and one is entitled that wasn't. Who was entitled stays so.
+pub record Looks {C : Type 0} (old new : LonePool C) (before after : ℕ) : Type 0 where
+  pub moves : after ≤ before + 1 + (new.moves - old.moves)
   pub few : after ≤ before + 2
-  pub let_in : after + let_in old ≤ before + 1 + let_in new
-  pub turns : (after ≤ before + 1) ⊎ Entitles old new
+  pub let_in : after + let_in old.pool ≤ before + 1 + let_in new.pool
+  pub turns : (after ≤ before + 1) ⊎ Entitles old.pool new.pool
+  pub keeps : KeepsEntitled old new
 
 -- ---- what a poll does to the line
 

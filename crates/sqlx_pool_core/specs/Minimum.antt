@@ -2,16 +2,16 @@
 use Rattle.std.specs.Prelude.{zero, suc, length, All, ◌≡◌, ℕ, ◌+◌, Bool, true, false, max, List, [], ◌∷◌, ◌++◌, Option, Some, None}
 use Rattle.sqlx_pool_lists.specs.declared.steps.Openings.{Openings}
 use Rattle.sqlx_pool_lists.specs.declared.steps.Idle.{Idle}
-use Rattle.sqlx_log.specs.declared.mark.Mark.{Mark}
-use Rattle.sqlx_log.specs.declared.mark.Mark.TheVariants as mark
-use Rattle.sqlx_member.specs.Logs.{Logs}
+use Rattle.sqlx_pool_marks.specs.declared.mark.Mark.{Mark}
+use Rattle.sqlx_pool_marks.specs.declared.mark.Mark.TheVariants as mark
+use Rattle.sqlx_pool_core.specs.Logs.{Logs}
 use Rattle.sqlx_pool_lists.specs.Core.{Core}
 use Rattle.sqlx_pool_lists.specs.MaintenanceSteps.{has_place, placed, done, done_marks}
-use Rattle.sqlx_member.specs.declared.idle_check.Opening.{Opening}
-use Rattle.sqlx_member.specs.declared.idle_check.Opening.TheVariants.{Opened, Failed}
-use Rattle.sqlx_member.specs.Outside.{is_want}
-use Rattle.sqlx_member.specs.Calls.{Call}
-use Rattle.sqlx_member.specs.Chain.{Tries}
+use Rattle.sqlx_pool_core.specs.declared.idle_check.Opening.{Opening}
+use Rattle.sqlx_pool_core.specs.declared.idle_check.Opening.TheVariants.{Opened, Failed}
+use Rattle.sqlx_pool_core.specs.Outside.{is_want}
+use Rattle.sqlx_pool_core.specs.Calls.{Call}
+use Rattle.sqlx_pool_core.specs.Chain.{Tries}
 
 -- the connection that a try opened
 abbrev pub raw_of : {C : Type 0} → Opening C → Option C
@@ -43,7 +43,7 @@ abbrev pub openings_made : ℕ → ℕ → ℕ → List Mark
 openings_made zero n m = []
 openings_made (suc k) n m = mark.Opened n m ∷ mark.Kept n m ∷ openings_made k (n + 1) m
 
--- an idle connection that was opened at this moment; it had no level open when it came
+-- an idle connection that was opened at this moment; of some state of the outside it has no level open, and the chain of calls (`Keeps`) says that it had none when it came
 abbrev pub IsFresh : {C X : Type 0} → (X → C → ℕ) → ℕ → Idle C → Type 0
 IsFresh {C} {X} depth m i = (i.since.0 ≡ m) × (i.lent.created.0 ≡ m) × ((out : X) × (depth out i.lent.raw ≡ 0))
 

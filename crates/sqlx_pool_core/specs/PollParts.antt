@@ -1,5 +1,5 @@
 -- What is said of the parts of a whole poll.
-use Rattle.std.specs.Prelude.{◌≡◌, ◌<◌, drop, ℕ, ◌+◌, ⊤, List, [], ◌∷◌, Option, Some, None, All}
+use Rattle.std.specs.Prelude.{◌≡◌, ◌<◌, ◌⊎◌, drop, false, ℕ, ◌+◌, ⊤, List, [], ◌∷◌, Option, Some, None, All}
 use Rattle.sqlx_text.specs.declared.error.Error.{Error}
 use Rattle.sqlx_pool_lists.specs.declared.steps.Lent.{Lent}
 use Rattle.sqlx_pool_lists.specs.declared.steps.Idle.{Idle}
@@ -10,7 +10,10 @@ use Rattle.sqlx_pool_lists.specs.declared.steps.Tried.TheVariants as tried
 use Rattle.sqlx_pool_lists.specs.declared.steps.AfterConnect.{AfterConnect}
 use Rattle.sqlx_pool_lists.specs.declared.steps.AfterConnect.TheVariants as connected
 use Rattle.sqlx_pool_lists.specs.declared.ticket.Ticket.{Ticket}
-use Rattle.sqlx_member.specs.Calls.{Call}
+use Rattle.sqlx_pool_marks.specs.declared.turn.Turn.{Turn}
+use Rattle.sqlx_pool_marks.specs.declared.turn.Turn.TheVariants as turned
+use Rattle.sqlx_pool_core.specs.Outside.{HasRisen}
+use Rattle.sqlx_pool_core.specs.Calls.{Call, ping, close, close_hard}
 use Rattle.sqlx_pool_lists.specs.Core.{Core}
 use Rattle.sqlx_pool_lists.specs.Edits.{with_ticket, to_connect}
 use Rattle.sqlx_pool_lists.specs.PollSteps.{wait_of}
@@ -25,19 +28,36 @@ abbrev pub IfRefused : {C : Type 0} → Polled C → (Error → Type 0) → Type
 IfRefused (polled.Refused error) P = P error
 IfRefused other P = ⊤
 
+-- P of the moment until which the ticket backs off, if it does
+abbrev pub IfBackoff : {C : Type 0} → Polled C → (ℕ → Type 0) → Type 0
+IfBackoff (polled.Backoff until) P = P until
+IfBackoff other P = ⊤
+
+-- why a ticket backs off: its turn was to, or this poll's try was refused, which a count of faults or of a hook's refusals shows
+abbrev pub BacksOff : Turn → ℕ → ℕ → ℕ → ℕ → ℕ → Type 0
+BacksOff turn faults faults_now refusals refusals_now until = (turn ≡ turned.Backoff until) ⊎ (HasRisen faults faults_now ⊎ HasRisen refusals refusals_now)
+
 -- how many levels the first idle connection has open
 abbrev pub first_depth : {C : Type 0} → (C → ℕ) → List (Idle C) → ℕ
 first_depth depth [] = 0
 first_depth depth (i ∷ rest) = depth i.lent.raw
 
--- No level of these connections is open, and no call opens one.
+-- the call is a ping or a close, which a test without a hook makes
+abbrev pub IsQuiet : {C O : Type 0} → Call C O → Type 0
+IsQuiet (ping conn answer now) = ⊤
+IsQuiet (close conn) = ⊤
+IsQuiet (close_hard conn) = ⊤
+IsQuiet other = ⊥
+
+-- No level of these connections is open, and no ping and no close opens one.
 pub record StayAtRest {C O X : Type 0} (does : Call C O → X → X → Type 0) (depth : X → C → ℕ) (idle : List (Idle C)) (out : X) : Type 0 where
   pub now : All (λ i. depth out i.lent.raw ≡ 0) idle
-  pub later : (c : Call C O) (old new : X) → does c old new → All (λ i. depth old i.lent.raw ≡ 0) idle → All (λ i. depth new i.lent.raw ≡ 0) idle
+  pub later : (c : Call C O) (old new : X) → IsQuiet c → does c old new → All (λ i. depth old i.lent.raw ≡ 0) idle → All (λ i. depth new i.lent.raw ≡ 0) idle
 
--- This holds where the first idle connection has no level open and, if a poll tests more of them, the others stay at rest.
+-- This holds where a hook looks at a connection before it is lent; else where the first idle connection has no level open and, if a poll tests more of them, the others stay at rest.
 abbrev pub WhereIdleRests : {C O X : Type 0} → (Call C O → X → X → Type 0) → (X → C → ℕ) → Core C → X → Type 0 → Type 0
-WhereIdleRests does depth core out This = first_depth (depth out) core.idle ≡ 0 → (1 < core.options.idle_tries → StayAtRest does depth (drop 1 core.idle) out) → This
+WhereIdleRests does depth core out This =
+    (core.options.before_acquire ≡ false → first_depth (depth out) core.idle ≡ 0) → (core.options.before_acquire ≡ false → 1 < core.options.idle_tries → StayAtRest does depth (drop 1 core.idle) out) → This
 
 -- the connection under test is gone: its ticket connects
 abbrev pub untested : {C : Type 0} → ℕ → Core C → Core C

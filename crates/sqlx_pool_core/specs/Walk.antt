@@ -1,6 +1,6 @@
 -- A whole poll: its steps in the pool, with the calls of the outside between them.
-use Rattle.std.specs.Prelude.{◌≡◌, ℕ, false, Some, List, [], ◌∷◌, ◌++◌}
-use Rattle.sqlx_log.specs.declared.mark.Mark.{Mark}
+use Rattle.std.specs.Prelude.{◌≡◌, ℕ, ⊤, false, Some, List, [], ◌∷◌, ◌++◌}
+use Rattle.sqlx_pool_marks.specs.declared.mark.Mark.{Mark}
 use Rattle.sqlx_pool_lists.specs.declared.steps.Idle.{Idle}
 use Rattle.sqlx_pool_lists.specs.declared.steps.Start.{Start}
 use Rattle.sqlx_pool_lists.specs.declared.steps.Start.TheVariants as start
@@ -17,11 +17,11 @@ use Rattle.sqlx_pool_lists.specs.declared.ticket.Ticket.{Ticket}
 use Rattle.sqlx_pool_lists.specs.Core.{Core, ticket_of}
 use Rattle.sqlx_pool_lists.specs.PollSteps.{phase_for, start_answer, start_marks, started, may_test_next, test_answer, test_marks, after_test, try_answer, connect_marks, after_connect}
 use Rattle.sqlx_pool_lists.specs.CoreTurn.{core_turn}
-use Rattle.sqlx_member.specs.Logs.{Logs}
-use Rattle.sqlx_member.specs.declared.idle_check.Opening.{Opening}
-use Rattle.sqlx_member.specs.declared.idle_check.Opening.TheVariants as opening
-use Rattle.sqlx_member.specs.Calls.{Call}
-use Rattle.sqlx_member.specs.Chain.{Tests, Tries}
+use Rattle.sqlx_pool_core.specs.Logs.{Logs}
+use Rattle.sqlx_pool_core.specs.declared.idle_check.Opening.{Opening}
+use Rattle.sqlx_pool_core.specs.declared.idle_check.Opening.TheVariants as opening
+use Rattle.sqlx_pool_core.specs.Calls.{Call}
+use Rattle.sqlx_pool_core.specs.Chain.{Tests, Tries}
 
 -- What a poll does next.
 pub data Next (C : Type 0) : Type 0 where
@@ -39,6 +39,11 @@ first start.Waiting = Answer polled.Waiting
 first (start.Backoff until) = Answer (polled.Backoff until)
 first (start.Test i) = Test i
 first start.Connect = Connect
+
+-- P of the answer, if the poll ends with one
+abbrev pub IfAnswer : {C : Type 0} → Next C → (Polled C → Type 0) → Type 0
+IfAnswer (Answer answer) P = P answer
+IfAnswer other P = ⊤
 
 -- by the pool's step after a test; the other two answers never come to a ticket that is tested
 abbrev pub then_by : {C : Type 0} → AfterTest C → Next C

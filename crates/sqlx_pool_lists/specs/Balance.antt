@@ -1,7 +1,7 @@
 -- What a step does to the counts of a core, and how many marks are still due.
 use Rattle.std.specs.Prelude.{ℕ, ◌≡◌, ◌+◌, ◌-◌, ◌*◌, ◌^◌, ◌<◌, ◌≤◌, Bool, true, false, List, Option, Some, None, if◌then◌else◌, count_by, sum_by, length}
-use Rattle.sqlx_log.specs.declared.mark.Mark.{Mark}
-use Rattle.sqlx_log.specs.declared.mark.Mark.TheVariants.{Asked, Lent, Ended}
+use Rattle.sqlx_pool_marks.specs.declared.mark.Mark.{Mark}
+use Rattle.sqlx_pool_marks.specs.declared.mark.Mark.TheVariants.{Asked, Lent, Ended}
 use Rattle.sqlx_pool_lists.specs.declared.ticket.Ticket.{Ticket}
 use Rattle.sqlx_pool_lists.specs.declared.ticket.Phase.{Phase}
 use Rattle.sqlx_pool_lists.specs.declared.ticket.Phase.TheVariants as phase

@@ -6,8 +6,8 @@ use Rattle.sqlx_pool_lists.specs.declared.ticket.Ticket.{Ticket}
 use Rattle.sqlx_pool_lists.specs.declared.ticket.OwnedConn.{OwnedConn}
 use Rattle.sqlx_pool_lists.specs.declared.ticket.Phase.{Phase}
 use Rattle.sqlx_pool_lists.specs.declared.ticket.Phase.TheVariants.{Waiting}
-use Rattle.sqlx_log.specs.Marks.{PendingTicket, Loan, IdleEntry}
-use Rattle.sqlx_log.specs.Counts.{free_of}
+use Rattle.sqlx_pool_marks.specs.Marks.{PendingTicket, Loan, IdleEntry}
+use Rattle.sqlx_pool_marks.specs.Counts.{free_of}
 
 -- Tickets in the order of asking, owned connections, idle ones in their order, the permits that the pool owns, and the numbers that come next. It counts as closed where it is shut, or where what it belongs to is.
 pub record Core (C : Type 0) : Type 0 where

@@ -1,12 +1,12 @@
 -- The turn of a poll by the core's own lists.
-use Rattle.std.specs.Prelude.{◌≡◌, ◌<◌, ℕ, Bool, true, not, ◌==◌, List, Option, Some, None, if◌then◌else◌, nat_lt, take_while}
+use Rattle.std.specs.Prelude.{◌≡◌, ◌<◌, ℕ, Bool, true, not, ◌==◌, ◌&&◌, List, [], ◌∷◌, Option, Some, None, if◌then◌else◌, nat_lt, take_while}
 use Rattle.sqlx_pool_lists.specs.declared.ticket.Ticket.{Ticket}
-use Rattle.sqlx_log.specs.declared.mark.Mark.{Mark}
-use Rattle.sqlx_log.specs.Marks.{next_conn}
-use Rattle.sqlx_log.specs.declared.turn.Turn.{Turn}
-use Rattle.sqlx_log.specs.declared.turn.Turn.TheVariants.{NotHeld}
-use Rattle.sqlx_log.specs.PollTable.{turn_at_rest}
-use Rattle.sqlx_pool_lists.specs.Core.{Core, is_out, free, waiting, ticket_of}
+use Rattle.sqlx_pool_marks.specs.declared.mark.Mark.{Mark}
+use Rattle.sqlx_pool_marks.specs.Marks.{next_conn}
+use Rattle.sqlx_pool_marks.specs.declared.turn.Turn.{Turn}
+use Rattle.sqlx_pool_marks.specs.declared.turn.Turn.TheVariants.{NotHeld}
+use Rattle.sqlx_pool_marks.specs.PollTable.{turn_at_rest}
+use Rattle.sqlx_pool_lists.specs.Core.{Core, is_out, is_of, waits, free, waiting, ticket_of}
 use Rattle.sqlx_pool_lists.specs.PollTable.{is_at_rest, backs_off_until, phase_turn}
 use Rattle.sqlx_pool_lists.specs.PollSteps.{phase_for}
 use Rattle.sqlx_pool_lists.specs.Makes.{MakesWhere}
@@ -18,6 +18,11 @@ is_another t x = not (t == x.number)
 -- how many waiting tickets were asked before this one
 abbrev pub before : ℕ → List Ticket → ℕ
 before t tickets = waiting (take_while (is_another t) tickets)
+
+-- the deadline of the client's ticket of this number, where it is the first of all and waits
+abbrev pub first_deadline : ℕ → ℕ → List Ticket → Option ℕ
+first_deadline k t [] = None
+first_deadline k t (x ∷ rest) = if is_of k t x && waits x then Some x.deadline else None
 
 -- the ticket is entitled by the pool's own line: fewer waiting tickets precede it than permits are free
 abbrev pub is_first_in_line : {C : Type 0} → ℕ → Core C → Bool

@@ -11,3 +11,7 @@ pub mod Edits
 pub mod PollSteps
 pub mod MaintenanceSteps
 pub mod Balance
+pub mod Tickets
+pub mod Place
+pub mod HeldList
+pub mod IdleList

@@ -1,5 +1,5 @@
 -- The limits of a pool, read off its options.
-use Rattle.sqlx_log.specs.EventTable.{Limits}
+use Rattle.sqlx_pool_marks.specs.EventTable.{Limits}
 use Rattle.sqlx_pool_lists.specs.declared.options.PoolOptions.{PoolOptions}
 
 -- the limits that these options set

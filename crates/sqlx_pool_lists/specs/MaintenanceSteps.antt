@@ -2,15 +2,15 @@
 use Rattle.std.specs.Prelude.{ℕ, ◌+◌, ◌-◌, Bool, true, false, ◌==◌, List, [], ◌∷◌, Option, Some, None, if◌then◌else◌, map, find, length, not, ◌&&◌, ◌^◌, min, nat_lt}
 use Rattle.std.specs.List.{list_any}
 use Rattle.sqlx_pool_lists.specs.Limits.{limits_of}
-use Rattle.sqlx_log.specs.declared.mark.Mark.{Mark}
-use Rattle.sqlx_log.specs.declared.mark.Mark.TheVariants.{Reaped, Opened, Kept, Closed, Shut}
+use Rattle.sqlx_pool_marks.specs.declared.mark.Mark.{Mark}
+use Rattle.sqlx_pool_marks.specs.declared.mark.Mark.TheVariants.{Reaped, Opened, Kept, Closed, Shut}
 use Rattle.sqlx_pool_lists.specs.declared.options.PoolOptions.{PoolOptions}
 use Rattle.sqlx_pool_lists.specs.declared.steps.Idle.{Idle}
 use Rattle.sqlx_pool_lists.specs.declared.steps.CloseState.{CloseState}
 use Rattle.sqlx_pool_lists.specs.declared.steps.CloseState.TheVariants as state
-use Rattle.sqlx_log.specs.Marks.{is_shut, loans_of, leaked_of, tickets_of}
+use Rattle.sqlx_pool_marks.specs.Marks.{is_shut, loans_of, leaked_of, tickets_of}
 use Rattle.sqlx_pool_lists.specs.Core.{Core, waiting, free, size}
-use Rattle.sqlx_log.specs.EventTable.{is_reaped, may_open, lacking}
+use Rattle.sqlx_pool_marks.specs.EventTable.{is_reaped, may_open, lacking}
 use Rattle.sqlx_pool_lists.specs.Edits.{without_idle, kept, opened, at_moment}
 
 -- ---- reap

@@ -1,7 +1,7 @@
 -- What a step makes of a pool that stands for some marks.
 use Rattle.std.specs.Prelude.{ℕ, List, ◌++◌, ⊤}
-use Rattle.sqlx_log.specs.declared.mark.Mark.{Mark}
-use Rattle.sqlx_log.specs.FairLog.{IsSafe, IsOrdered, IsFair}
+use Rattle.sqlx_pool_marks.specs.declared.mark.Mark.{Mark}
+use Rattle.sqlx_pool_marks.specs.FairLog.{IsSafe, IsOrdered, IsFair}
 use Rattle.sqlx_pool_lists.specs.Core.{Core}
 use Rattle.sqlx_pool_lists.specs.StandsFor.{StandsIn, StandsFor}
 

@@ -1,13 +1,13 @@
 -- The steps of a poll, of a cancel and of a try: what each answers, the marks that it makes, and what it makes of the core.
 use Rattle.std.specs.Prelude.{ℕ, ◌+◌, Bool, true, false, ◌==◌, List, [], ◌∷◌, Option, Some, None, if◌then◌else◌, nat_lt, option_map}
 use Rattle.sqlx_text.specs.declared.Moment.{Moment}
-use Rattle.sqlx_log.specs.declared.mark.Mark.{Mark}
-use Rattle.sqlx_log.specs.declared.mark.Mark.TheVariants.{Asked, Left, Taken, Opened, Lent, Closed, Ended}
+use Rattle.sqlx_pool_marks.specs.declared.mark.Mark.{Mark}
+use Rattle.sqlx_pool_marks.specs.declared.mark.Mark.TheVariants.{Asked, Left, Taken, Opened, Lent, Closed, Ended}
 use Rattle.sqlx_pool_lists.specs.declared.ticket.Ticket.{Ticket}
 use Rattle.sqlx_pool_lists.specs.declared.ticket.Phase.{Phase}
 use Rattle.sqlx_pool_lists.specs.declared.ticket.Phase.TheVariants as phase
-use Rattle.sqlx_log.specs.declared.turn.Turn.{Turn}
-use Rattle.sqlx_log.specs.declared.turn.Turn.TheVariants as turn
+use Rattle.sqlx_pool_marks.specs.declared.turn.Turn.{Turn}
+use Rattle.sqlx_pool_marks.specs.declared.turn.Turn.TheVariants as turn
 use Rattle.sqlx_pool_lists.specs.declared.steps.Lent.{Lent as LentValue}
 use Rattle.sqlx_pool_lists.specs.declared.steps.Idle.{Idle}
 use Rattle.sqlx_pool_lists.specs.declared.steps.Start.{Start}
@@ -21,7 +21,7 @@ use Rattle.sqlx_pool_lists.specs.declared.steps.Tried.TheVariants as tried
 use Rattle.sqlx_pool_lists.specs.declared.steps.AfterConnect.{AfterConnect}
 use Rattle.sqlx_pool_lists.specs.declared.steps.AfterConnect.TheVariants as connected
 use Rattle.sqlx_pool_lists.specs.Core.{Core, ticket_of}
-use Rattle.sqlx_log.specs.Backoff.{cap, next_wait}
+use Rattle.sqlx_pool_marks.specs.Backoff.{cap, next_wait}
 use Rattle.sqlx_pool_lists.specs.Edits.{with_ticket, to_test, tested_so_far, to_next, to_try, to_connect, to_back_off, core_without_ticket, lent_to, core_without_first, opened, at_moment}
 
 -- the mark of an ask of this moment
@@ -223,3 +223,15 @@ serve_marks k t deadline None = []
 abbrev pub after_serve : {C : Type 0} → ℕ → ℕ → Option (LentValue C) → Core C → Core C
 after_serve k m (Some lent) core = record (after_try k m (Some lent) core) { next_ticket = core.next_ticket + 1 }
 after_serve k m None core = core
+
+-- ---- serve_first
+
+-- the marks of a poll that lends at once: the ticket leaves the line, the first idle connection is taken and lent, and the ticket ends
+abbrev pub first_marks : {C : Type 0} → ℕ → ℕ → Option (LentValue C) → List Mark
+first_marks k t (Some lent) = Left t ∷ Taken lent.id ∷ Lent k lent.id ∷ Ended t ∷ []
+first_marks k t None = []
+
+-- the core after it: as after a loan past the line, but the ticket ended
+abbrev pub after_first : {C : Type 0} → ℕ → ℕ → ℕ → Option (LentValue C) → Core C → Core C
+after_first k t m (Some lent) core = core_without_ticket t (after_try k m (Some lent) core)
+after_first k t m None core = core

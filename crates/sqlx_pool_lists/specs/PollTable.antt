@@ -1,9 +1,9 @@
 -- The turn of a poll behind a list of marks, by the phase that the core keeps for its ticket.
 use Rattle.std.specs.Prelude.{ℕ, Bool, true, false, List, Option, Some, None, if◌then◌else◌}
-use Rattle.sqlx_log.specs.declared.mark.Mark.{Mark}
-use Rattle.sqlx_log.specs.declared.turn.Turn.{Turn}
-use Rattle.sqlx_log.specs.declared.turn.Turn.TheVariants.{NotHeld}
-use Rattle.sqlx_log.specs.PollTable.{turn}
+use Rattle.sqlx_pool_marks.specs.declared.mark.Mark.{Mark}
+use Rattle.sqlx_pool_marks.specs.declared.turn.Turn.{Turn}
+use Rattle.sqlx_pool_marks.specs.declared.turn.Turn.TheVariants.{NotHeld}
+use Rattle.sqlx_pool_marks.specs.PollTable.{turn}
 use Rattle.sqlx_pool_lists.specs.declared.ticket.Phase.{Phase}
 use Rattle.sqlx_pool_lists.specs.declared.ticket.Phase.TheVariants as phase
 

@@ -1,14 +1,14 @@
 -- When a pool's value is what a list of marks comes to.
 use Rattle.std.specs.Prelude.{◌≡◌, ◌≤◌, List, map, All, ⊤}
 use Rattle.std.specs.List.{list_any}
-use Rattle.sqlx_log.specs.declared.mark.Mark.{Mark}
+use Rattle.sqlx_pool_marks.specs.declared.mark.Mark.{Mark}
 use Rattle.sqlx_pool_lists.specs.declared.steps.Idle.{Idle}
 use Rattle.sqlx_pool_lists.specs.declared.ticket.Ticket.{Ticket}
 use Rattle.sqlx_pool_lists.specs.declared.ticket.OwnedConn.{OwnedConn}
 use Rattle.sqlx_pool_lists.specs.declared.ticket.Phase.{Phase}
 use Rattle.sqlx_pool_lists.specs.declared.ticket.Phase.TheVariants as phase
-use Rattle.sqlx_log.specs.Marks.{tickets_of, loans_of, idle_of, leaked_of, is_shut, next_ticket, next_conn}
-use Rattle.sqlx_log.specs.Born.{IsBorn, IsNamedBelow}
+use Rattle.sqlx_pool_marks.specs.Marks.{tickets_of, loans_of, idle_of, leaked_of, is_shut, next_ticket, next_conn}
+use Rattle.sqlx_pool_marks.specs.Born.{IsBorn, IsNamedBelow}
 use Rattle.sqlx_pool_lists.specs.Core.{Core, asking, loan, resting}
 
 -- a connection under test was opened at the moment that the ticket keeps, and isn't gone

@@ -2,13 +2,13 @@
 use Rattle.std.proofs.Common.{◌≡◌, ◌⊎◌, ℕ, Bool, inl, inr}
 use Rattle.sqlx_text.specs.declared.error.Error.{Error}
 use Rattle.sqlx_text.specs.declared.error.Error.TheVariants as error
-use Rattle.sqlx_member.specs.declared.idle_check.Opening.{Opening}
-use Rattle.sqlx_member.specs.declared.idle_check.Opening.TheVariants as opening
-use Rattle.sqlx_member.specs.Calls.{Call, Facts}
-use Rattle.sqlx_member.specs.Chain.{Tries}
-use Rattle.sqlx_member.specs.Outside.{HasRisen}
-use Rattle.sqlx_member.proofs.CheckEnds.{unopened}
-use Rattle.sqlx_member.proofs.CheckEnds.{tries-cause}
+use Rattle.sqlx_pool_core.specs.declared.idle_check.Opening.{Opening}
+use Rattle.sqlx_pool_core.specs.declared.idle_check.Opening.TheVariants as opening
+use Rattle.sqlx_pool_core.specs.Calls.{Call, Facts}
+use Rattle.sqlx_pool_core.specs.Chain.{Tries}
+use Rattle.sqlx_pool_core.specs.Outside.{HasRisen}
+use Rattle.sqlx_pool_core.proofs.CheckEnds.{unopened}
+use Rattle.sqlx_pool_core.proofs.CheckEnds.{tries-cause}
 use Rattle.sqlx_pool_parts.specs.Opened.{IfUnopened, IsCounted}
 
 module _ {C O X : Type 0} (does : Call C O → X → X → Type 0) (depth : X → C → ℕ) (faults refusals : X → ℕ) (IsShort : X → Type 0) (facts : (c : Call C O) (old new : X) → does c old new → Facts faults refusals depth IsShort c old new) where

@@ -1,6 +1,6 @@
 -- The marks of a start and of a place that is used, as they are written: by whether the ticket waited, and by the numbers that were looked up.
 use Rattle.std.proofs.Common.{◌≡◌, ℕ, Bool, true, false, not, ◌&&◌, cond, [], ◌∷◌, Option, Some, None, is_some, refl, sym, subst}
-use Rattle.sqlx_log.specs.declared.mark.Mark.TheVariants.{Opened, Kept}
+use Rattle.sqlx_pool_marks.specs.declared.mark.Mark.TheVariants.{Opened, Kept}
 use Rattle.sqlx_pool_lists.specs.declared.steps.Start.{Start}
 use Rattle.sqlx_pool_lists.specs.declared.steps.Start.TheVariants as start
 use Rattle.sqlx_pool_lists.specs.declared.ticket.Phase.{Phase}

@@ -1,10 +1,10 @@
 -- What no call lowers, over the tests of a connection that comes back.
 use Rattle.std.proofs.Common.{◌≡◌, ◌≤◌, ℕ, Bool, true, false, sym, subst, arith}
-use Rattle.sqlx_member.specs.declared.outside.PoolConnectionMetadata.{PoolConnectionMetadata}
-use Rattle.sqlx_member.specs.declared.idle_check.Check.{Check}
-use Rattle.sqlx_member.specs.declared.idle_check.Check.TheVariants.{Pass, Close, CloseHard}
-use Rattle.sqlx_member.specs.Calls.{Call, ping, after_release}
-use Rattle.sqlx_member.specs.Giving.{Releases, PingsIf, Returns}
+use Rattle.sqlx_pool_core.specs.declared.outside.PoolConnectionMetadata.{PoolConnectionMetadata}
+use Rattle.sqlx_pool_core.specs.declared.idle_check.Check.{Check}
+use Rattle.sqlx_pool_core.specs.declared.idle_check.Check.TheVariants.{Pass, Close, CloseHard}
+use Rattle.sqlx_pool_core.specs.Calls.{Call, ping, after_release}
+use Rattle.sqlx_pool_core.specs.Giving.{Releases, PingsIf, Returns}
 
 trans : (a b c : ℕ) → a ≤ b → b ≤ c → a ≤ c
 trans a b c h k = omega arith

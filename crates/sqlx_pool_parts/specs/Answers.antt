@@ -1,8 +1,8 @@
 -- What is asked of the answers of steps.
 use Rattle.std.specs.Prelude.{◌≡◌, ℕ, ◌+◌, ⊤, Bool, true, false, List, Option, Some, None}
 use Rattle.std.specs.List.{list_any}
-use Rattle.sqlx_log.specs.declared.mark.Mark.{Mark}
-use Rattle.sqlx_log.specs.Marks.{is_open, is_shut, next_ticket}
+use Rattle.sqlx_pool_marks.specs.declared.mark.Mark.{Mark}
+use Rattle.sqlx_pool_marks.specs.Marks.{is_open, is_shut, next_ticket}
 use Rattle.sqlx_pool_lists.specs.Core.{Core}
 use Rattle.sqlx_pool_lists.specs.declared.steps.Lent.{Lent}
 use Rattle.sqlx_pool_lists.specs.declared.steps.Verdict.{Verdict}

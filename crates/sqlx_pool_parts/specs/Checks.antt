@@ -2,17 +2,17 @@
 use Rattle.std.specs.Prelude.{◌≡◌, ◌==◌, ℕ, ⊤, Bool, true, false, Result, Ok, if◌then◌else◌}
 use Rattle.sqlx_text.specs.declared.error.Error.{Error}
 use Rattle.sqlx_pool_lists.specs.declared.options.PoolOptions.{PoolOptions}
-use Rattle.sqlx_member.specs.declared.outside.PoolConnectionMetadata.{PoolConnectionMetadata}
+use Rattle.sqlx_pool_core.specs.declared.outside.PoolConnectionMetadata.{PoolConnectionMetadata}
 use Rattle.sqlx_pool_lists.specs.declared.steps.Idle.{Idle}
 use Rattle.sqlx_pool_lists.specs.declared.steps.Verdict.{Verdict}
 use Rattle.sqlx_pool_lists.specs.declared.steps.Verdict.TheVariants as verdict
-use Rattle.sqlx_member.specs.declared.idle_check.Check.{Check}
-use Rattle.sqlx_member.specs.declared.idle_check.Check.TheVariants as check
-use Rattle.sqlx_member.specs.declared.idle_check.Opening.{Opening}
-use Rattle.sqlx_member.specs.declared.idle_check.Opening.TheVariants as opening
-use Rattle.sqlx_member.specs.Calls.{Call, after_connect, close, close_hard}
-use Rattle.sqlx_member.specs.Chain.{Tests, Tries, new_meta}
-use Rattle.sqlx_member.specs.Giving.{Returns}
+use Rattle.sqlx_pool_core.specs.declared.idle_check.Check.{Check}
+use Rattle.sqlx_pool_core.specs.declared.idle_check.Check.TheVariants as check
+use Rattle.sqlx_pool_core.specs.declared.idle_check.Opening.{Opening}
+use Rattle.sqlx_pool_core.specs.declared.idle_check.Opening.TheVariants as opening
+use Rattle.sqlx_pool_core.specs.Calls.{Call, after_connect, close, close_hard}
+use Rattle.sqlx_pool_core.specs.Chain.{Tests, Tries, new_meta}
+use Rattle.sqlx_pool_core.specs.Giving.{Returns}
 
 -- P, if the connection passed
 abbrev pub IfPassed : Check → Type 0 → Type 0

@@ -5,3 +5,4 @@ pub mod Answers
 pub mod Checks
 pub mod Opened
 pub mod MarkLog
+pub mod Parts

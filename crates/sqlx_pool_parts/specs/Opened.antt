@@ -3,9 +3,9 @@ use Rattle.std.specs.Prelude.{◌≡◌, ◌≤◌, ◌⊎◌, ℕ, ⊤}
 use Rattle.sqlx_text.specs.declared.error.Error.{Error}
 use Rattle.sqlx_text.specs.declared.error.Error.TheVariants as error
 use Rattle.sqlx_pool_lists.specs.declared.options.PoolOptions.{PoolOptions}
-use Rattle.sqlx_member.specs.Outside.{HasRisen}
-use Rattle.sqlx_member.specs.declared.idle_check.Opening.{Opening}
-use Rattle.sqlx_member.specs.declared.idle_check.Opening.TheVariants as opening
+use Rattle.sqlx_pool_core.specs.Outside.{HasRisen}
+use Rattle.sqlx_pool_core.specs.declared.idle_check.Opening.{Opening}
+use Rattle.sqlx_pool_core.specs.declared.idle_check.Opening.TheVariants as opening
 
 -- options of a pool of this maximum: it has at least one connection, and tests 1 to 16 idle ones in a poll
 abbrev pub IsOpenable : PoolOptions → ℕ → Type 0

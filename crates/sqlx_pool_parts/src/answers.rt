@@ -1,7 +1,7 @@
 //! What the answers of steps say to the books.
 
 ghost use Rattle.std.specs.Prelude.{◌≡◌, Bool, true, false, not, ◌&&◌, is_some};
-ghost use Rattle.sqlx_member.specs.Answers.{is_held};
+ghost use Rattle.sqlx_pool_core.specs.Answers.{is_held};
 ghost use Rattle.sqlx_pool_lists.specs.PollSteps.{judged};
 ghost use Rattle.sqlx_pool_parts.specs.Answers.{lends_tested, lends_new};
 

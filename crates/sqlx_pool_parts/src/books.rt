@@ -48,7 +48,7 @@ impl<H: Ledger, L: Loans> Books<H, L> {
     // Empty books, and the tally with every part.
     pub fn new(held: Blank, loans: Blank) -> (Self, Tally<L>)
         requires held { (held.name ≡ H.name) × (held.parts ≡ H.parts) × (held.parts ≡ 2 ^ 32) }
-        requires loans { (loans.name ≡ L.name) × (loans.parts ≡ L.parts) }
+        requires loans { (loans.name ≡ L.name) × (loans.parts ≡ L.parts) × (1 ≤ loans.parts) }
         ensures books { result.0 ≡ record { owned = 0; made = 0 } }
         ensures tally { result.1 ≡ record { parts = L.parts; loans = 0 } }
     {
@@ -91,7 +91,6 @@ impl<H: Ledger, L: Loans> Books<H, L> {
 
     // A connection is lent: its share goes out, and the tally counts the loan.
     pub fn lend(&mut self, tally: &mut Tally<L>) -> Held<H>
-        requires parts { 0 < tally.old.parts }
         requires few { self.old.made + 1 < 2 ^ 64 }
         requires part { self.old.owned < 2 ^ 32 }
         ensures owned { self.new.owned ≡ self.old.owned + 1 }
@@ -106,7 +105,6 @@ impl<H: Ledger, L: Loans> Books<H, L> {
 
     // A connection is lent, or none.
     pub fn lend_if(&mut self, lends: bool, tally: &mut Tally<L>) -> Option<Held<H>>
-        requires parts { 0 < tally.old.parts }
         requires few { self.old.made + 1 < 2 ^ 64 }
         requires part { self.old.owned < 2 ^ 32 }
         ensures owned { self.new.owned ≡ self.old.owned + one_if lends }

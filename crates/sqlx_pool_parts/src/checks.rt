@@ -3,16 +3,16 @@
 
 ghost use Rattle.std.specs.Prelude.{◌≡◌, ◌==◌, ◌⊎◌, ℕ, ◌≤◌, ◌&&◌, false, not, length, IfErr, IfOk, OnErr};
 ghost use Rattle.sqlx_text.specs.declared.error.Error.{Error};
-ghost use Rattle.sqlx_member.specs.Chain.{Tests, Tries};
-ghost use Rattle.sqlx_member.specs.Outside.{HasRisen};
-ghost use Rattle.sqlx_member.specs.CameTo.{IfAccepted, IfOpened, IfFailed, IsForGood};
-ghost use Rattle.sqlx_member.specs.Giving.{Returns, is_pass};
+ghost use Rattle.sqlx_pool_core.specs.Chain.{Tests, Tries};
+ghost use Rattle.sqlx_pool_core.specs.Outside.{HasRisen};
+ghost use Rattle.sqlx_pool_core.specs.CameTo.{IfAccepted, IfOpened, IfFailed, IsForGood};
+ghost use Rattle.sqlx_pool_core.specs.Giving.{Returns, is_pass};
 ghost use Rattle.sqlx_pool_lists.specs.PollSteps.{judged};
 ghost use Rattle.sqlx_pool_parts.specs.Checks.{Closes, Hooks, IfPassed, ReturnsFlat, TestsFlat, TriesFlat, flat_check};
 ghost use Rattle.sqlx_pool_parts.specs.Opened.{IfUnopened, IsCounted, TellsLevels};
 
-use sqlx_member::idle_check::{self, Check, Opening};
-use sqlx_member::{Outside, PoolConnectionMetadata};
+use sqlx_pool_core::idle_check::{self, Check, Opening};
+use sqlx_pool_core::{Outside, PoolConnectionMetadata};
 use sqlx_pool_lists::{Idle, Lent, PoolOptions, Verdict};
 use sqlx_text::{Depth, Error, Moment};
 use std::alloc::Global;

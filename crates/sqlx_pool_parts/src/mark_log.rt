@@ -2,7 +2,7 @@
 
 ghost use Rattle.std.specs.Prelude.{◌≡◌, length};
 
-use sqlx_log::Mark;
+use sqlx_pool_marks::Mark;
 
 /// A copy of a pool's log: the marks behind a start, which is empty in a log that was never cut.
 #[derive(Drop)]

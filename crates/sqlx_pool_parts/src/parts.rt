@@ -1,17 +1,17 @@
 //! The outside of a database's pool, of a connector and hooks.
 
 ghost use Rattle.std.specs.Prelude.{◌≡◌, ◌+◌, ◌≤◌, ℕ};
-ghost use Rattle.sqlx_member.specs.Calls as call;
+ghost use Rattle.sqlx_pool_core.specs.Calls as call;
 
 use crate::Hooks;
-use sqlx_member::{Outside, PoolConnectionMetadata};
+use sqlx_pool_core::{Outside, PoolConnectionMetadata};
 use sqlx_text::{Depth, Error};
 use sqlx_traits::{Connection, Connector, Database};
 use std::alloc::Global;
 use std::marker::PhantomData;
 
 /// The outside of a database's pool: a connector opens its connections, hooks look at them, and they answer pings and
-/// close by themselves.
+/// close by themselves, hard or gently, as the pool tells.
 #[derive(Drop)]
 pub struct Parts<'a, DB: Database, K: Connector<DB>, H: Hooks<DB>> {
     connector: &'a mut K,
@@ -46,7 +46,10 @@ impl<'a, DB: Database, K: Connector<DB>, H: Hooks<DB>> Outside<DB::Connection, D
 
     ghost depth = { λ _ conn. DB.Connection.levels conn };
 
-    ghost does = { call.Facts (λ parts. K.faults parts.connector.now + parts.unanswered) (λ parts. H.refusals parts.hooks.now) (λ _ conn. DB.Connection.levels conn) (λ _. Unit {0}) };
+    ghost use Rattle.sqlx_pool_parts.specs.Parts.{Reaches};
+
+    ghost does = { λ c old new. call.Facts (λ parts. K.faults parts.connector.now + parts.unanswered) (λ parts. H.refusals parts.hooks.now) (λ _ conn. DB.Connection.levels conn) (λ _. Unit {0}) c old new
+        × Reaches H.asks DB.Connection.does DB.Connection.ends c old.hooks.now new.hooks.now };
 
     fn connect(&mut self, alloc: Global, options: &DB::Options) -> Result<DB::Connection, Error> {
         self.connector.connect(alloc, options)
@@ -96,5 +99,5 @@ impl<'a, DB: Database, K: Connector<DB>, H: Hooks<DB>> Outside<DB::Connection, D
         drop(conn.close_hard());
     }
 
-    ghost facts = { λ _ _ _ h. h };
+    ghost facts = { λ _ _ _ does. does.0 };
 }

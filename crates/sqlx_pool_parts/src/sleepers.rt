@@ -1,14 +1,24 @@
 //! Where those sleep that wait for their turn: at few places, each ticket at that of its number.
 
+use sqlx_text::Moment;
 use std::hint::spin_loop;
 use std::sync::Wait;
 use std::sync::atomic::{AtomicU64, Ordering};
+use std::time::Duration;
 
 // How many places there are.
 const PLACES: usize = 16;
 
 // How often one who waits looks for a call before it sleeps.
 const LOOKS: u32 = 100;
+
+// How long it is from one moment to another, in nanoseconds; 0 where that is past.
+fn left(now: Moment, until: u128) -> u64 {
+    match u64::try_from(until.saturating_sub(u128::from(now.0))) {
+        Ok(left) => left,
+        Err(_) => u64::MAX,
+    }
+}
 
 /// A place at which tickets wait to be called.
 #[derive(Drop)]
@@ -44,14 +54,16 @@ impl Place {
         false
     }
 
-    /// Sleeps until there is a call, unless there was one since so many; before that it looks for one for a while, where
-    /// that is wanted. It may also return without.
-    pub fn sleep<R: Wait>(&self, rt: &R, calls: u64, looks: bool) {
+    /// Sleeps until there is a call, unless there was one since so many, and for no longer than it is from now to a
+    /// moment; before that it looks for a call for a while, where that is wanted. It may also return without.
+    pub fn sleep<R: Wait>(&self, rt: &R, calls: u64, looks: bool, now: Moment, until: u128) {
         if looks && self.is_called(calls) {
             return;
         }
+        let at_most = Duration::from_nanos(left(now, until));
         self.asleep.fetch_add(1, Ordering::SeqCst);
-        self.calls.park(rt, (calls & 0xffff_ffff) as u32);
+        self.calls
+            .park_timeout(rt, (calls & 0xffff_ffff) as u32, at_most);
         self.asleep.fetch_sub(1, Ordering::SeqCst);
     }
 

@@ -3,11 +3,12 @@
 ghost use Rattle.std.specs.Prelude.{◌≡◌, ℕ, ◌+◌, ◌^◌, ◌<◌, ◌≤◌, Bool, true, false};
 ghost use Rattle.sqlx_pool_parts.specs.Booked.{Tallied, CountsIf};
 
+use sqlx_pool_history::Naming;
 use std::marker::{Brand, Model};
 use std::sync::ledger::{Book, Ledger, Share};
 
-/// The ledger of a pool's loans, and what is settled of the pool when it is made.
-pub trait Loans: Ledger {
+/// The ledger of a pool's loans, the history of its states, and what is settled of the pool when it is made.
+pub trait Loans: Ledger + Naming {
     /// How many connections the pool has at most.
     ghost max: { ℕ };
 
@@ -48,7 +49,7 @@ impl<H: Ledger> Held<H> {
     }
 }
 
-/// Some parts of the ledger of a pool's loans, and how many loans were counted in it. The tally with every part has
+/// One part or more of the ledger of a pool's loans, and how many loans were counted in it. The tally with every part has
 /// counted all loans of its pool.
 #[derive(Drop)]
 pub struct Tally<L: Loans> {
@@ -57,20 +58,20 @@ pub struct Tally<L: Loans> {
 }
 
 impl<L: Loans> Model for Tally<L> {
-    ghost use Rattle.std.specs.Prelude.{◌≡◌};
+    ghost use Rattle.std.specs.Prelude.{◌≡◌, ◌≤◌};
     ghost use Rattle.sqlx_pool_parts.specs.Booked.{Tallied};
 
     ghost Value = { Tallied };
 
     ghost view = { λ t. record { parts = t.share.parts; loans = t.loans } };
 
-    ghost invariant = { λ t. t.share.amount ≡ t.loans };
+    ghost invariant = { λ t. (t.share.amount ≡ t.loans) × (1 ≤ t.share.parts) };
 }
 
 impl<L: Loans> Tally<L> {
     // A tally in which no loan was counted.
     pub(crate) fn new(share: Share<L>) -> Self
-        requires { share.amount ≡ 0 }
+        requires { (share.amount ≡ 0) × (1 ≤ share.parts) }
         ensures { result ≡ record { parts = share.parts; loans = 0 } }
     {
         Tally { share, loans: 0 }
@@ -78,8 +79,7 @@ impl<L: Loans> Tally<L> {
 
     // Counts one loan, in the book too.
     pub(crate) fn count(&mut self, book: &mut Book<L>)
-        requires parts { 0 < self.old.parts }
-        requires few { book.old.total + 1 < 2 ^ 64 }
+        requires { book.old.total + 1 < 2 ^ 64 }
         ensures counted { CountsIf true self.old self.new }
         ensures total { book.new.total ≡ book.old.total + 1 }
     {

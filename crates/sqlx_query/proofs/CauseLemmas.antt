@@ -4,7 +4,7 @@ use Rattle.sqlx_text.specs.declared.error.Error.{Error}
 use Rattle.sqlx_text.specs.declared.error.Error.TheVariants as error
 use Rattle.sqlx_text.specs.declared.fault.Fault.{Fault}
 use Rattle.sqlx_traits.specs.StepList.{StepCause, StepCauses, first_error, or_error, values_of}
-use Rattle.sqlx_query_parts.specs.Mapping.{MapsAll, MappedRows, ReadsAll, ReadsOne, Refused, RefusedBy, alike}
+use Rattle.sqlx_query_rows.specs.Mapping.{MapsAll, MappedRows, ReadsAll, ReadsOne, Refused, RefusedBy, alike}
 
 -- want of memory is no fault that is counted
 memory : {A : Type 0} (n now : ℕ) (arguments : Result A Fault) → StepCause n now arguments error.OutOfMemory

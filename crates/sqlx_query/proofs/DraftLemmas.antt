@@ -2,8 +2,8 @@
 use Rattle.std.proofs.Common.{◌≡◌, ℕ, ◌≤◌, Bool, true, false, List, [], ◌∷◌, ◌++◌, length, take, refl, sym, ap, ◌∙◌, subst, arith}
 use Rattle.std.proofs.lemmas.List.{append-nil, append_assoc, length-append, take-append-le}
 use Rattle.sqlx_traits.specs.Arguments.{AddsOne}
-use Rattle.sqlx_query_parts.specs.Builder.{Piece, Text, Bound, Draft, arguments_of, with_piece, with_pieces, AddsOneEach, Extends, Gains, cut_to, entry, opening, tuple, tuples_from, tuples_of}
-use Rattle.sqlx_query_parts.specs.Tuples.{WritesEach}
+use Rattle.sqlx_query_drafts.specs.Builder.{Piece, Text, Bound, Draft, arguments_of, with_piece, with_pieces, AddsOneEach, Extends, Gains, cut_to, entry, opening, tuple, tuples_from, tuples_of}
+use Rattle.sqlx_query_drafts.specs.Tuples.{WritesEach}
 
 -- pieces behind pieces
 pub with_pieces-append : {L : Type 0} (d : Draft L) (ps qs : List (Piece L)) → with_pieces d (ps ++ qs) ≡ with_pieces (with_pieces d ps) qs

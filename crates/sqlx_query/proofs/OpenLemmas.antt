@@ -1,6 +1,6 @@
 -- Drafts of which no query was made yet, and that gain pieces.
 use Rattle.std.proofs.Common.{◌≡◌, ℕ, false, List, [], ◌∷◌, refl, ap, ◌∙◌}
-use Rattle.sqlx_query_parts.specs.Builder.{Piece, Draft, with_piece, with_pieces, Gains}
+use Rattle.sqlx_query_drafts.specs.Builder.{Piece, Draft, with_piece, with_pieces, Gains}
 
 built-with_pieces : {L : Type 0} (d : Draft L) (ps : List (Piece L)) → (with_pieces d ps).built ≡ d.built
 built-with_pieces d [] = refl

@@ -1,7 +1,7 @@
 -- Placeholders and arguments, one for one.
 use Rattle.std.proofs.Common.{◌≡◌, ℕ, ◌+◌, ◌≤◌, List, [], ◌∷◌, ◌++◌, refl, sym, ap, ◌∙◌, arith}
 use Rattle.std.proofs.lemmas.List.{append-nil, append_assoc}
-use Rattle.sqlx_query_parts.specs.Builder.{Piece, Text, Bound, Draft, text_of_pieces, piece_text, arguments_of, placeholders, with_piece, with_pieces, AddsOneEach, Gains, CountsPlaceholders, NumbersPlaceholders, AppendsTexts}
+use Rattle.sqlx_query_drafts.specs.Builder.{Piece, Text, Bound, Draft, text_of_pieces, piece_text, arguments_of, placeholders, with_piece, with_pieces, AddsOneEach, Gains, CountsPlaceholders, NumbersPlaceholders, AppendsTexts}
 use Rattle.sqlx_query.proofs.DraftLemmas.{arguments-with_pieces}
 
 text-with_pieces : {L : Type 0} (d : Draft L) (ps : List (Piece L)) → (with_pieces d ps).text ≡ d.text ++ text_of_pieces ps

@@ -1,7 +1,7 @@
 -- What reads each row alike, as a mapper that doesn't change.
 use Rattle.std.proofs.Common.{inl, inr, List, [], ◌∷◌, Result, Ok, Err}
 use Rattle.sqlx_text.specs.declared.error.Error.{Error}
-use Rattle.sqlx_query_parts.specs.Mapping.{MapsAll, MappedRows, ReadsAll, alike}
+use Rattle.sqlx_query_rows.specs.Mapping.{MapsAll, MappedRows, ReadsAll, alike}
 
 rows_alike : {M R B : Type 0} (read : R → Result B Error → Type 0) (rows : List (Result R Error)) (start : M) (items : List (Result B Error))
     → MappedRows (alike {M = M} read) rows start items → MappedRows (alike {M = Unit {0}} read) rows tt items

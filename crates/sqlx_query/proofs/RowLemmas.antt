@@ -2,9 +2,9 @@
 use Rattle.std.proofs.Common.{◌≡◌, ℕ, Bool, false, List, [], ◌∷◌, ◌++◌, Result, Ok, Err, sym, subst}
 use Rattle.sqlx_text.specs.declared.fault.Fault.{Fault}
 use Rattle.sqlx_traits.specs.Arguments.{AddsOne}
-use Rattle.sqlx_query_parts.specs.declared.row_parts.RowParts.{RowParts}
-use Rattle.sqlx_query_parts.specs.Builder.{Piece, Text, Bound, Draft, with_piece, entry, Gains, Appends}
-use Rattle.sqlx_query_parts.specs.Tuples.{behind, OnlyAppends, RefusesTuple, WritesRow}
+use Rattle.sqlx_query_drafts.specs.declared.row_parts.RowParts.{RowParts}
+use Rattle.sqlx_query_drafts.specs.Builder.{Piece, Text, Bound, Draft, with_piece, entry, Gains, Appends}
+use Rattle.sqlx_query_drafts.specs.Tuples.{behind, OnlyAppends, RefusesTuple, WritesRow}
 use Rattle.sqlx_query.proofs.DraftLemmas.{gains_then}
 
 module _ {L : Type 0} (count : L → ℕ) (first : ℕ → L → L) where

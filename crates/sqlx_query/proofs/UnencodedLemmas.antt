@@ -5,7 +5,7 @@ use Rattle.sqlx_text.specs.declared.error.Error.TheVariants as error
 use Rattle.sqlx_text.specs.declared.fault.Fault.{Fault}
 use Rattle.sqlx_traits.specs.Reads.{Answers}
 use Rattle.sqlx_traits.specs.StepList.{RunsNothing}
-use Rattle.sqlx_query_parts.specs.Mapping.{MapsAll, ReadsOne, ReadsOptional}
+use Rattle.sqlx_query_rows.specs.Mapping.{MapsAll, ReadsOne, ReadsOptional}
 
 -- the one error in place of the rows is the answer in place of all of them
 all_of_one_error : {M R B V : Type 0} (seen : V → List B) (maps : M → R → Result B Error → M → Type 0) (e : Error) (start : M) (r : Result V Error)

@@ -1,6 +1,6 @@
-pub use Rattle.sqlx_query_parts.specs.Query
-pub use Rattle.sqlx_query_parts.specs.Binding
-pub use Rattle.sqlx_query_parts.specs.Mapping
-pub use Rattle.sqlx_query_parts.specs.Growing
-pub use Rattle.sqlx_query_parts.specs.Builder
-pub use Rattle.sqlx_query_parts.specs.Tuples
+pub use Rattle.sqlx_query_drafts.specs.Query
+pub use Rattle.sqlx_query_drafts.specs.Binding
+pub use Rattle.sqlx_query_rows.specs.Mapping
+pub use Rattle.sqlx_query_drafts.specs.Growing
+pub use Rattle.sqlx_query_drafts.specs.Builder
+pub use Rattle.sqlx_query_drafts.specs.Tuples

@@ -3,13 +3,13 @@ ghost use Rattle.std.specs.Prelude.{◌≡◌, ◌≤◌, ◌∷◌, [], Bool, I
 ghost use Rattle.std.specs.Str.{IsUtf8};
 ghost use Rattle.sqlx_text.specs.declared.fault.Fault.{Fault};
 ghost use Rattle.sqlx_traits.specs.Arguments.{AddsOne};
-ghost use Rattle.sqlx_query_parts.specs.Query as asked;
-ghost use Rattle.sqlx_query_parts.specs.Binding.{OrWantOfMemory};
-ghost use Rattle.sqlx_query_parts.specs.Builder.{Gains, GainsBound, Piece, alone, cut_to, fresh_draft, with_piece};
+ghost use Rattle.sqlx_query_drafts.specs.Query as asked;
+ghost use Rattle.sqlx_query_drafts.specs.Binding.{OrWantOfMemory};
+ghost use Rattle.sqlx_query_drafts.specs.Builder.{Gains, GainsBound, Piece, alone, cut_to, fresh_draft, with_piece};
 
 use crate::{Query, QueryAs, QueryScalar, ReadQuery, Separated};
 use either::Either;
-use sqlx_query_parts::{Mark, StatementDraft};
+use sqlx_query_drafts::{Mark, StatementDraft};
 use sqlx_text::{AssertSqlSafe, Fault, OutOfMemory, SqlSafeStr, SqlStr};
 use sqlx_traits::{ArgumentList, Arguments, Database, Encode, IntoArguments, SqlType};
 use std::alloc::Global;
@@ -25,7 +25,7 @@ pub struct QueryBuilder<DB: Database> {
 }
 
 impl<DB: Database> Model for QueryBuilder<DB> {
-    ghost use Rattle.sqlx_query_parts.specs.Builder.{Draft};
+    ghost use Rattle.sqlx_query_drafts.specs.Builder.{Draft};
 
     ghost Value = { Draft DB.ArgumentBuffer };
 

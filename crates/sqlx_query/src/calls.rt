@@ -1,6 +1,6 @@
 //! Queries of a text.
 ghost use Rattle.std.specs.Prelude.{◌≡◌, IfOk, None, Ok};
-ghost use Rattle.sqlx_query_parts.specs.Query.{BeginsEmpty, fresh_query};
+ghost use Rattle.sqlx_query_drafts.specs.Query.{BeginsEmpty, fresh_query};
 
 use crate::{Query, QueryAs, QueryScalar, RawSql, ReadQuery};
 use sqlx_text::{Fault, OutOfMemory, SqlSafeStr};

@@ -1,8 +1,8 @@
 //! Entries of a list, which are appended to a builder with a separator between them.
 ghost use Rattle.std.specs.Prelude.{◌≡◌, Bool, IfErr, OnErr, OnOk};
 ghost use Rattle.sqlx_text.specs.declared.fault.Fault.{Fault};
-ghost use Rattle.sqlx_query_parts.specs.Binding.{OrWantOfMemory};
-ghost use Rattle.sqlx_query_parts.specs.Builder.{Gains, GainsEntry, Piece, entry, with_piece};
+ghost use Rattle.sqlx_query_drafts.specs.Binding.{OrWantOfMemory};
+ghost use Rattle.sqlx_query_drafts.specs.Builder.{Gains, GainsEntry, Piece, entry, with_piece};
 
 use crate::QueryBuilder;
 use sqlx_text::{Fault, OutOfMemory};

@@ -18,10 +18,9 @@ pub use calls::{
 };
 pub use placeholders::placeholders_are_arguments;
 pub use separated::Separated;
-pub use sqlx_from_row::{FromColumn, FromRow};
-pub use sqlx_query_parts::{
-    AsRows, AsScalars, Each, MapManyStream, MapStream, Mapped, MappedRowList, MappedStepList,
-    Mapper, Reader, TryEach,
+pub use sqlx_query_rows::{
+    AsRows, AsScalars, Each, FromColumn, FromRow, MapManyStream, MapStream, Mapped, MappedRowList,
+    MappedStepList, Mapper, Reader, TryEach,
 };
 pub use statements::{
     StatementQuery, query_statement, query_statement_as, query_statement_as_with,

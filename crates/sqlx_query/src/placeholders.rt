@@ -1,5 +1,5 @@
 //! What holds of the placeholders of every statement that is built, whatever calls built it.
-ghost use Rattle.sqlx_query_parts.specs.Builder.{AppendsTexts, CountsPlaceholders, NumbersPlaceholders};
+ghost use Rattle.sqlx_query_drafts.specs.Builder.{AppendsTexts, CountsPlaceholders, NumbersPlaceholders};
 
 use sqlx_traits::{ArgumentList, Database};
 

@@ -1,8 +1,8 @@
 //! Lists whose entries are appended to a statement with a separator between them.
 ghost use Rattle.std.specs.Prelude.{◌≡◌, ◌∷◌, [], Bool, IfErr, OnErr, OnOk};
 ghost use Rattle.sqlx_text.specs.declared.fault.Fault.{Fault};
-ghost use Rattle.sqlx_query_parts.specs.Binding.{OrWantOfMemory};
-ghost use Rattle.sqlx_query_parts.specs.Builder.{Gains, GainsBound, GainsEntry, Piece, alone, entry};
+ghost use Rattle.sqlx_query_drafts.specs.Binding.{OrWantOfMemory};
+ghost use Rattle.sqlx_query_drafts.specs.Builder.{Gains, GainsBound, GainsEntry, Piece, alone, entry};
 
 use crate::QueryBuilder;
 use sqlx_text::{Fault, OutOfMemory};

@@ -1,6 +1,6 @@
 //! Queries of a prepared statement, as functions and as calls of the statement.
 ghost use Rattle.std.specs.Prelude.{◌≡◌, Ok, Some};
-ghost use Rattle.sqlx_query_parts.specs.Query.{BeginsEmpty, fresh_query};
+ghost use Rattle.sqlx_query_drafts.specs.Query.{BeginsEmpty, fresh_query};
 
 use crate::{Query, QueryAs, QueryScalar, ReadQuery};
 use sqlx_traits::{ArgumentList, Arguments, Database, Either, IntoArguments, Statement};

@@ -1,12 +1,12 @@
 //! The row that a closure writes a tuple of values into.
 ghost use Rattle.std.specs.Prelude.{◌≡◌, ◌∷◌, [], Bool, IfErr, OnErr, OnOk};
 ghost use Rattle.sqlx_text.specs.declared.fault.Fault.{Fault};
-ghost use Rattle.sqlx_query_parts.specs.Binding.{OrWantOfMemory};
-ghost use Rattle.sqlx_query_parts.specs.Builder.{Appends, Piece, alone};
-ghost use Rattle.sqlx_query_parts.specs.Tuples.{RowGains, RowGainsBound, behind, comma};
+ghost use Rattle.sqlx_query_drafts.specs.Binding.{OrWantOfMemory};
+ghost use Rattle.sqlx_query_drafts.specs.Builder.{Appends, Piece, alone};
+ghost use Rattle.sqlx_query_drafts.specs.Tuples.{RowGains, RowGainsBound, behind, comma};
 
 use crate::QueryBuilder;
-use sqlx_query_parts::{RowParts, StatementDraft};
+use sqlx_query_drafts::{RowParts, StatementDraft};
 use sqlx_text::{Fault, OutOfMemory};
 use sqlx_traits::{ArgumentList, Arguments, Database, Encode, SqlType};
 use std::alloc::Global;

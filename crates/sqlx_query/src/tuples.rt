@@ -1,9 +1,9 @@
 //! Lists of tuples in parentheses, for `VALUES` and `IN`, each written by a closure.
 ghost use Rattle.std.specs.Prelude.{◌≡◌, [], Bool, IfErr, IfOk, OnErr, OnOk, codes};
 ghost use Rattle.std.specs.Iterator.{Drains, IsFinite};
-ghost use Rattle.sqlx_query_parts.specs.Binding.{OrWantOfMemory};
-ghost use Rattle.sqlx_query_parts.specs.Builder.{Appends, Extends, opening, with_pieces};
-ghost use Rattle.sqlx_query_parts.specs.Tuples.{GainsRows, OnlyAppends, RefusesTuple, WritesRow, WritesTuple, WritesTuples, behind};
+ghost use Rattle.sqlx_query_drafts.specs.Binding.{OrWantOfMemory};
+ghost use Rattle.sqlx_query_drafts.specs.Builder.{Appends, Extends, opening, with_pieces};
+ghost use Rattle.sqlx_query_drafts.specs.Tuples.{GainsRows, OnlyAppends, RefusesTuple, WritesRow, WritesTuple, WritesTuples, behind};
 
 use crate::{QueryBuilder, TupleRow};
 use sqlx_text::{Fault, OutOfMemory};

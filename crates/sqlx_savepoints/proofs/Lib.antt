@@ -2,3 +2,14 @@ pub mod StepByStep
 pub mod SavepointTheorem
 pub mod Laid
 pub mod Examples
+pub mod Kept
+pub mod Struck
+pub mod Undone
+pub mod CutAway
+pub mod Tells
+pub mod Swaps
+pub mod StoreOf
+pub mod Readers
+pub mod Linking
+pub mod Answering
+pub mod BracketExamples

@@ -3,3 +3,10 @@ pub mod Texts
 pub mod NamedSavepoints
 pub mod NestedLevels
 pub mod Levels
+pub mod Changes
+pub mod Brackets
+pub mod Standing
+pub mod Stores
+pub mod Links
+pub mod Events
+pub mod Laws

@@ -1,5 +1,5 @@
-//! Levels of a transaction on one connection: the texts that begin and end them, what savepoints
-//! by name do with rows, and the law that the ANSI texts make nested levels of them.
+//! Levels of a transaction: the texts that begin and end them, what savepoints by name do with rows, the law that the ANSI
+//! texts make nested levels of them, and which writes of a history stand, by the brackets around them.
 #![tactic(auto)]
 
 mod ansi;

@@ -2,14 +2,15 @@
 use Rattle.std.proofs.Common.{◌≡◌, ℕ, Bool, true, false, cond, List, [], ◌∷◌, Option, Some, codes, refl, arith}
 use Rattle.std.specs.Str.{bytes_eq}
 use Rattle.std.proofs.lemmas.Bool.Decides.{nat_tests}
-use Rattle.sqlx_script.specs.Numbers.{number_in, name_number, opens, tests}
+use Rattle.sqlx_lines.specs.Numbers.{number_in, name_number}
+use Rattle.sqlx_script.specs.Numbers.{opens, tests}
 use Rattle.sqlx_script.specs.Letters.{poll_answers, answering}
-use Rattle.sqlx_script.specs.Rows.{row, row_if, ended, words0, words1, words2, words3, words4, words5}
+use Rattle.sqlx_lines.specs.Rows.{row, row_if, ended, words0, words1, words2, words3, words4, words5}
 use Rattle.sqlx_script.specs.Built.{is_few, has_few_opens}
 use Rattle.sqlx_script.specs.Grammar.{statement_of, put_words, poll_words, step_of}
 use Rattle.sqlx_script.specs.declared.step.Step.{Step}
 use Rattle.sqlx_script.specs.declared.step.Step.TheVariants.{Ask, Poll, Cancel, Try, Give, End, Detach, Leak, Reap, Min, CloseState, Begin, Custom, Put, Del, Get, Commit, Rollback, GiveUp, Close}
-use Rattle.sqlx_script.proofs.Rows.{bound}
+use Rattle.sqlx_lines.proofs.Rows.{bound}
 
 -- a word that tells how many connects succeed tells few
 opens_few : (w : List ℕ) (n : ℕ) → opens w ≡ Some n → is_few n ≡ true

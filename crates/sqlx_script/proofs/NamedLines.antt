@@ -4,10 +4,10 @@ use Rattle.std.specs.Str.{bytes_eq}
 use Rattle.std.proofs.lemmas.Bool.{eqb-true}
 use Rattle.std.proofs.Common.{rules}
 use Rattle.std.proofs.lemmas.Slice.Eq.{bytes_eq-Decides}
-use Rattle.sqlx_script.specs.Words.{is_blank, ends_word, has_end, has_newline, words_in_front, words_behind}
-use Rattle.sqlx_script.proofs.Fronts as fronts
-use Rattle.sqlx_script.proofs.Fronts.{split}
-use Rattle.sqlx_script.specs.Numbers.{◌>>=◌, millis}
+use Rattle.sqlx_lines.specs.Words.{is_blank, ends_word, has_end, has_newline, words_in_front, words_behind}
+use Rattle.sqlx_lines.proofs.Fronts as fronts
+use Rattle.sqlx_lines.proofs.Fronts.{split}
+use Rattle.sqlx_lines.specs.Numbers.{◌>>=◌, millis}
 use Rattle.sqlx_script.specs.Names.{text_of}
 use Rattle.sqlx_script.specs.Grammar.{statement_of, step_of, event_words}
 use Rattle.sqlx_script.specs.declared.names.Name.{Name}

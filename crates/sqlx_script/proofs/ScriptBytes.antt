@@ -1,5 +1,5 @@
 -- Each byte of a valid script is a newline or from 0x20 to 0x7E.
-use Rattle.std.proofs.Common.{◌≡◌, ℕ, zero, suc, ◌+◌, ◌-◌, ◌^◌, ◌==◌, ◌&&◌, Bool, true, false, not, cond, IsTrue, List, [], ◌∷◌, Option, Some, None, length, take, slice_index, codes, refl, sym, ap, subst, ◌∙◌, inl, inr, nat_lt, nat_le, arith}
+use Rattle.std.proofs.Common.{◌++◌, ◌≡◌, ℕ, zero, suc, ◌+◌, ◌-◌, ◌^◌, ◌==◌, ◌&&◌, Bool, true, false, not, cond, IsTrue, List, [], ◌∷◌, Option, Some, None, length, take, slice_index, codes, refl, sym, ap, subst, ◌∙◌, inl, inr, nat_lt, nat_le, arith}
 use Rattle.std.specs.Char.{is_ascii_digit}
 use Rattle.std.specs.Str.{all_ascii_digits, bytes_eq}
 use Rattle.std.specs.Str.Parse.{digits_value}
@@ -7,13 +7,16 @@ use Rattle.std.specs.List.{list_all, slice_split, onto_first}
 use Rattle.std.proofs.lemmas.Bool.{cases_Bool, cond-true, cond-false, and_parts, and_from}
 use Rattle.std.proofs.lemmas.Bool.Decides.{nat_tests}
 use Rattle.std.proofs.lemmas.Slice.Eq.{bytes_eq-Decides}
-use Rattle.sqlx_script.specs.Words.{is_blank, words_of, ends_well, lines_of, longer}
-use Rattle.sqlx_script.specs.Numbers.{◌>>=◌, is_number, has_leading_zero, number_in, value, plain_value, minus_value, limit_nanos, millis, nanos, name_number, opens, key}
+use Rattle.sqlx_lines.specs.Words.{is_blank, words_of, ends_well, lines_of, longer}
+use Rattle.sqlx_lines.specs.Numbers.{◌>>=◌, is_number, has_leading_zero, number_in, value, plain_value, minus_value, millis, nanos, name_number, key}
+use Rattle.sqlx_script.specs.Numbers.{limit_nanos, opens}
 use Rattle.sqlx_script.specs.Letters.{plus_or_minus, hook_letter, after_connect_letter, connect_letter, statement_letter, sign, statement, poll_answers, give_answers, switches}
-use Rattle.sqlx_script.specs.Rows.{row, row_if, ended, words0, words1, words2, words3, words4, words5}
-use Rattle.sqlx_script.proofs.Rows.{bound}
+use Rattle.sqlx_lines.specs.Rows.{row, row_if, ended, words0, words1, words2, words3, words4, words5}
+use Rattle.sqlx_lines.proofs.Rows.{bound}
 use Rattle.sqlx_script.specs.Laws.{is_plain, is_script_byte}
-use Rattle.sqlx_script.specs.Grammar.{statement_of, put_words, poll_words, step_of, pool_name, limits_after, event_words, pool_words, event_of, pool_of, whole, Reading, reading_at, reading_from, Script, script_after, script_lines, IsScript}
+use Rattle.sqlx_script.specs.Grammar.{last_moment, not_before, pool_grammar, statement_of, put_words, poll_words, step_of, pool_name, limits_after, event_words, pool_words, event_of, pool_of}
+use Rattle.sqlx_lines.specs.Words.{whole}
+use Rattle.sqlx_lines.specs.Scripts.{Reading, reading_at, reading_from, Script, script_after, script_lines, IsScript}
 use Rattle.sqlx_script.specs.declared.answers.HookAnswer.{HookAnswer}
 use Rattle.sqlx_script.specs.declared.answers.AfterConnectAnswer.{AfterConnectAnswer}
 use Rattle.sqlx_script.specs.declared.answers.ConnectAnswer.{ConnectAnswer}
@@ -393,36 +396,33 @@ ok_bytes (b ∷ bytes) h = elim (cases_Bool (b == 10)) [
 ]
 
 -- a line that is an event, before lines of which none is bad where none of them is
-good_event : (counts_tests : Bool) (n last : ℕ) (line : List ℕ) (lines : List (List ℕ)) (o : Option Event) → event_of counts_tests line ≡ o
-    → ((now : ℕ) → (reading_from counts_tests (n + 1) now lines).bad ≡ None → all_ok lines ≡ true)
-    → (reading_at n last (λ now. reading_from counts_tests (n + 1) now lines) o).bad ≡ None → all_ok (line ∷ lines) ≡ true
-good_event counts_tests n last line lines None e rest h = cc
-good_event counts_tests n last line lines (Some event) e rest h = elim (cases_Bool (nat_lt event.moment.0 last)) [
-  | inl yes' ↦
-      let none : Some n ≡ None = ap (λ (r : Reading). r.bad) (sym (cond-true (nat_lt event.moment.0 last) (record { events = []; bad = Some n }) _ yes')) ∙ h in
-      cc
-  | inr no' ↦
-      let later : (reading_from counts_tests (n + 1) event.moment.0 lines).bad ≡ None = ap (λ (r : Reading). r.bad) (sym (cond-false (nat_lt event.moment.0 last) _ _ no')) ∙ h in
-      and_from (ok line) (all_ok lines) (event_ok counts_tests line event e) (rest event.moment.0 later)
-]
+good_event : (pool : PoolLine) (n : ℕ) (done : List Event) (line : List ℕ) (lines : List (List ℕ)) (o : Option Event) → event_of pool.counts_tests line ≡ o
+    → ((es : List Event) → (reading_from pool_grammar pool (n + 1) es lines).bad ≡ None → all_ok lines ≡ true)
+    → (reading_at n (λ event. reading_from pool_grammar pool (n + 1) (done ++ event ∷ []) lines) (not_before (last_moment done) o)).bad ≡ None → all_ok (line ∷ lines) ≡ true
+good_event pool n done line lines None e rest h = cc
+good_event pool n done line lines (Some event) e rest h = by_test (nat_lt event.moment.0 (last_moment done)) h
+  where
+    by_test : (falls : Bool) → (reading_at n (λ event. reading_from pool_grammar pool (n + 1) (done ++ event ∷ []) lines) (cond falls None (Some event))).bad ≡ None → all_ok (line ∷ lines) ≡ true
+    by_test true h = cc
+    by_test false h = and_from (ok line) (all_ok lines) (event_ok pool.counts_tests line event e) (rest (done ++ event ∷ []) h)
 
 -- lines of which none is bad
-good_lines : (counts_tests : Bool) (lines : List (List ℕ)) (n last : ℕ) → (reading_from counts_tests n last lines).bad ≡ None → all_ok lines ≡ true
+good_lines : (pool : PoolLine) (lines : List (List ℕ)) (n : ℕ) (done : List Event) → (reading_from pool_grammar pool n done lines).bad ≡ None → all_ok lines ≡ true
 unfolding reading_from
-good_lines counts_tests [] n last h = refl
-good_lines counts_tests (line ∷ lines) n last h = good_event counts_tests n last line lines (event_of counts_tests line) refl (λ now. good_lines counts_tests lines (n + 1) now) h
+good_lines pool [] n done h = refl
+good_lines pool (line ∷ lines) n done h = good_event pool n done line lines (event_of pool.counts_tests line) refl (λ es. good_lines pool lines (n + 1) es) h
 
-good_script : (line : List ℕ) (lines : List (List ℕ)) (script : Script) (o : Option PoolLine) → pool_of line ≡ o → script_after o lines ≡ Some script → script.lines.bad ≡ None → all_ok (line ∷ lines) ≡ true
+good_script : (line : List ℕ) (lines : List (List ℕ)) (script : Script PoolLine Event) (o : Option PoolLine) → pool_of line ≡ o → script_after pool_grammar o lines ≡ Some script → script.lines.bad ≡ None → all_ok (line ∷ lines) ≡ true
 good_script line lines script None e reads good = cc
 good_script line lines script (Some pool) e reads good =
-    let same : reading_from pool.counts_tests 2 0 lines ≡ script.lines = cc in
-    and_from (ok line) (all_ok lines) (pool_ok line pool e) (good_lines pool.counts_tests lines 2 0 (ap (λ (r : Reading). r.bad) same ∙ good))
+    let same : reading_from pool_grammar pool 2 [] lines ≡ script.lines = cc in
+    and_from (ok line) (all_ok lines) (pool_ok line pool e) (good_lines pool lines 2 [] (ap (λ (r : Reading Event). r.bad) same ∙ good))
 
-good_whole : (lines : List (List ℕ)) (script : Script) → script_lines lines ≡ Some script → script.lines.bad ≡ None → all_ok lines ≡ true
+good_whole : (lines : List (List ℕ)) (script : Script PoolLine Event) → script_lines pool_grammar lines ≡ Some script → script.lines.bad ≡ None → all_ok lines ≡ true
 unfolding script_lines
 good_whole [] script reads good = refl
 good_whole (line ∷ lines) script reads good = good_script line lines script (pool_of line) refl reads good
 
 -- each byte of a valid script may stand in a script
-pub script_bytes : (bytes : List ℕ) (script : Script) → IsScript bytes script → IsTrue (list_all is_script_byte bytes)
+pub script_bytes : (bytes : List ℕ) (script : Script PoolLine Event) → IsScript pool_grammar bytes script → IsTrue (list_all is_script_byte bytes)
 script_bytes bytes script s = ok_bytes bytes (good_whole (lines_of bytes) script s.reads s.good)

@@ -1,15 +1,15 @@
 -- Words of a fixed length, without an end of a word.
 use Rattle.std.proofs.Common.{◌≡◌, ◌++◌, ℕ, ◌<◌, Bool, true, false, List, [], ◌∷◌, Option, Some, None, length, get_or, take, refl, sym, ap, ◌∙◌, arith}
 use Rattle.std.proofs.lemmas.Bool.{ne_eqb}
-use Rattle.sqlx_script.specs.Words.{ends_word, has_end, has_newline, words_in_front}
+use Rattle.sqlx_lines.specs.Words.{ends_word, has_end, has_newline, words_in_front}
 use Rattle.sqlx_script.specs.Letters.{plus_or_minus, hook_letter, connect_letter, after_connect_letter, statement_letter, sign, statement, poll_answers, give_answers}
 use Rattle.sqlx_script.specs.declared.answers.HookAnswer.{HookAnswer}
 use Rattle.sqlx_script.specs.declared.answers.AfterConnectAnswer.{AfterConnectAnswer}
 use Rattle.sqlx_script.specs.declared.answers.ConnectAnswer.{ConnectAnswer}
 use Rattle.sqlx_script.specs.declared.answers.StatementAnswer.{StatementAnswer}
-use Rattle.sqlx_script.specs.Rows.{word, Takes}
-use Rattle.sqlx_script.proofs.Rows.{bound}
-use Rattle.sqlx_script.proofs.Fronts.{front, split}
+use Rattle.sqlx_lines.specs.Rows.{word, Takes}
+use Rattle.sqlx_lines.proofs.Rows.{bound}
+use Rattle.sqlx_lines.proofs.Fronts.{front, split}
 
 -- ---- kinds of words of one length
 

@@ -1,10 +1,13 @@
 -- Lines and scripts, valid and damaged, read by computing.
 use Rattle.std.proofs.Common.{◌≡◌, ◌++◌, true, false, [], codes, Some, None, refl, negsuc}
-use Rattle.sqlx_script.specs.Numbers.{number_in, limit_nanos, value}
+use Rattle.sqlx_lines.specs.Numbers.{number_in, value}
+use Rattle.sqlx_script.specs.Numbers.{limit_nanos}
 use Rattle.sqlx_script.specs.Letters.{plus_or_minus, hook_letter, after_connect_letter, connect_letter, statement_letter, statement, poll_answers, switches}
-use Rattle.sqlx_script.specs.Rows.{words1, words5}
-use Rattle.sqlx_script.specs.Texts.{line_of}
-use Rattle.sqlx_script.specs.Grammar.{statement_of, put_words, poll_words, step_of, pool_name, limits_after, event_words, pool_words, event_of, pool_of, reading_from, script_lines, first_bad, whole}
+use Rattle.sqlx_lines.specs.Rows.{words1, words5}
+use Rattle.sqlx_lines.specs.Words.{line_of}
+use Rattle.sqlx_script.specs.Grammar.{pool_grammar, statement_of, put_words, poll_words, step_of, pool_name, limits_after, event_words, pool_words, event_of, pool_of}
+use Rattle.sqlx_lines.specs.Scripts.{reading_from, script_lines, first_bad}
+use Rattle.sqlx_lines.specs.Words.{whole}
 use Rattle.sqlx_script.specs.declared.answers.StatementAnswer.TheVariants.{Runs}
 use Rattle.sqlx_script.specs.declared.answers.HookAnswer.TheVariants.{LeavesOpen}
 use Rattle.sqlx_script.specs.declared.answers.AfterConnectAnswer.TheVariants.{SetUpFails}
@@ -106,23 +109,23 @@ pool_of_none = refl
 
 -- ---- scripts
 
-no_bytes : first_bad [] ≡ Some 1
+no_bytes : first_bad pool_grammar [] ≡ Some 1
 unfolding script_lines
 no_bytes = refl
 
-first_line_is_bad : first_bad (line_of (codes "ask 5 7")) ≡ Some 1
+first_line_is_bad : first_bad pool_grammar (line_of (codes "ask 5 7")) ≡ Some 1
 unfolding script_lines pool_of pool_words number_in pool_name
 first_line_is_bad = refl
 
-pool_line_alone : first_bad (line_of (codes "pool 2 0 5000 - - ----")) ≡ None
+pool_line_alone : first_bad pool_grammar (line_of (codes "pool 2 0 5000 - - ----")) ≡ None
 unfolding script_lines reading_from pool_of pool_words limits_after number_in pool_name limit_nanos switches plus_or_minus
 pool_line_alone = refl
 
-moments_rise : first_bad (line_of (codes "pool 2 0 5000 - - ----") ++ line_of (codes "ask 5 7") ++ line_of (codes "ask 5 8")) ≡ None
+moments_rise : first_bad pool_grammar (line_of (codes "pool 2 0 5000 - - ----") ++ line_of (codes "ask 5 7") ++ line_of (codes "ask 5 8")) ≡ None
 unfolding script_lines reading_from pool_of pool_words limits_after number_in pool_name limit_nanos switches plus_or_minus event_of event_words step_of words1
 moments_rise = refl
 
-moment_falls : first_bad (line_of (codes "pool 2 0 5000 - - ----") ++ line_of (codes "ask 5 7") ++ line_of (codes "ask 4 8")) ≡ Some 3
+moment_falls : first_bad pool_grammar (line_of (codes "pool 2 0 5000 - - ----") ++ line_of (codes "ask 5 7") ++ line_of (codes "ask 4 8")) ≡ Some 3
 unfolding script_lines reading_from pool_of pool_words limits_after number_in pool_name limit_nanos switches plus_or_minus event_of event_words step_of words1
 moment_falls = refl
 
@@ -144,19 +147,19 @@ pool2 : whole pool_words (line_of (codes "pool2 3 0 100 - - +--- 2")) ≡ Some (
 unfolding pool_words limits_after number_in pool_name limit_nanos switches plus_or_minus
 pool2 = refl
 
-no_tries : first_bad (line_of (codes "pool2 1 0 5 - - ---- 0")) ≡ Some 1
+no_tries : first_bad pool_grammar (line_of (codes "pool2 1 0 5 - - ---- 0")) ≡ Some 1
 unfolding script_lines pool_of pool_words limits_after number_in pool_name limit_nanos switches plus_or_minus
 no_tries = refl
 
-too_many_tries : first_bad (line_of (codes "pool2 1 0 5 - - ---- 17")) ≡ Some 1
+too_many_tries : first_bad pool_grammar (line_of (codes "pool2 1 0 5 - - ---- 17")) ≡ Some 1
 unfolding script_lines pool_of pool_words limits_after number_in pool_name limit_nanos switches plus_or_minus
 too_many_tries = refl
 
-tries_of_pool : first_bad (line_of (codes "pool 1 0 5 - - ---- 1")) ≡ Some 1
+tries_of_pool : first_bad pool_grammar (line_of (codes "pool 1 0 5 - - ---- 1")) ≡ Some 1
 unfolding script_lines pool_of pool_words limits_after number_in pool_name limit_nanos switches plus_or_minus
 tries_of_pool = refl
 
-count_of_pool : first_bad (line_of (codes "pool 1 0 5 - - ----") ++ line_of (codes "poll 0 1 1 ++++ 0")) ≡ Some 2
+count_of_pool : first_bad pool_grammar (line_of (codes "pool 1 0 5 - - ----") ++ line_of (codes "poll 0 1 1 ++++ 0")) ≡ Some 2
 unfolding script_lines reading_from pool_of pool_words limits_after number_in pool_name limit_nanos switches plus_or_minus event_of event_words step_of poll_words poll_answers hook_letter connect_letter after_connect_letter
 count_of_pool = refl
 

@@ -1,10 +1,12 @@
 -- What each line of a script says, and which line is the first bad one.
 use Rattle.std.specs.Prelude.{◌≡◌, ℕ, ◌+◌, ◌≤◌, Bool, true, false, List, [], ◌∷◌, length, codes, if◌then◌else◌, nat_lt, Option, Some, None}
 use Rattle.std.specs.Str.{bytes_eq}
-use Rattle.sqlx_script.specs.Words.{lines_of, ends_well, words_of}
-use Rattle.sqlx_script.specs.Numbers.{◌>>=◌, number_in, millis, nanos, name_number, key, opens, value, limit_nanos, tries, tests, any}
+use Rattle.sqlx_lines.specs.Words.{whole}
+use Rattle.sqlx_lines.specs.Numbers.{◌>>=◌, number_in, millis, nanos, name_number, key, value, any}
+use Rattle.sqlx_script.specs.Numbers.{opens, limit_nanos, tries, tests}
 use Rattle.sqlx_script.specs.Letters.{sign, statement, poll_answers, answering, give_answers, switches}
-use Rattle.sqlx_script.specs.Rows.{row, row_if, ended, words0, words1, words2, words3, words4, words5}
+use Rattle.sqlx_lines.specs.Rows.{row, row_if, ended, words0, words1, words2, words3, words4, words5}
+use Rattle.sqlx_lines.specs.Scripts.{Grammar}
 use Rattle.sqlx_script.specs.declared.pool_line.PoolLine.{PoolLine}
 use Rattle.sqlx_script.specs.declared.step.Event.{Event}
 use Rattle.sqlx_script.specs.declared.step.Step.{Step}
@@ -97,10 +99,6 @@ pool_words =
     row millis (λ timeout.
     limits_after counts_tests max min (nanos timeout)))))
 
--- what a line says by its words, if it ends with its newline
-abbrev pub whole : {R : Type 0} → (List (List ℕ) → Option R) → List ℕ → Option R
-whole f line = if ends_well line then f (words_of line) else None
-
 -- the event of a line after the first
 unfoldable pub event_of : Bool → List ℕ → Option Event
 event_of counts_tests line = whole (event_words counts_tests) line
@@ -111,59 +109,20 @@ pool_of line = whole pool_words line
 
 -- ---- scripts
 
--- Events, and the number of the first bad line after them, if there is one.
-pub record Reading : Type 0 where
-  pub events : List Event
-  pub bad : Option ℕ
+-- the moment of the last of these events; 0 where there is none
+abbrev pub last_moment : List Event → ℕ
+last_moment [] = 0
+last_moment (event ∷ []) = event.moment.0
+last_moment (event ∷ next ∷ events) = last_moment (next ∷ events)
 
--- the reading with an event in front
-abbrev pub with_event : Event → Reading → Reading
-with_event event reading = record { events = event ∷ reading.events; bad = reading.bad }
+-- an event whose moment is not below this one
+abbrev pub not_before : ℕ → Option Event → Option Event
+not_before last None = None
+not_before last (Some event) = if nat_lt event.moment.0 last then None else Some event
 
--- Line n, which follows a line of the moment last: it is no event, its moment is below last, or rest says how it goes on.
-abbrev pub reading_at : ℕ → ℕ → (ℕ → Reading) → Option Event → Reading
-reading_at n last rest None = record { events = []; bad = Some n }
-reading_at n last rest (Some event) = if nat_lt event.moment.0 last then record { events = []; bad = Some n } else with_event event (rest event.moment.0)
-
--- what these lines say, of which the first has number n and follows a line of the moment last
-unfoldable pub reading_from : Bool → ℕ → ℕ → List (List ℕ) → Reading
-reading_from counts_tests n last [] = record { events = []; bad = None }
-reading_from counts_tests n last (line ∷ lines) = reading_at n last (λ now. reading_from counts_tests (n + 1) now lines) (event_of counts_tests line)
-
--- what the first line says, and what the lines after it say
-pub record Script : Type 0 where
-  pub pool : PoolLine
-  pub lines : Reading
-
--- the script of a first line and of lines after it
-abbrev pub script_after : Option PoolLine → List (List ℕ) → Option Script
-script_after None lines = None
-script_after (Some pool) lines = Some (record { pool = pool; lines = reading_from pool.counts_tests 2 0 lines })
-
--- what lines say; None where the first is bad, or there is none
-unfoldable pub script_lines : List (List ℕ) → Option Script
-script_lines [] = None
-script_lines (line ∷ lines) = script_after (pool_of line) lines
-
--- what bytes say as a script
-abbrev pub script_of : List ℕ → Option Script
-script_of bytes = script_lines (lines_of bytes)
-
--- the number of the first bad line
-abbrev pub bad_line : Option Script → Option ℕ
-bad_line None = Some 1
-bad_line (Some script) = script.lines.bad
-
--- the number of the first bad line, which is 1 for no bytes; None where no line is bad
-abbrev pub first_bad : List ℕ → Option ℕ
-first_bad bytes = bad_line (script_of bytes)
-
--- how many bytes a script may have
-abbrev pub limit : ℕ
-limit = 1048576
-
--- The bytes are this script, and no line is bad.
-pub record IsScript (bytes : List ℕ) (script : Script) : Type 0 where
-  pub short : length bytes ≤ limit
-  pub reads : script_of bytes ≡ Some script
-  pub good : script.lines.bad ≡ None
+-- what the lines of a script say: its moments never fall
+abbrev pub pool_grammar : Grammar PoolLine Event
+pool_grammar = record {
+  first_of = pool_of;
+  event_of = λ pool done line. not_before (last_moment done) (event_of pool.counts_tests line);
+}

@@ -1,6 +1,6 @@
 -- The words whose letters say what the outside answers.
 use Rattle.std.specs.Prelude.{ℕ, Bool, true, false, ◌==◌, List, [], ◌∷◌, if◌then◌else◌, Option, Some, None}
-use Rattle.sqlx_script.specs.Numbers.{◌>>=◌}
+use Rattle.sqlx_lines.specs.Numbers.{◌>>=◌}
 use Rattle.sqlx_script.specs.declared.answers.HookAnswer.{HookAnswer}
 use Rattle.sqlx_script.specs.declared.answers.HookAnswer.TheVariants.{Accepts, Refuses, Fails, LeavesOpen}
 use Rattle.sqlx_script.specs.declared.answers.AfterConnectAnswer.{AfterConnectAnswer}

@@ -1,9 +1,6 @@
-pub mod Words
 pub mod Names
 pub mod Numbers
 pub mod Letters
-pub mod Rows
-pub mod FirstLine
 pub mod Built
 pub mod Grammar
 pub mod Texts

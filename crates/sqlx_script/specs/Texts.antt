@@ -41,7 +41,3 @@ reply_text RowNotFound = codes "RowNotFound"
 -- the text of the closing report, without its newline
 abbrev pub report_text : Report → List ℕ
 report_text r = codes "held " ++ decimal r.held ++ codes " idle " ++ decimal r.idle ++ codes " leaked " ++ decimal r.leaked ++ codes " waiting " ++ decimal r.waiting
-
--- a text with its newline
-abbrev pub line_of : List ℕ → List ℕ
-line_of text = text ++ 10 ∷ []

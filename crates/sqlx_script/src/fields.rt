@@ -1,41 +1,43 @@
 //! The fields of each event, after its name and its moment, which is so many milliseconds.
 ghost use Rattle.std.specs.Prelude.{◌≡◌, ◌<◌, ◌^◌};
-ghost use Rattle.sqlx_script.specs.Rows.{words0, words1, words2, words3, words4, with_behind};
-ghost use Rattle.sqlx_script.specs.FirstLine.{told};
+ghost use Rattle.sqlx_lines.specs.Rows.{words0, words1, words2, words3, words4, with_behind};
+ghost use Rattle.sqlx_lines.specs.FirstLine.{told};
 ghost use Rattle.sqlx_script.specs.Grammar.{at_moment, poll_words, put_words};
-ghost use Rattle.sqlx_script.specs.Numbers.{name_number, opens, key, value};
+ghost use Rattle.sqlx_lines.specs.Numbers.{name_number, key, value};
+ghost use Rattle.sqlx_script.specs.Numbers.{opens};
 ghost use Rattle.sqlx_script.specs.Letters.{sign, statement, give_answers};
 
 use crate::answers::PollAnswers;
-use crate::first_line::FirstLine;
+use crate::kinds;
 use crate::step::{Event, Step};
-use crate::words::Words;
+use sqlx_lines::{FirstLine, Words};
 
 /// The fields of `ask`.
 #[inline(always)]
-#[tactic(auto, using(crate::proofs::Rows::reads), unfolding(crate::specs::Rows::words1))]
+#[tactic(auto, using(sqlx_lines::proofs::Rows::reads), unfolding(sqlx_lines::specs::Rows::words1))]
 pub fn ask(mut words: Words<'_>, ms: u64) -> Option<FirstLine<'_, Event>>
     requires { ms < 2 ^ 40 }
     ensures { told result ≡ with_behind words.entry.behind (at_moment ms (words1 name_number Step.Ask words.entry.words)) }
 {
     let client = words.name_number()?;
-    words.finish_event(ms, Step::Ask { client })
+    kinds::finish_event(&words, ms, Step::Ask { client })
 }
 
 /// The fields of `poll`, with how many tests its letters answer where it tells that.
 #[inline(always)]
-#[tactic(auto, using(crate::proofs::Rows::reads), unfolding(crate::specs::Grammar::poll_words))]
+#[tactic(auto, using(sqlx_lines::proofs::Rows::reads), unfolding(crate::specs::Grammar::poll_words))]
 pub fn poll(mut words: Words<'_>, ms: u64, counts_tests: bool) -> Option<FirstLine<'_, Event>>
     requires { ms < 2 ^ 40 }
     ensures { told result ≡ with_behind words.entry.behind (at_moment ms (poll_words counts_tests words.entry.words)) }
 {
     let client = words.name_number()?;
     let ticket = words.name_number()?;
-    let letters = words.poll_answers()?;
+    let letters = kinds::poll_answers(&mut words)?;
     if counts_tests {
-        let tests = words.tests()?;
+        let tests = kinds::tests(&mut words)?;
         let answers = PollAnswers { tests, ..letters };
-        return words.finish_event(
+        return kinds::finish_event(
+            &words,
             ms,
             Step::Poll {
                 client,
@@ -45,7 +47,8 @@ pub fn poll(mut words: Words<'_>, ms: u64, counts_tests: bool) -> Option<FirstLi
         );
     }
     let answers = letters;
-    words.finish_event(
+    kinds::finish_event(
+        &words,
         ms,
         Step::Poll {
             client,
@@ -57,39 +60,40 @@ pub fn poll(mut words: Words<'_>, ms: u64, counts_tests: bool) -> Option<FirstLi
 
 /// The fields of `cancel`.
 #[inline(always)]
-#[tactic(auto, using(crate::proofs::Rows::reads), unfolding(crate::specs::Rows::words2))]
+#[tactic(auto, using(sqlx_lines::proofs::Rows::reads), unfolding(sqlx_lines::specs::Rows::words2))]
 pub fn cancel(mut words: Words<'_>, ms: u64) -> Option<FirstLine<'_, Event>>
     requires { ms < 2 ^ 40 }
     ensures { told result ≡ with_behind words.entry.behind (at_moment ms (words2 name_number name_number Step.Cancel words.entry.words)) }
 {
     let client = words.name_number()?;
     let ticket = words.name_number()?;
-    words.finish_event(ms, Step::Cancel { client, ticket })
+    kinds::finish_event(&words, ms, Step::Cancel { client, ticket })
 }
 
 /// The fields of `try`.
 #[inline(always)]
-#[tactic(auto, using(crate::proofs::Rows::reads), unfolding(crate::specs::Rows::words1))]
+#[tactic(auto, using(sqlx_lines::proofs::Rows::reads), unfolding(sqlx_lines::specs::Rows::words1))]
 pub fn try_idle(mut words: Words<'_>, ms: u64) -> Option<FirstLine<'_, Event>>
     requires { ms < 2 ^ 40 }
     ensures { told result ≡ with_behind words.entry.behind (at_moment ms (words1 name_number Step.Try words.entry.words)) }
 {
     let client = words.name_number()?;
-    words.finish_event(ms, Step::Try { client })
+    kinds::finish_event(&words, ms, Step::Try { client })
 }
 
 /// The fields of `give`.
 #[inline(always)]
-#[tactic(auto, using(crate::proofs::Rows::reads), unfolding(crate::specs::Rows::words4))]
+#[tactic(auto, using(sqlx_lines::proofs::Rows::reads), unfolding(sqlx_lines::specs::Rows::words4))]
 pub fn give(mut words: Words<'_>, ms: u64) -> Option<FirstLine<'_, Event>>
     requires { ms < 2 ^ 40 }
     ensures { told result ≡ with_behind words.entry.behind (at_moment ms (words4 name_number name_number give_answers opens Step.Give words.entry.words)) }
 {
     let client = words.name_number()?;
     let connection = words.name_number()?;
-    let answers = words.give_answers()?;
-    let opens = words.opens()?;
-    words.finish_event(
+    let answers = kinds::give_answers(&mut words)?;
+    let opens = kinds::opens(&mut words)?;
+    kinds::finish_event(
+        &words,
         ms,
         Step::Give {
             client,
@@ -102,15 +106,16 @@ pub fn give(mut words: Words<'_>, ms: u64) -> Option<FirstLine<'_, Event>>
 
 /// The fields of `end`.
 #[inline(always)]
-#[tactic(auto, using(crate::proofs::Rows::reads), unfolding(crate::specs::Rows::words3))]
+#[tactic(auto, using(sqlx_lines::proofs::Rows::reads), unfolding(sqlx_lines::specs::Rows::words3))]
 pub fn end(mut words: Words<'_>, ms: u64) -> Option<FirstLine<'_, Event>>
     requires { ms < 2 ^ 40 }
     ensures { told result ≡ with_behind words.entry.behind (at_moment ms (words3 name_number name_number opens Step.End words.entry.words)) }
 {
     let client = words.name_number()?;
     let connection = words.name_number()?;
-    let opens = words.opens()?;
-    words.finish_event(
+    let opens = kinds::opens(&mut words)?;
+    kinds::finish_event(
+        &words,
         ms,
         Step::End {
             client,
@@ -122,15 +127,16 @@ pub fn end(mut words: Words<'_>, ms: u64) -> Option<FirstLine<'_, Event>>
 
 /// The fields of `detach`.
 #[inline(always)]
-#[tactic(auto, using(crate::proofs::Rows::reads), unfolding(crate::specs::Rows::words3))]
+#[tactic(auto, using(sqlx_lines::proofs::Rows::reads), unfolding(sqlx_lines::specs::Rows::words3))]
 pub fn detach(mut words: Words<'_>, ms: u64) -> Option<FirstLine<'_, Event>>
     requires { ms < 2 ^ 40 }
     ensures { told result ≡ with_behind words.entry.behind (at_moment ms (words3 name_number name_number opens Step.Detach words.entry.words)) }
 {
     let client = words.name_number()?;
     let connection = words.name_number()?;
-    let opens = words.opens()?;
-    words.finish_event(
+    let opens = kinds::opens(&mut words)?;
+    kinds::finish_event(
+        &words,
         ms,
         Step::Detach {
             client,
@@ -142,15 +148,16 @@ pub fn detach(mut words: Words<'_>, ms: u64) -> Option<FirstLine<'_, Event>>
 
 /// The fields of `leak`.
 #[inline(always)]
-#[tactic(auto, using(crate::proofs::Rows::reads), unfolding(crate::specs::Rows::words3))]
+#[tactic(auto, using(sqlx_lines::proofs::Rows::reads), unfolding(sqlx_lines::specs::Rows::words3))]
 pub fn leak(mut words: Words<'_>, ms: u64) -> Option<FirstLine<'_, Event>>
     requires { ms < 2 ^ 40 }
     ensures { told result ≡ with_behind words.entry.behind (at_moment ms (words3 name_number name_number opens Step.Leak words.entry.words)) }
 {
     let client = words.name_number()?;
     let connection = words.name_number()?;
-    let opens = words.opens()?;
-    words.finish_event(
+    let opens = kinds::opens(&mut words)?;
+    kinds::finish_event(
+        &words,
         ms,
         Step::Leak {
             client,
@@ -162,47 +169,48 @@ pub fn leak(mut words: Words<'_>, ms: u64) -> Option<FirstLine<'_, Event>>
 
 /// The fields of `reap`.
 #[inline(always)]
-#[tactic(auto, using(crate::proofs::Rows::reads), unfolding(crate::specs::Rows::words1))]
+#[tactic(auto, using(sqlx_lines::proofs::Rows::reads), unfolding(sqlx_lines::specs::Rows::words1))]
 pub fn reap(mut words: Words<'_>, ms: u64) -> Option<FirstLine<'_, Event>>
     requires { ms < 2 ^ 40 }
     ensures { told result ≡ with_behind words.entry.behind (at_moment ms (words1 opens Step.Reap words.entry.words)) }
 {
-    let opens = words.opens()?;
-    words.finish_event(ms, Step::Reap { opens })
+    let opens = kinds::opens(&mut words)?;
+    kinds::finish_event(&words, ms, Step::Reap { opens })
 }
 
 /// The fields of `min`.
 #[inline(always)]
-#[tactic(auto, using(crate::proofs::Rows::reads), unfolding(crate::specs::Rows::words1))]
+#[tactic(auto, using(sqlx_lines::proofs::Rows::reads), unfolding(sqlx_lines::specs::Rows::words1))]
 pub fn min(mut words: Words<'_>, ms: u64) -> Option<FirstLine<'_, Event>>
     requires { ms < 2 ^ 40 }
     ensures { told result ≡ with_behind words.entry.behind (at_moment ms (words1 opens Step.Min words.entry.words)) }
 {
-    let opens = words.opens()?;
-    words.finish_event(ms, Step::Min { opens })
+    let opens = kinds::opens(&mut words)?;
+    kinds::finish_event(&words, ms, Step::Min { opens })
 }
 
 /// The fields of `closed`.
 #[inline(always)]
-#[tactic(auto, using(crate::proofs::Rows::reads), unfolding(crate::specs::Rows::words0))]
+#[tactic(auto, using(sqlx_lines::proofs::Rows::reads), unfolding(sqlx_lines::specs::Rows::words0))]
 pub fn close_state(words: Words<'_>, ms: u64) -> Option<FirstLine<'_, Event>>
     requires { ms < 2 ^ 40 }
     ensures { told result ≡ with_behind words.entry.behind (at_moment ms (words0 Step.CloseState words.entry.words)) }
 {
-    words.finish_event(ms, Step::CloseState)
+    kinds::finish_event(&words, ms, Step::CloseState)
 }
 
 /// The fields of `begin`.
 #[inline(always)]
-#[tactic(auto, using(crate::proofs::Rows::reads), unfolding(crate::specs::Rows::words3))]
+#[tactic(auto, using(sqlx_lines::proofs::Rows::reads), unfolding(sqlx_lines::specs::Rows::words3))]
 pub fn begin(mut words: Words<'_>, ms: u64) -> Option<FirstLine<'_, Event>>
     requires { ms < 2 ^ 40 }
     ensures { told result ≡ with_behind words.entry.behind (at_moment ms (words3 name_number name_number statement Step.Begin words.entry.words)) }
 {
     let client = words.name_number()?;
     let connection = words.name_number()?;
-    let answer = words.statement()?;
-    words.finish_event(
+    let answer = kinds::statement(&mut words)?;
+    kinds::finish_event(
+        &words,
         ms,
         Step::Begin {
             client,
@@ -214,16 +222,17 @@ pub fn begin(mut words: Words<'_>, ms: u64) -> Option<FirstLine<'_, Event>>
 
 /// The fields of `custom`.
 #[inline(always)]
-#[tactic(auto, using(crate::proofs::Rows::reads), unfolding(crate::specs::Rows::words4))]
+#[tactic(auto, using(sqlx_lines::proofs::Rows::reads), unfolding(sqlx_lines::specs::Rows::words4))]
 pub fn custom(mut words: Words<'_>, ms: u64) -> Option<FirstLine<'_, Event>>
     requires { ms < 2 ^ 40 }
     ensures { told result ≡ with_behind words.entry.behind (at_moment ms (words4 name_number name_number sign statement Step.Custom words.entry.words)) }
 {
     let client = words.name_number()?;
     let connection = words.name_number()?;
-    let begins = words.sign()?;
-    let answer = words.statement()?;
-    words.finish_event(
+    let begins = kinds::sign(&mut words)?;
+    let answer = kinds::statement(&mut words)?;
+    kinds::finish_event(
+        &words,
         ms,
         Step::Custom {
             client,
@@ -236,7 +245,7 @@ pub fn custom(mut words: Words<'_>, ms: u64) -> Option<FirstLine<'_, Event>>
 
 /// The fields of `put`.
 #[inline(always)]
-#[tactic(auto, using(crate::proofs::Rows::reads), unfolding(crate::specs::Grammar::put_words, crate::specs::Rows::words5))]
+#[tactic(auto, using(sqlx_lines::proofs::Rows::reads), unfolding(crate::specs::Grammar::put_words, sqlx_lines::specs::Rows::words5))]
 pub fn put(mut words: Words<'_>, ms: u64) -> Option<FirstLine<'_, Event>>
     requires { ms < 2 ^ 40 }
     ensures { told result ≡ with_behind words.entry.behind (at_moment ms (put_words words.entry.words)) }
@@ -245,8 +254,9 @@ pub fn put(mut words: Words<'_>, ms: u64) -> Option<FirstLine<'_, Event>>
     let connection = words.name_number()?;
     let key = words.key()?;
     let value = words.value()?;
-    let answer = words.statement()?;
-    words.finish_event(
+    let answer = kinds::statement(&mut words)?;
+    kinds::finish_event(
+        &words,
         ms,
         Step::Put {
             client,
@@ -260,7 +270,7 @@ pub fn put(mut words: Words<'_>, ms: u64) -> Option<FirstLine<'_, Event>>
 
 /// The fields of `del`.
 #[inline(always)]
-#[tactic(auto, using(crate::proofs::Rows::reads), unfolding(crate::specs::Rows::words4))]
+#[tactic(auto, using(sqlx_lines::proofs::Rows::reads), unfolding(sqlx_lines::specs::Rows::words4))]
 pub fn del(mut words: Words<'_>, ms: u64) -> Option<FirstLine<'_, Event>>
     requires { ms < 2 ^ 40 }
     ensures { told result ≡ with_behind words.entry.behind (at_moment ms (words4 name_number name_number key statement Step.Del words.entry.words)) }
@@ -268,8 +278,9 @@ pub fn del(mut words: Words<'_>, ms: u64) -> Option<FirstLine<'_, Event>>
     let client = words.name_number()?;
     let connection = words.name_number()?;
     let key = words.key()?;
-    let answer = words.statement()?;
-    words.finish_event(
+    let answer = kinds::statement(&mut words)?;
+    kinds::finish_event(
+        &words,
         ms,
         Step::Del {
             client,
@@ -282,7 +293,7 @@ pub fn del(mut words: Words<'_>, ms: u64) -> Option<FirstLine<'_, Event>>
 
 /// The fields of `get`.
 #[inline(always)]
-#[tactic(auto, using(crate::proofs::Rows::reads), unfolding(crate::specs::Rows::words4))]
+#[tactic(auto, using(sqlx_lines::proofs::Rows::reads), unfolding(sqlx_lines::specs::Rows::words4))]
 pub fn get(mut words: Words<'_>, ms: u64) -> Option<FirstLine<'_, Event>>
     requires { ms < 2 ^ 40 }
     ensures { told result ≡ with_behind words.entry.behind (at_moment ms (words4 name_number name_number key statement Step.Get words.entry.words)) }
@@ -290,8 +301,9 @@ pub fn get(mut words: Words<'_>, ms: u64) -> Option<FirstLine<'_, Event>>
     let client = words.name_number()?;
     let connection = words.name_number()?;
     let key = words.key()?;
-    let answer = words.statement()?;
-    words.finish_event(
+    let answer = kinds::statement(&mut words)?;
+    kinds::finish_event(
+        &words,
         ms,
         Step::Get {
             client,
@@ -304,15 +316,16 @@ pub fn get(mut words: Words<'_>, ms: u64) -> Option<FirstLine<'_, Event>>
 
 /// The fields of `commit`.
 #[inline(always)]
-#[tactic(auto, using(crate::proofs::Rows::reads), unfolding(crate::specs::Rows::words3))]
+#[tactic(auto, using(sqlx_lines::proofs::Rows::reads), unfolding(sqlx_lines::specs::Rows::words3))]
 pub fn commit(mut words: Words<'_>, ms: u64) -> Option<FirstLine<'_, Event>>
     requires { ms < 2 ^ 40 }
     ensures { told result ≡ with_behind words.entry.behind (at_moment ms (words3 name_number name_number statement Step.Commit words.entry.words)) }
 {
     let client = words.name_number()?;
     let connection = words.name_number()?;
-    let answer = words.statement()?;
-    words.finish_event(
+    let answer = kinds::statement(&mut words)?;
+    kinds::finish_event(
+        &words,
         ms,
         Step::Commit {
             client,
@@ -324,15 +337,16 @@ pub fn commit(mut words: Words<'_>, ms: u64) -> Option<FirstLine<'_, Event>>
 
 /// The fields of `rollback`.
 #[inline(always)]
-#[tactic(auto, using(crate::proofs::Rows::reads), unfolding(crate::specs::Rows::words3))]
+#[tactic(auto, using(sqlx_lines::proofs::Rows::reads), unfolding(sqlx_lines::specs::Rows::words3))]
 pub fn rollback(mut words: Words<'_>, ms: u64) -> Option<FirstLine<'_, Event>>
     requires { ms < 2 ^ 40 }
     ensures { told result ≡ with_behind words.entry.behind (at_moment ms (words3 name_number name_number statement Step.Rollback words.entry.words)) }
 {
     let client = words.name_number()?;
     let connection = words.name_number()?;
-    let answer = words.statement()?;
-    words.finish_event(
+    let answer = kinds::statement(&mut words)?;
+    kinds::finish_event(
+        &words,
         ms,
         Step::Rollback {
             client,
@@ -344,22 +358,22 @@ pub fn rollback(mut words: Words<'_>, ms: u64) -> Option<FirstLine<'_, Event>>
 
 /// The fields of `giveup`.
 #[inline(always)]
-#[tactic(auto, using(crate::proofs::Rows::reads), unfolding(crate::specs::Rows::words2))]
+#[tactic(auto, using(sqlx_lines::proofs::Rows::reads), unfolding(sqlx_lines::specs::Rows::words2))]
 pub fn give_up(mut words: Words<'_>, ms: u64) -> Option<FirstLine<'_, Event>>
     requires { ms < 2 ^ 40 }
     ensures { told result ≡ with_behind words.entry.behind (at_moment ms (words2 name_number name_number Step.GiveUp words.entry.words)) }
 {
     let client = words.name_number()?;
     let connection = words.name_number()?;
-    words.finish_event(ms, Step::GiveUp { client, connection })
+    kinds::finish_event(&words, ms, Step::GiveUp { client, connection })
 }
 
 /// The fields of `close`.
 #[inline(always)]
-#[tactic(auto, using(crate::proofs::Rows::reads), unfolding(crate::specs::Rows::words0))]
+#[tactic(auto, using(sqlx_lines::proofs::Rows::reads), unfolding(sqlx_lines::specs::Rows::words0))]
 pub fn close(words: Words<'_>, ms: u64) -> Option<FirstLine<'_, Event>>
     requires { ms < 2 ^ 40 }
     ensures { told result ≡ with_behind words.entry.behind (at_moment ms (words0 Step.Close words.entry.words)) }
 {
-    words.finish_event(ms, Step::Close)
+    kinds::finish_event(&words, ms, Step::Close)
 }

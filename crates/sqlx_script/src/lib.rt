@@ -4,28 +4,21 @@
 
 mod answers;
 mod fields;
-mod first_line;
 mod front;
+mod kinds;
 pub mod laws;
 mod letters;
-mod lines;
 mod names;
 mod numbers;
-mod output_line;
 mod pool_line;
 mod reading;
 mod reply;
 mod report;
 mod step;
-mod words;
 
 pub use answers::{
     AfterConnectAnswer, ConnectAnswer, GiveAnswers, HookAnswer, PollAnswers, StatementAnswer,
 };
-pub use first_line::FirstLine;
-pub use lines::cut_line;
-pub use numbers::number_in;
-pub use output_line::{OutputLine, push_number};
 pub use pool_line::PoolLine;
 pub use reading::{read_event, read_pool_line};
 pub use reply::Reply;

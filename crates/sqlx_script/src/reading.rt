@@ -3,18 +3,15 @@ ghost use Rattle.std.specs.Prelude.{◌≡◌, ◌<◌, ◌≤◌, ◌^◌, IfSo
 ghost use Rattle.sqlx_script.specs.Built.{has_few_opens};
 ghost use Rattle.sqlx_script.specs.Grammar.{at_moment, step_of, event_words, event_of, limits_after, pool_words, pool_of};
 ghost use Rattle.sqlx_script.specs.Names.{text_of};
-ghost use Rattle.sqlx_script.specs.Words.{has_newline as has_newline_spec, first_line, behind_line, words_in_front};
-ghost use Rattle.sqlx_script.specs.Rows.{with_behind};
-ghost use Rattle.sqlx_script.specs.FirstLine.{told};
+ghost use Rattle.sqlx_lines.specs.Words.{has_newline as has_newline_spec, first_line, behind_line, words_in_front};
+ghost use Rattle.sqlx_lines.specs.Rows.{with_behind};
+ghost use Rattle.sqlx_lines.specs.FirstLine.{told};
 
-use crate::fields;
-use crate::first_line::FirstLine;
-use crate::front::has_newline;
 use crate::names::Name;
-use crate::numbers::NANOS;
 use crate::pool_line::PoolLine;
 use crate::step::Event;
-use crate::words::Words;
+use crate::{fields, kinds};
+use sqlx_lines::{FirstLine, NANOS, Words, has_newline};
 
 // What follows the moment, which is so many milliseconds.
 #[inline(always)]
@@ -49,12 +46,12 @@ fn event(name: Name, words: Words<'_>, ms: u64, counts_tests: bool) -> Option<Fi
 
 // What the first line of a text that has a newline says, if it is an event.
 #[inline(always)]
-#[tactic(auto, using(crate::proofs::Rows::reads), unfolding(crate::specs::Grammar::event_words))]
+#[tactic(auto, using(sqlx_lines::proofs::Rows::reads), unfolding(crate::specs::Grammar::event_words))]
 fn event_in_front(text: &[u8], counts_tests: bool) -> Option<FirstLine<'_, Event>>
     requires { has_newline_spec text.now ≡ true }
     ensures { told result ≡ with_behind (behind_line text.now) (event_words counts_tests (words_in_front text.now)) }
 {
-    let (name, mut words) = Words::behind_name(text)?;
+    let (name, mut words) = kinds::behind_name(text)?;
     let ms = words.millis()?;
     event(name, words, ms, counts_tests)
 }
@@ -74,7 +71,7 @@ pub fn read_event(text: &[u8], counts_tests: bool) -> Option<FirstLine<'_, Event
 }
 
 // How old connections may grow, what is asked of them and how many are tested, and these maximum, minimum and nanoseconds to wait.
-#[tactic(auto, using(crate::proofs::Rows::reads), unfolding(crate::specs::Grammar::limits_after))]
+#[tactic(auto, using(sqlx_lines::proofs::Rows::reads), unfolding(crate::specs::Grammar::limits_after))]
 fn limits<'a>(
     words: &mut Words<'a>,
     counts_tests: bool,
@@ -86,10 +83,14 @@ fn limits<'a>(
     ensures max { IfSome result (λ line. line.says.max ≡ max) }
     ensures tries { IfSome result (λ line. (1 ≤ line.says.tries) × (line.says.tries ≤ 16)) }
 {
-    let lifetime = words.limit_nanos()?;
-    let idle = words.limit_nanos()?;
-    let on = words.switches()?;
-    let tries = if counts_tests { words.tries()? } else { 1 };
+    let lifetime = kinds::limit_nanos(words)?;
+    let idle = kinds::limit_nanos(words)?;
+    let on = kinds::switches(words)?;
+    let tries = if counts_tests {
+        kinds::tries(words)?
+    } else {
+        1
+    };
     words.finish(PoolLine {
         max,
         min,
@@ -106,16 +107,16 @@ fn limits<'a>(
 }
 
 // What the first line of a text that has a newline says, if it is the first line of a script.
-#[tactic(auto, using(crate::proofs::Rows::reads), unfolding(crate::specs::Grammar::pool_words))]
+#[tactic(auto, using(sqlx_lines::proofs::Rows::reads), unfolding(crate::specs::Grammar::pool_words))]
 fn pool_line_in_front(text: &[u8]) -> Option<FirstLine<'_, PoolLine>>
     requires { has_newline_spec text.now ≡ true }
     ensures says { told result ≡ with_behind (behind_line text.now) (pool_words (words_in_front text.now)) }
     ensures some { IfSome result (λ line. 1 ≤ line.says.max) }
     ensures tries { IfSome result (λ line. (1 ≤ line.says.tries) × (line.says.tries ≤ 16)) }
 {
-    let (counts_tests, mut words) = Words::behind_pool_name(text)?;
+    let (counts_tests, mut words) = kinds::behind_pool_name(text)?;
     let max = words.number(1, 65_536)?;
-    let min = words.opens()?;
+    let min = kinds::opens(&mut words)?;
     let timeout = words.millis()?;
     limits(&mut words, counts_tests, max as u32, min, timeout * NANOS)
 }

@@ -2,10 +2,11 @@
 ghost use Rattle.std.specs.Prelude.{◌≡◌, ◌+◌, ◌++◌, ◌≤◌, codes, length};
 ghost use Rattle.std.specs.Fmt.{decimal};
 ghost use Rattle.sqlx_savepoints.specs.Texts.{text_of};
-ghost use Rattle.sqlx_script.specs.Texts.{reply_text, line_of};
+ghost use Rattle.sqlx_script.specs.Texts.{reply_text};
+ghost use Rattle.sqlx_lines.specs.Words.{line_of};
 
-use crate::output_line::{OutputLine, push_integer, push_level, push_number};
 use arrayvec::ArrayString;
+use sqlx_lines::{OutputLine, push_integer, push_number};
 use sqlx_savepoints::LevelText;
 use std::fmt;
 
@@ -91,6 +92,20 @@ fn push_reaped<const CAP: usize>(line: &mut ArrayString<CAP>, reaped: u64, opene
 {
     push_counted(line, "reaped ", reaped);
     push_counted(line, " opened ", opened);
+}
+
+// Puts a level's text behind what the line holds.
+#[inline]
+fn push_level<const CAP: usize>(line: &mut ArrayString<CAP>, level: LevelText)
+    requires room { length line.old.bytes + 59 ≤ CAP }
+    ensures bytes { line.new.bytes ≡ line.old.bytes ++ text_of level }
+    ensures short { length line.new.bytes ≤ length line.old.bytes + 59 }
+{
+    let (words, number) = level.parts();
+    line.push_str(words);
+    if let Some(n) = number {
+        push_number::<CAP>(line, n);
+    }
 }
 
 // Puts a depth, and the text that ran, behind what the line holds.

@@ -1,9 +1,10 @@
 //! The closing report of a script.
 ghost use Rattle.std.specs.Prelude.{◌≡◌, ◌+◌, ◌++◌, ◌≤◌, length};
-ghost use Rattle.sqlx_script.specs.Texts.{report_text, line_of};
+ghost use Rattle.sqlx_script.specs.Texts.{report_text};
+ghost use Rattle.sqlx_lines.specs.Words.{line_of};
 
-use crate::output_line::{OutputLine, push_number};
 use arrayvec::ArrayString;
+use sqlx_lines::{OutputLine, push_number};
 use std::fmt;
 
 /// What the pool holds after the last event.

@@ -1,2 +1,6 @@
 mod Examples
 mod Prefixes
+mod ByTexts
+mod StatementExamples
+mod Inserted
+mod Summaries

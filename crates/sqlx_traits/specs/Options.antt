@@ -1,5 +1,5 @@
 -- Options of a connection: what they are read of.
-use Rattle.std.specs.Prelude.{◌≡◌, ◌⊎◌, ⊤, ℕ, List, Result, Ok, Err, IsErrAnd}
+use Rattle.std.specs.Prelude.{◌≡◌, ◌⊎◌, ℕ, List, Result, Ok, Err, IsErrAnd}
 use Rattle.url.specs.Parser.{Parsed}
 use Rattle.url.specs.Parts.{Parts}
 use Rattle.url.specs.declared.error.ParseError.{ParseError}
@@ -22,9 +22,3 @@ IsRefusalOf _ e = IsRefusal e
 abbrev pub ReadsText : {O : Type 0} → Parsed Parts → (Parts → Result O Error → Type 0) → Result O Error → Type 0
 ReadsText (Ok url) read r = read url r ⊎ (r ≡ Err error.OutOfMemory)
 ReadsText (Err reason) read r = IsErrAnd r IsRefusal
-
--- the options couldn't be written as a URL, or there is no memory
-abbrev pub OptionsCause : Error → Type 0
-OptionsCause (error.Configuration f) = ⊤
-OptionsCause error.OutOfMemory = ⊤
-OptionsCause _ = ⊥

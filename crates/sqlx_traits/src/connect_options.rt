@@ -1,10 +1,11 @@
 //! Options by which a connection is opened.
 ghost use Rattle.std.specs.Prelude.{◌≡◌, IfErr, IfOk, None, Result};
 ghost use Rattle.sqlx_text.specs.declared.error.Error.{Error};
-ghost use Rattle.sqlx_statements.specs.declared.logger.LogSettings.{LogSettings};
+ghost use Rattle.sqlx_text.specs.declared.logger.LogSettings.{LogSettings};
 ghost use Rattle.url.specs.Parser.{parse_url};
 ghost use Rattle.url.specs.Parts.{Parts};
-ghost use Rattle.sqlx_traits.specs.Options.{IsRefusalOf, OptionsCause, ReadsText};
+ghost use Rattle.sqlx_traits.specs.Faults.{OpenCause};
+ghost use Rattle.sqlx_traits.specs.Options.{IsRefusalOf, ReadsText};
 
 use crate::{Connection, Database};
 use log::LevelFilter;
@@ -40,10 +41,10 @@ pub trait ConnectOptions: Sized {
         }
     }
 
-    /// The URL of the options, as far as they have one.
+    /// The URL of the options, as far as they have one. It is refused for want of memory alone.
     fn to_url_lossy(&self, alloc: Global) -> Result<Url, Error>
         ensures ok { IfOk result (λ url. url ≡ written self.now) }
-        ensures cause { IfErr result OptionsCause };
+        ensures memory { IfErr result (λ e. e ≡ Error.OutOfMemory) };
 
     /// Logs each statement at the level.
     fn log_statements(self, level: LevelFilter) -> Self
@@ -87,7 +88,9 @@ fn not_a_url(alloc: Global, reason: ParseError) -> Error
 
 /// Options that open a connection of the database.
 pub trait Connect<DB: Database>: ConnectOptions {
-    /// Opens a connection, which has no level open.
+    /// Opens a connection, which has no level open. It is refused for the options, by the database or on the way to
+    /// it, or for want of memory.
     fn connect(&self, alloc: Global) -> Result<DB::Connection, Error>
-        ensures { IfOk result (λ conn. DB.Connection.levels conn ≡ 0) };
+        ensures depth { IfOk result (λ conn. DB.Connection.levels conn ≡ 0) }
+        ensures cause { IfErr result OpenCause };
 }

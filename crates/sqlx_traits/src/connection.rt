@@ -1,7 +1,7 @@
 //! A connection: pings, its cache of statements, its buffers, and closing.
 ghost use Rattle.std.specs.Prelude.{◌≡◌, ◌≤◌, ⊤, ℕ, Bool, IfErr, Ok, OnOk};
 ghost use Rattle.sqlx_traits.specs.Calls as call;
-ghost use Rattle.sqlx_traits.specs.Faults.{FaultCause};
+ghost use Rattle.sqlx_traits.specs.Faults.{CloseCause, FaultCause};
 
 use crate::{Database, Faults};
 use sqlx_text::{Depth, Error};
@@ -23,14 +23,17 @@ pub trait Connection<DB: Database>: Depth + Faults + Sized {
     /// What closing may answer; nothing is said where it is left out.
     ghost ends: { call.Closing → Self → call.Outcome → Type 0 } = { λ _ _ _. ⊤ };
 
-    /// Closes the connection, and tells its peer.
+    /// Closes the connection, and tells its peer. It is refused by the database or on the way to it, or for want of
+    /// memory.
     fn close(self) -> Result<(), Error>
         ensures closes { IfErr result (λ _. closes self ≡ Bool.false) }
+        ensures cause { IfErr result CloseCause }
         ensures ends { ends call.told self result };
 
-    /// Closes the connection at once.
+    /// Closes the connection at once. It is refused as `close` is.
     fn close_hard(self) -> Result<(), Error>
         ensures closes { IfErr result (λ _. closes self ≡ Bool.false) }
+        ensures cause { IfErr result CloseCause }
         ensures ends { ends call.at_once self result };
 
     /// Asks for a sign of life. It leaves the depth.

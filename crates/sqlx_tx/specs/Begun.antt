@@ -1,7 +1,8 @@
 -- What beginning a level on a holder answers: a transaction, which is seen as its holder, or the error and the holder.
-use Rattle.std.specs.Prelude.{◌+◌, ℕ, Result, Ok, Err}
+use Rattle.std.specs.Prelude.{◌+◌, ℕ, Bool, true, false, Result, Ok, Err}
 use Rattle.sqlx_text.specs.declared.error.Error.{Error}
-use Rattle.sqlx_traits.specs.Calls.{Outcome}
+use Rattle.sqlx_traits.specs.Calls.{Call, Outcome}
+use Rattle.sqlx_traits.specs.Calls.Call.{commit, rollback}
 
 module _ {H : Type 0} where
   -- the holder, which comes back either way
@@ -18,3 +19,8 @@ module _ {H : Type 0} where
 abbrev pub levels_after : ℕ → Outcome → ℕ
 levels_after levels (Ok done) = levels + 1
 levels_after levels (Err e) = levels
+
+-- the call that ends a level which is to be kept, or not
+abbrev pub ending : Bool → Call
+ending true = commit
+ending false = rollback

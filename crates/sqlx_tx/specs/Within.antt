@@ -1,5 +1,5 @@
 -- A call inside a level of its own.
-use Rattle.std.specs.Prelude.{◌≡◌, ◌+◌, ◌≤◌, ◌⊎◌, ℕ, IfErr, None, Option, Result, Ok, Err}
+use Rattle.std.specs.Prelude.{◌≡◌, ◌+◌, ◌<◌, ◌≤◌, ◌⊎◌, ℕ, IfErr, None, Option, Result, Ok, Err}
 use Rattle.sqlx_text.specs.declared.error.Error.{Error}
 use Rattle.sqlx_text.specs.declared.sql_str.SqlStr.{SqlStr}
 use Rattle.sqlx_traits.specs.Calls.{Call, Outcome}
@@ -44,6 +44,10 @@ module _ {C : Type 0} (does : Call → C → Outcome → C → Type 0) (levels f
     Ends (Ok value) inside answer after = EndsBy commit (Ok value) inside answer after
     Ends (Err told) inside answer after = EndsBy rollback (Err told) inside answer after
 
+    -- it is ended so where a level is open, and else what was given is the answer
+    abbrev pub EndsOpen : Result R E → C → Result R E → C → Type 0
+    EndsOpen given inside answer after = ((levels inside ≡ 0) × (answer ≡ given) × (after ≡ inside)) ⊎ ((0 < levels inside) × Ends given inside answer after)
+
     -- no level could be begun
     abbrev pub IsNotBegun : C → Result R E → C → Type 0
     IsNotBegun before answer after = (e : Error) × Comes (begin None) before (Err e) after × Tells e answer
@@ -55,3 +59,8 @@ module _ {C : Type 0} (does : Call → C → Outcome → C → Type 0) (levels f
     -- the call ran in a level of its own, or there was none
     abbrev pub Transacts : (C → Result R E → C → Type 0) → C → Result R E → C → Type 0
     Transacts calls before answer after = IsNotBegun before answer after ⊎ RanWithin calls before answer after
+
+    -- the same of a call that may leave any levels: the innermost one is ended, where one is open
+    abbrev pub RunsWithin : (C → Result R E → C → Type 0) → C → Result R E → C → Type 0
+    RunsWithin calls before answer after = IsNotBegun before answer after
+        ⊎ ((begun inside : C) × (given : Result R E) × Begins before begun × calls begun given inside × EndsOpen given inside answer after)

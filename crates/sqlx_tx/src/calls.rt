@@ -4,7 +4,7 @@ ghost use Rattle.std.specs.Prelude.{◌≡◌, ◌≢◌, ◌+◌, ◌-◌, ◌<
 ghost use Rattle.std.specs.Fn.{FnOnceReturnsAtMut};
 ghost use Rattle.sqlx_text.specs.declared.error.Error.{Error};
 ghost use Rattle.sqlx_traits.specs.Calls as call;
-ghost use Rattle.sqlx_tx.specs.Within.{Ends, Leaves, RefusesToBegin, Transacts};
+ghost use Rattle.sqlx_tx.specs.Within.{Ends, Leaves, RefusesToBegin, RunsWithin, Transacts};
 
 use crate::{Borrowed, Transaction};
 use sqlx_text::{Error, SqlStr};
@@ -81,6 +81,38 @@ where
     }
     let given = called::<DB, F, Result<R, E>>(&mut *conn, f);
     ended::<DB, R, E>(alloc, conn, given)
+}
+
+/// Makes the call in a level of its own, as `transaction` does, whatever the call does to the levels: the depth is
+/// looked at behind it. Where a level is open it is kept after Ok and undone after Err, and where a text has ended all
+/// of them the answer is the call's. So the call may run any query.
+pub fn within<DB: Database, F, R, E>(alloc: Global, conn: &mut DB::Connection, f: F) -> Result<R, E>
+where
+    F: FnOnce(&mut DB::Connection) -> Result<R, E>,
+    R: Drop,
+    E: From<Error> + Drop,
+    requires callable { F.IsAlwaysCallable f }
+    ensures runs { RunsWithin DB.TransactionManager.does DB.Connection.levels DB.Connection.faults E.from_gives (FnOnceReturnsAtMut F.FnOnce f) conn.old result conn.new }
+{
+    if let Err(error) = DB::TransactionManager::begin(alloc, &mut *conn, None) {
+        return Err(E::from(error));
+    }
+    let given = ran::<DB, F, Result<R, E>>(&mut *conn, f);
+    if is_in_transaction::<DB>(conn) {
+        ended::<DB, R, E>(alloc, conn, given)
+    } else {
+        given
+    }
+}
+
+// Makes the call.
+fn ran<DB: Database, F, R>(conn: &mut DB::Connection, f: F) -> R
+where
+    F: FnOnce(&mut DB::Connection) -> R,
+    requires callable { F.IsAlwaysCallable f }
+    ensures { FnOnceReturnsAtMut F.FnOnce f conn.old result conn.new }
+{
+    f(conn)
 }
 
 // Makes the call, which leaves the levels.

@@ -3,9 +3,10 @@ ghost use Rattle.std.specs.Prelude.{◌≡◌, ◌-◌, ◌<◌, ◌≤◌, Err,
 ghost use Rattle.sqlx_text.specs.declared.error.Error.{Error};
 ghost use Rattle.sqlx_traits.specs.Calls as call;
 ghost use Rattle.sqlx_traits.specs.Faults.{BeginCause, FaultCause};
-ghost use Rattle.sqlx_tx.specs.Begun.{holder_of, levels_after, outcome_of};
+ghost use Rattle.sqlx_tx.specs.Begun.{ending, holder_of, levels_after, outcome_of};
 
 use crate::Hold;
+use crate::calls::is_in_transaction;
 use sqlx_text::{Error, SqlStr};
 use sqlx_traits::{Database, TransactionManager};
 use std::alloc::Global;
@@ -90,6 +91,25 @@ impl<DB: Database, H: Hold<DB>> Transaction<DB, H> {
         let mut holder = self.take_apart();
         let answer = DB::TransactionManager::rollback(alloc, holder.conn_mut());
         (holder, answer)
+    }
+
+    /// Ends the level where one is open: as `commit` does where it is to be kept, and else as `rollback` does. Where a
+    /// text that ran in it has ended all levels, nothing is done.
+    pub fn end(self, alloc: Global, keep: bool) -> (H, Result<(), Error>)
+        ensures held { result.0 ≡ H.holding self (H.held result.0) }
+        ensures levels { DB.Connection.levels (H.held result.0) ≡ DB.Connection.levels (H.held self) - 1 }
+        ensures none { DB.Connection.levels (H.held self) ≡ 0 → (result.0 ≡ self) × (result.1 ≡ Ok tt) }
+        ensures does { 0 < DB.Connection.levels (H.held self) → DB.TransactionManager.does (ending keep) (H.held self) result.1 (H.held result.0) }
+        ensures rises { DB.Connection.faults (H.held self) ≤ DB.Connection.faults (H.held result.0) }
+        ensures cause { IfErr result.1 (FaultCause (DB.Connection.faults (H.held self)) (DB.Connection.faults (H.held result.0))) }
+    {
+        if !is_in_transaction::<DB>(self.as_ref()) {
+            (self.into_holder(), Ok(()))
+        } else if keep {
+            self.commit(alloc)
+        } else {
+            self.rollback(alloc)
+        }
     }
 
     /// Leaves the level, which is rolled back. It can't be refused. In sqlx: the drop of a `Transaction`.

@@ -160,6 +160,12 @@ impl AnyOpen for StubBackend {
         if letters.is_empty() {
             return Err(Error::Io(IoFault::ConnectionRefused));
         }
-        StubBackend::new(alloc, letters)
+        match StubBackend::new(alloc, letters) {
+            Ok(backend) => Ok(backend),
+            Err(error) => {
+                drop(error);
+                Err(Error::OutOfMemory)
+            }
+        }
     }
 }

@@ -2,8 +2,7 @@
 
 use crate::{Toy, ToyConnection};
 use log::LevelFilter;
-use sqlx_statements::LogSettings;
-use sqlx_text::{Error, OutOfMemory};
+use sqlx_text::{Error, LogSettings, OutOfMemory};
 use sqlx_traits::{Connect, ConnectOptions};
 use std::alloc::Global;
 use url::Url;

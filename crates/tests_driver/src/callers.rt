@@ -1,11 +1,10 @@
-//! Callers as `CALLING.md` of `mem_driver` and `shared_mem_driver` names them, with their contracts.
+//! Callers as `CALLING.md` of `mem_driver` and `mem_driver` names them, with their contracts.
 ghost use Rattle.std.specs.Prelude.{◌<◌, IfOk};
 ghost use Rattle.sqlx_traits.specs.Calls.{commit};
 ghost use Rattle.mem_driver.specs.Backend.{Does};
-ghost use Rattle.shared_mem_driver.specs.Shared.{IsOpened};
+ghost use Rattle.mem_driver.specs.Shared.{IsOpened};
 
-use mem_driver::{MemSession, MemStore};
-use shared_mem_driver::{SharedMemConnection, SharedMemConnector};
+use mem_driver::{MemSession, MemStore, SharedMemConnection, SharedMemConnector};
 use sqlx_any::{
     AnyConnectOptions, AnyConnection, AnyTransactionManager, ConnectOptions, Connector,
     TransactionManager,

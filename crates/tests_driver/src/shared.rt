@@ -1,7 +1,6 @@
 //! Two connections to one store, and the connector that opens them.
 use crate::callers::pair;
-use mem_driver::{Answer, MemLink, MemSession, MemStore};
-use shared_mem_driver::SharedMemConnector;
+use mem_driver::{Answer, MemLink, MemSession, MemStore, SharedMemConnector};
 use sqlx_any::{
     Any, AnyConnectOptions, AnyConnection, AnyConnectionBackend, ConnectOptions, Connection,
     Connector,

@@ -3,7 +3,7 @@ ghost use Rattle.std.specs.Prelude.{◌≡◌, ◌<◌};
 
 use mem_driver::{Answer, Mem, MemLink, MemSession, MemStore, PUT};
 use sqlx_any::{AnyArguments, AnyConnectionBackend, Arguments};
-use sqlx_line::Steps;
+use sqlx_pool_places::Steps;
 use sqlx_text::{Error, SqlStr};
 use std::alloc::Global;
 use std::marker::Brand;

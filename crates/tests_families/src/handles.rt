@@ -4,8 +4,8 @@ ghost use Rattle.std.specs.Prelude.{◌≡◌, ◌^◌, ◌<◌, ◌≤◌};
 
 use crate::outside::{Conn, Plain};
 use sqlx_family_pool::{FamilyConnectionOf, FamilyPoolOf};
-use sqlx_pool_base::stage::Why;
-use sqlx_pool_base::{Loans, Polling, Returned, Tally};
+use sqlx_pool::stage::Why;
+use sqlx_pool::{Loans, Polling, Returned, Tally};
 use sqlx_pool_core::PoolOptions;
 use sqlx_text::Moment;
 use std::alloc::Global;
@@ -28,7 +28,6 @@ fn lend<H: Ledger, L: Loans, R: Wait>(
     out: &mut Plain,
     tally: &mut Tally<L>,
 ) -> (Option<Lent<H, L>>, bool)
-    requires { 0 < tally.old.parts }
     ensures { tally.new.parts ≡ tally.old.parts }
 {
     match pool.acquire(rt, alloc, Moment(0), client) {
@@ -85,7 +84,6 @@ fn shares<H: Ledger, L: Loans, R: Wait + Abort>(
     out: &mut Plain,
     tally: &mut Tally<L>,
 )
-    requires parts { 0 < tally.old.parts }
     requires child { 1 ≤ child.now.name }
 {
     let (first, _) = lend(rt, alloc, child, 1, out, tally);

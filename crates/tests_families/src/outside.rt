@@ -1,6 +1,6 @@
 //! A connection for tests, and an outside that opens one whenever it is asked.
 
-ghost use Rattle.sqlx_member.specs.Calls as call;
+ghost use Rattle.sqlx_pool_core.specs.Calls as call;
 
 use sqlx_pool_core::{Outside, PoolConnectionMetadata};
 use sqlx_text::{Depth, Error};

@@ -4,7 +4,7 @@ ghost use Rattle.std.specs.Prelude.{◌≡◌, ℕ, ◌^◌, ◌<◌};
 
 use crate::outside::Conn;
 use sqlx_family_pool::LockedFamily;
-use sqlx_pool_base::Loans;
+use sqlx_pool::Loans;
 use sqlx_pool_core::{AfterConnect, PoolOptions, Start, Tried};
 use sqlx_text::Moment;
 use std::alloc::Global;

@@ -1,7 +1,7 @@
 //! A pool of a family goes between threads.
 
 use sqlx_family_pool::{FamilyAcquiringOf, FamilyConnectionOf, FamilyPoolOf};
-use sqlx_pool_base::Loans;
+use sqlx_pool::Loans;
 use sqlx_text::Depth;
 use std::sync::ledger::Ledger;
 

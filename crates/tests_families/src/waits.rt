@@ -4,7 +4,7 @@ ghost use Rattle.std.specs.Prelude.{◌≡◌, ℕ, ◌^◌, ◌<◌, ◌≤◌,
 
 use crate::outside::{Conn, Plain};
 use sqlx_family_pool::{FamilyConnectionOf, FamilyPoolOf};
-use sqlx_pool_base::{FixedClock, Loans, Tally};
+use sqlx_pool::{FixedClock, Loans, Tally};
 use sqlx_pool_core::PoolOptions;
 use sqlx_text::Moment;
 use std::alloc::Global;
@@ -130,9 +130,7 @@ fn lend<H: Ledger, L: Loans, R: Wait>(
     pool: &Conns<H, L>,
     client: u32,
     tally: Tally<L>,
-) -> Option<Lent<H, L>>
-    requires { 0 < tally.parts }
-{
+) -> Option<Lent<H, L>> {
     let mut tally = tally;
     let mut out = Plain { closed: 0 };
     let mut clock = FixedClock(Moment(0));
@@ -158,7 +156,6 @@ fn hold<H: Ledger, L: Loans, R: Wait>(
     tally: Tally<L>,
 ) -> bool
     requires child { 1 ≤ child.now.name }
-    requires parts { 0 < tally.parts }
 {
     let (held, awaited) = held_and_awaited(root, child, freeing);
     match lend(rt, alloc, held, 1, tally) {
@@ -181,9 +178,7 @@ fn comes<H: Ledger, L: Loans, R: Wait>(
     child: &Conns<H, L>,
     freeing: Freeing,
     tally: Tally<L>,
-) -> bool
-    requires { 0 < tally.parts }
-{
+) -> bool {
     let (held, awaited) = held_and_awaited(root, child, freeing);
     until_long(rt, alloc, held, 5, LOOKS);
     match lend(rt, alloc, awaited, 2, tally) {

@@ -3,7 +3,7 @@
 use crate::calls::*;
 use crate::shown::shown;
 use sqlx_any::*;
-use sqlx_from_row::FromColumn;
+use sqlx_query_rows::FromColumn;
 use sqlx_text::{Depth, Error, OutOfMemory};
 use std::alloc::Global;
 use tests_database::steps::put;

@@ -1,8 +1,8 @@
 //! The queries by which a connection is asked, over any database.
 
 use sqlx_any::*;
-use sqlx_from_row::FromColumn;
 use sqlx_query::{query, query_as, query_scalar, raw_sql};
+use sqlx_query_rows::FromColumn;
 use sqlx_text::{AssertSqlSafe, Error, OutOfMemory, SqlSafeStr, SqlStr};
 use std::alloc::Global;
 use tests_database::steps::{Call, gives};

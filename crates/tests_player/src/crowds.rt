@@ -1,6 +1,6 @@
 //! Crowds by the words of the command line.
 use crate::words::{run_words, wrong_uses};
-use sqlx_program::{PlayError, SureSink};
+use sqlx_play_program::{PlayError, SureSink};
 
 const ALONE: &str = "\
 asked 1 1 30000000000

@@ -1,6 +1,6 @@
 //! The made script by the words of the command line.
 use crate::words::{run_words, wrong_uses};
-use sqlx_program::{PlayError, SureSink};
+use sqlx_play_program::{PlayError, SureSink};
 
 #[test]
 fn made_scripts_are_summarized(rt: HostRuntime) -> Result<(), PlayError> {
@@ -15,6 +15,11 @@ fn made_scripts_are_summarized(rt: HostRuntime) -> Result<(), PlayError> {
             "4",
             "1",
             "lines 4\nready 1\nkept 0\nclosed 0\nheld 1 idle 0 leaked 0 waiting 0\n",
+        ),
+        (
+            "8",
+            "1",
+            "lines 8\nready 1\nkept 0\nclosed 1\nheld 0 idle 0 leaked 0 waiting 0\n",
         ),
         (
             "10000",

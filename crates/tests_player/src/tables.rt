@@ -1,19 +1,19 @@
 //! Scripts that are cut, sources and sinks that fail, and what comes of them.
-ghost use Rattle.std.specs.Prelude.{◌≡◌, ◌≤◌, Some, length};
-ghost use Rattle.sqlx_play.specs.Memory.{left_of, read_faults};
+ghost use Rattle.std.specs.Prelude.{◌≡◌, ◌≤◌, None, Some, length};
+ghost use Rattle.sqlx_player.specs.Memory.{left_of, read_faults};
 
-use sqlx_program::{
-    Failed, MemSink, MemSource, PlayError, Source, SureSink, SureSource, run, status,
+use sqlx_play_program::{
+    Failed, MemSink, MemSource, PlayError, Sink, Source, SureSink, SureSource, run, status,
 };
 use std::alloc::Global;
 use std::sync::Wait;
 use std::thread::Threads;
 
 const SCRIPT: &str =
-    "pool 1 0 5 - - ----\nask 0 1\npoll 0 1 1 ++++\nask 0 2\npoll 1 2 2 ++++\ngive 2 1 1 ++ 0\npoll 2 2 2 ++++\n";
+    "pool 1 0 5 - - ----\nask 0 1\npoll 0 1 1 ++++\nbegin 0 1 1 +\nput 0 1 1 4 9 +\ncommit 0 1 1 +\nget 0 1 1 4 +\ngive 0 1 1 ++ 0\n";
 
 const OUTPUT: &str =
-    "ticket 1\nready 1\nticket 2\nwaiting\nkept\nready 1\nheld 1 idle 0 leaked 0 waiting 0\n";
+    "ticket 1\nready 1\nlevel 1 BEGIN\nok 1\nlevel 0 COMMIT\nvalue 9\nkept\nheld 0 idle 1 leaked 0 waiting 0\n";
 
 // A source that gives at most 7 bytes at each call.
 #[derive(Drop)]
@@ -29,6 +29,25 @@ impl Source for Drops {
     fn read(&mut self, buf: &mut [u8]) -> Result<usize, Failed> {
         let most = buf.len().min(7);
         self.inner.read(&mut buf[..most])
+    }
+}
+
+// A sink that takes nothing, and counts its faults.
+#[derive(Drop)]
+struct Full {
+    faults: u64,
+}
+
+impl Sink for Full {
+    ghost written = { λ _. None };
+
+    ghost pieces = { λ _. None };
+
+    ghost faults = { λ k. k.faults };
+
+    fn write(&mut self, _buf: &[u8]) -> Result<usize, Failed> {
+        self.faults = self.faults.saturating_add(1);
+        Ok(0)
     }
 }
 
@@ -63,8 +82,8 @@ fn first_lines(text: &[u8], count: usize) -> &[u8] {
     text
 }
 
-// Plays a text.
-fn played<R: Wait + Threads + Copy + Drop + Send + Sync + 'static>(
+/// Plays a text.
+pub fn played<R: Wait + Threads + Copy + Drop + Send + Sync + 'static>(
     rt: &R,
     alloc: Global,
     text: &[u8],
@@ -173,11 +192,22 @@ fn read_is_told<R: Wait + Threads + Copy + Drop + Send + Sync + 'static>(
 #[test]
 fn faults_are_told_where_they_come(rt: HostRuntime) -> Result<(), PlayError> {
     let alloc = rt.alloc();
-    for lines in 0..7 {
+    for lines in 0..8 {
         assert!(rt; write_is_told(&rt, alloc, lines)?, "write behind {lines}");
     }
-    for call in 1..18 {
+    for call in 1..20 {
         assert!(rt; read_is_told(&rt, alloc, call)?, "read {call}");
     }
+    Ok(())
+}
+
+#[test]
+fn a_sink_that_takes_nothing_has_failed(rt: HostRuntime) -> Result<(), PlayError> {
+    let alloc = rt.alloc();
+    let mut source = SureSource::new(Vec::from_slice(alloc, SCRIPT.as_bytes())?);
+    let mut sink = Full { faults: 0 };
+    let answer = run(&rt, alloc, &[], &mut source, &mut sink);
+    assert!(rt; answer == Err(PlayError::WriteFault));
+    assert_eq!(rt; sink.faults, 1);
     Ok(())
 }

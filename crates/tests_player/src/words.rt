@@ -1,5 +1,5 @@
 //! The program by the words of its command line.
-use sqlx_program::{PlayError, SureSink, SureSource, run};
+use sqlx_play_program::{PlayError, SureSink, SureSource, run};
 use std::alloc::Global;
 use std::sync::Wait;
 use std::thread::Threads;

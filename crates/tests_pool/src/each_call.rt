@@ -1,6 +1,6 @@
 //! Each call once on its happy path, over an outside that accepts everything.
 
-ghost use Rattle.sqlx_member.specs.Calls as call;
+ghost use Rattle.sqlx_pool_core.specs.Calls as call;
 
 use sqlx_pool_core::*;
 use sqlx_text::{Error, Moment};

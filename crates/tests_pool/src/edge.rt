@@ -1,9 +1,8 @@
 //! Three tickets and one permit: the edge moves once for each time that the permit is free.
 ghost use Rattle.std.specs.Prelude.{◌≡◌, ◌<◌};
 
-use sqlx_line::Steps;
 use sqlx_pool_core::{
-    AfterConnect, AfterTest, Given, Idle, Lent, PoolCore, PoolOptions, Start, Tried, Verdict,
+    AfterConnect, AfterTest, Given, Idle, Lent, PoolCore, PoolOptions, Start, Steps, Tried, Verdict,
 };
 use sqlx_text::{Error, Moment};
 use std::alloc::Global;
@@ -53,9 +52,13 @@ fn serve<L: Ledger>(
 }
 
 // Three asks.
-fn ask_three<L: Ledger>(core: &mut PoolCore<u32>, steps: &mut Steps<L>) -> Result<(), Error> {
+fn ask_three<L: Ledger>(
+    core: &mut PoolCore<u32>,
+    alloc: Global,
+    steps: &mut Steps<L>,
+) -> Result<(), Error> {
     for client in 4..7 {
-        core.ask_counted(Moment(1), client, steps)?;
+        core.ask_counted(alloc, Moment(1), client, steps)?;
     }
     Ok(())
 }
@@ -74,8 +77,12 @@ fn give_and_start<L: Ledger>(
 
 // The moves of the edge: behind three asks, behind a service and a cancel, behind a return, and behind
 // the start of the last.
-fn moves_of<L: Ledger>(core: &mut PoolCore<u32>, steps: &mut Steps<L>) -> Result<Moves, Error> {
-    ask_three(core, steps)?;
+fn moves_of<L: Ledger>(
+    core: &mut PoolCore<u32>,
+    alloc: Global,
+    steps: &mut Steps<L>,
+) -> Result<Moves, Error> {
+    ask_three(core, alloc, steps)?;
     let asked = core.edge_moves();
     let lent = serve(core, 4, 1, steps);
     core.cancel_counted(5, 2, steps);
@@ -94,7 +101,7 @@ fn play<L: Ledger>(alloc: Global, blank: Blank) -> Result<Moves, Error>
 {
     let mut steps = Steps::<L>::new(blank);
     let mut core = PoolCore::<u32>::new(alloc, PoolOptions::new().max_connections(1))?;
-    let told = moves_of(&mut core, &mut steps);
+    let told = moves_of(&mut core, alloc, &mut steps);
     drop(core);
     told
 }
@@ -108,11 +115,15 @@ fn the_edge_moves_once_a_permit(rt: HostRuntime) -> Result<(), Fail> {
 }
 
 // Ends one connection, takes another out, and gives up a place: each frees the permit for the next ticket.
-fn frees<L: Ledger>(core: &mut PoolCore<u32>, steps: &mut Steps<L>) -> Result<u64, Error> {
+fn frees<L: Ledger>(
+    core: &mut PoolCore<u32>,
+    alloc: Global,
+    steps: &mut Steps<L>,
+) -> Result<u64, Error> {
     if core.first_place() {
         core.minimum_done_counted(Moment(1), Some(7), steps);
     }
-    ask_three(core, steps)?;
+    ask_three(core, alloc, steps)?;
     if let Some(idle) = tested(core.start_counted(4, 1, Moment(2), steps)) {
         let accepted = Verdict::Accepted(idle.lent);
         if is_lent(core.finish_test_counted(4, 1, accepted, steps)) {
@@ -133,7 +144,7 @@ fn freed<L: Ledger>(alloc: Global, blank: Blank) -> Result<u64, Error>
 {
     let mut steps = Steps::<L>::new(blank);
     let mut core = PoolCore::<u32>::new(alloc, PoolOptions::new().max_connections(1))?;
-    let told = frees(&mut core, &mut steps);
+    let told = frees(&mut core, alloc, &mut steps);
     drop(core);
     told
 }

@@ -1,7 +1,7 @@
 //! Keeping the minimum over an outside that accepts so many connects, and refuses the next.
 
 ghost use Rattle.std.specs.Prelude.{IsTrue};
-ghost use Rattle.sqlx_member.specs.Calls as call;
+ghost use Rattle.sqlx_pool_core.specs.Calls as call;
 
 use sqlx_pool_core::*;
 use sqlx_text::{Error, IoFault, Moment};

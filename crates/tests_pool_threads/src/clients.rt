@@ -22,6 +22,8 @@ pub enum Act {
     Cancel,
     /// Takes the first idle connection, past the line: a word.
     Try,
+    /// Takes the first idle connection beside what it has, and returns it at once: a word.
+    Past,
     /// Returns its connection: a word.
     Return,
     /// Closes its connection: how many were opened for the minimum.
@@ -148,7 +150,6 @@ fn polls<C: Depth + Drop, O: Drop, H: Ledger, L: Loans, R: Wait, X: Outside<C, O
     out: &mut X,
     tally: &mut Tally<L>,
 ) -> (HandOf<C, O, H, L>, u64)
-    requires { 0 < tally.old.parts }
     ensures parts { tally.new.parts ≡ tally.old.parts }
     ensures loans { tally.new.loans ≤ tally.old.loans + 1 }
 {
@@ -185,7 +186,6 @@ fn tries<C: Depth + Drop, O: Drop, H: Ledger, L: Loans, R: Wait>(
     now: u64,
     tally: &mut Tally<L>,
 ) -> (HandOf<C, O, H, L>, u64)
-    requires { 0 < tally.old.parts }
     ensures { tally.new.parts ≡ tally.old.parts }
 {
     match pool.try_acquire(rt, alloc, Moment(now), client, tally) {
@@ -193,6 +193,23 @@ fn tries<C: Depth + Drop, O: Drop, H: Ledger, L: Loans, R: Wait>(
         Ok(None) => (Hand::Empty, NONE),
         Err(error) => (Hand::Empty, word(error)),
     }
+}
+
+// Takes the first idle connection, and returns it at once.
+fn passes<C: Depth + Drop, O: Drop, H: Ledger, L: Loans, R: Wait, X: Outside<C, O>>(
+    rt: &R,
+    alloc: Global,
+    pool: &PoolOf<C, O, H, L>,
+    client: u32,
+    now: u64,
+    out: &mut X,
+    tally: &mut Tally<L>,
+) -> u64
+    ensures { tally.new.parts ≡ tally.old.parts }
+{
+    let (hand, said) = tries(rt, alloc, pool, client, now, tally);
+    lets_go::<C, O, H, L, R, X>(rt, alloc, hand, now, out);
+    said
 }
 
 /// Ends a loan, by a return where the act is none of the three others.
@@ -340,7 +357,6 @@ fn acts<C: Depth + Drop, O: Drop, H: Ledger, L: Loans, R: Wait, X: Outside<C, O>
     out: &mut X,
     tally: &mut Tally<L>,
 ) -> (HandOf<C, O, H, L>, u64)
-    requires { 0 < tally.old.parts }
     ensures { tally.new.parts ≡ tally.old.parts }
 {
     let Row(client, act, now, _, _) = row;
@@ -354,6 +370,10 @@ fn acts<C: Depth + Drop, O: Drop, H: Ledger, L: Loans, R: Wait, X: Outside<C, O>
         Act::Try => {
             lets_go::<C, O, H, L, R, X>(rt, alloc, hand, now, out);
             tries(rt, alloc, pool, client, now, tally)
+        }
+        Act::Past => {
+            let said = passes::<C, O, H, L, R, X>(rt, alloc, pool, client, now, out, tally);
+            (hand, said)
         }
         Act::Shut | Act::Fill | Act::Reap => {
             let said = tends::<C, O, H, L, R, X>(rt, alloc, pool, act, now, out);
@@ -386,7 +406,6 @@ fn turn<C: Depth + Drop, O: Drop, H: Ledger, L: Loans, R: Wait, X: Outside<C, O>
     out: &mut X,
     tally: &mut Tally<L>,
 ) -> (HandsOf<C, O, H, L>, u64)
-    requires { 0 < tally.old.parts }
     ensures { tally.new.parts ≡ tally.old.parts }
 {
     let Hands { first, second } = hands;
@@ -408,7 +427,6 @@ pub fn plays<C: Depth + Drop, O: Drop, H: Ledger, L: Loans, R: Wait + Abort, X: 
     out: &mut X,
     tally: &mut Tally<L>,
 )
-    requires { 0 < tally.old.parts }
     ensures { tally.new.parts ≡ tally.old.parts }
 {
     let mut hands = Hands {
@@ -440,7 +458,6 @@ pub fn lend<C: Depth + Drop, O: Drop, H: Ledger, L: Loans, R: Wait, X: Outside<C
     out: &mut X,
     tally: &mut Tally<L>,
 ) -> Option<PoolConnectionOf<C, O, H, L>>
-    requires { 0 < tally.old.parts }
     ensures parts { tally.new.parts ≡ tally.old.parts }
     ensures loans { tally.new.loans ≤ tally.old.loans + 1 }
 {
@@ -465,7 +482,6 @@ pub fn loan<C: Depth + Drop, O: Drop, H: Ledger, L: Loans, R: Wait, X: Outside<C
     out: &mut X,
     tally: &mut Tally<L>,
 ) -> u64
-    requires { 0 < tally.old.parts }
     ensures parts { tally.new.parts ≡ tally.old.parts }
     ensures loans { tally.new.loans ≤ tally.old.loans + 1 }
 {

@@ -1,7 +1,7 @@
 //! A pool that is closed while a poll connects, and while it pings.
 
 ghost use Rattle.std.specs.Prelude.{◌≡◌, ◌^◌, ◌<◌};
-ghost use Rattle.sqlx_member.specs.Calls as call;
+ghost use Rattle.sqlx_pool_core.specs.Calls as call;
 
 use crate::clients::*;
 use crate::outside::{Conn, Counts, new_counts};
@@ -15,7 +15,7 @@ use std::alloc::Global;
 use std::marker::Brand;
 use std::process::Abort;
 use std::sync::Wait;
-use std::sync::ledger::{Blank, Ledger};
+use std::sync::ledger::Ledger;
 use std::test::*;
 
 // In which call the pool is closed.
@@ -152,9 +152,7 @@ fn closed_amid<H: Ledger, L: Loans, R: Wait + Abort + Copy + Drop>(
     closing: Closing,
     script: &Script<'_>,
     tally: &mut Tally<L>,
-) -> Result<(), Fail>
-    requires { 0 < tally.old.parts }
-{
+) -> Result<(), Fail> {
     let mut out = Closer {
         rt,
         pool: pool.try_clone()?,
@@ -177,14 +175,12 @@ fn closed_in_one<H: Ledger, L: Loans, R: Wait + Abort + Copy + Drop>(
     alloc: Global,
     closing: Closing,
     script: &Script<'_>,
-    held: Blank,
-    loans: Blank,
+    blanks: BlanksOf<Conn, ()>,
 ) -> Result<(), Fail>
     requires max { L.max ≡ 1 }
-    requires held { (held.name ≡ H.name) × (held.parts ≡ H.parts) × (held.parts ≡ 2 ^ 32) }
-    requires loans { (loans.name ≡ L.name) × (loans.parts ≡ L.parts) × (loans.parts ≡ 2 ^ 32) }
+    requires blanks { (blanks.held.name ≡ H.name) × (H.parts ≡ 2 ^ 32) × (blanks.loans.name ≡ L.name) × (L.parts ≡ 2 ^ 32) × (blanks.opened.seen.book ≡ L.book) }
 {
-    let (pool, mut tally) = pool_of::<Conn, (), H, L>(alloc, 1, (), held, loans)?;
+    let (pool, mut tally) = pool_of::<Conn, (), H, L>(alloc, 1, (), blanks)?;
     let played = closed_amid::<H, L, R>(rt, alloc, &pool, closing, script, &mut tally);
     drop(pool);
     drop(tally);
@@ -198,14 +194,7 @@ fn closed_in<R: Wait + Abort + Copy + Drop>(
     closing: Closing,
     script: &Script<'_>,
 ) -> Result<(), Fail> {
-    closed_in_one::<Brand, Brand, R>(
-        rt,
-        alloc,
-        closing,
-        script,
-        Blank::new(1 << 32),
-        Blank::new(1 << 32),
-    )
+    closed_in_one::<Brand, Brand, R>(rt, alloc, closing, script, BlanksOf::new())
 }
 
 #[test]

@@ -14,7 +14,7 @@ use std::alloc::Global;
 use std::marker::Brand;
 use std::process::Abort;
 use std::sync::Wait;
-use std::sync::ledger::{Blank, Ledger};
+use std::sync::ledger::Ledger;
 use std::test::*;
 
 // How a log is cut, and how many loans are made.
@@ -63,7 +63,6 @@ fn a_loan<C: Depth + Drop, O: Drop, H: Ledger, L: Loans, R: Wait + Abort, X: Out
     out: &mut X,
     tally: &mut Tally<L>,
 ) -> Result<(), Fail>
-    requires parts { 0 < tally.old.parts }
     requires cuts { L.cuts ≡ true }
     ensures { tally.new.parts ≡ tally.old.parts }
 {
@@ -87,7 +86,6 @@ fn many<C: Depth + Drop, O: Drop, H: Ledger, L: Loans, R: Wait + Abort, X: Outsi
     out: &mut X,
     tally: &mut Tally<L>,
 ) -> Result<(), Fail>
-    requires parts { 0 < tally.old.parts }
     requires all { tally.old.parts ≡ L.parts }
     requires cuts { L.cuts ≡ true }
 {
@@ -107,15 +105,13 @@ fn counts<H: Ledger, L: Loans, R: Wait + Abort>(
     rt: &R,
     alloc: Global,
     cuts: Cuts,
-    held: Blank,
-    loans: Blank,
+    blanks: BlanksOf<Conn, ()>,
 ) -> Result<(), Fail>
     requires max { L.max ≡ 1 }
     requires cuts { L.cuts ≡ true }
-    requires held { (held.name ≡ H.name) × (held.parts ≡ H.parts) × (held.parts ≡ 2 ^ 32) }
-    requires loans { (loans.name ≡ L.name) × (loans.parts ≡ L.parts) × (loans.parts ≡ 2 ^ 32) }
+    requires blanks { (blanks.held.name ≡ H.name) × (H.parts ≡ 2 ^ 32) × (blanks.loans.name ≡ L.name) × (L.parts ≡ 2 ^ 32) × (blanks.opened.seen.book ≡ L.book) }
 {
-    let (pool, mut tally) = pool_of::<Conn, (), H, L>(alloc, 1, (), held, loans)?;
+    let (pool, mut tally) = pool_of::<Conn, (), H, L>(alloc, 1, (), blanks)?;
     let mut out = new_counts();
     let cut = many::<Conn, (), H, L, R, Counts>(rt, alloc, &pool, cuts, &mut out, &mut tally);
     drop(pool);
@@ -126,7 +122,7 @@ fn counts<H: Ledger, L: Loans, R: Wait + Abort>(
 
 // The same, with ledgers.
 fn cut<R: Wait + Abort>(rt: &R, alloc: Global, cuts: Cuts) -> Result<(), Fail> {
-    counts::<Brand, Brand, R>(rt, alloc, cuts, Blank::new(1 << 32), Blank::new(1 << 32))
+    counts::<Brand, Brand, R>(rt, alloc, cuts, BlanksOf::new())
 }
 
 #[test]

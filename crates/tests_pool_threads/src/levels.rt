@@ -175,7 +175,6 @@ fn begun<DB: Database, H: Ledger, L: Loans, R: Wait, X: Outside<DB::Connection, 
 ) -> Result<Transaction<DB, PoolConnection<DB, H, L>>, BeginRefused<DB, H, L>>
 where
     DB::Connection: Drop,
-    requires { 0 < tally.old.parts }
     ensures { tally.new.parts ≡ tally.old.parts }
 {
     let now = Moment(0);
@@ -229,7 +228,6 @@ fn works<
 ) -> Result<Option<i64>, Error>
 where
     DB::Connection: Drop,
-    requires { 0 < tally.old.parts }
     ensures { tally.new.parts ≡ tally.old.parts }
 {
     match begun::<DB, H, L, R, X>(rt, alloc, pool, by, out, tally) {
@@ -304,7 +302,6 @@ fn lent_for<
 ) -> Result<Option<i64>, Error>
 where
     DB::Connection: Drop,
-    requires { 0 < tally.old.parts }
     ensures { tally.new.parts ≡ tally.old.parts }
 {
     match lend::<DB::Connection, DB::Options, H, L, R, X>(rt, alloc, pool, 1, 0, out, tally) {
@@ -359,7 +356,6 @@ fn does<
 ) -> Result<(), Error>
 where
     DB::Connection: Drop,
-    requires { 0 < tally.old.parts }
     ensures { tally.new.parts ≡ tally.old.parts }
 {
     let done = match row.0 {
@@ -387,7 +383,6 @@ pub fn does_all<
 ) -> Result<(), Error>
 where
     DB::Connection: Drop,
-    requires { 0 < tally.old.parts }
     ensures { tally.new.parts ≡ tally.old.parts }
 {
     for row in rows {
@@ -417,7 +412,6 @@ pub fn either<
 ) -> Result<(), Error>
 where
     DB::Connection: Drop,
-    requires { 0 < tally.old.parts }
 {
     let mut clock = FixedClock(Moment(0));
     let mut conn = match pool.acquire_wait::<R, FixedClock, X>(

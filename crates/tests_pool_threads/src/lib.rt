@@ -1,5 +1,6 @@
 //! Tests of the threaded pool: a pool of one on one thread, call by call with the length of its log; a close while a
-//! ticket waits, while a poll connects and while it pings; the first connections; loans by two threads; calls that
+//! ticket waits, while a poll connects and while it pings; the first connections; connects, pings and hooks
+//! that refuse; loans by two threads; calls that
 //! wait; a log that is cut, and one that the pool cuts by itself; transactions and queries over one store, also by the
 //! pool as an executor; and what goes between threads.
 #![tactic(auto)]
@@ -16,6 +17,10 @@ mod levels;
 mod marks;
 #[cfg(test)]
 mod outside;
+#[cfg(test)]
+mod refusals;
+#[cfg(test)]
+mod refusing;
 #[cfg(test)]
 mod rows;
 #[cfg(test)]

@@ -1,6 +1,6 @@
 //! A connection and an outside for tests, which refuses nothing and counts what it opens and closes.
 
-ghost use Rattle.sqlx_member.specs.Calls as call;
+ghost use Rattle.sqlx_pool_core.specs.Calls as call;
 
 use sqlx_pool::*;
 use sqlx_pool_core::Outside;

@@ -14,7 +14,7 @@ use std::alloc::Global;
 use std::marker::Brand;
 use std::process::Abort;
 use std::sync::Wait;
-use std::sync::ledger::{Blank, Ledger};
+use std::sync::ledger::Ledger;
 use std::test::*;
 
 /// Rows, what the log says behind them, and how many loans were made.
@@ -32,9 +32,7 @@ pub fn performs<C: Depth + Drop, O: Drop, H: Ledger, L: Loans, R: Wait + Abort, 
     script: &Script<'_>,
     out: &mut X,
     tally: &mut Tally<L>,
-) -> Result<(), Fail>
-    requires { 0 < tally.old.parts }
-{
+) -> Result<(), Fail> {
     plays::<C, O, H, L, R, X>(rt, alloc, pool, script.rows, out, tally);
     same(rt, tally.loans(), script.loans);
     tells(rt, alloc, pool, script.log)
@@ -47,14 +45,12 @@ pub fn in_one<C: Depth + Drop, O: Drop, H: Ledger, L: Loans, R: Wait + Abort, X:
     connect: O,
     script: &Script<'_>,
     out: &mut X,
-    held: Blank,
-    loans: Blank,
+    blanks: BlanksOf<C, O>,
 ) -> Result<(), Fail>
     requires max { L.max ≡ 1 }
-    requires held { (held.name ≡ H.name) × (held.parts ≡ H.parts) × (held.parts ≡ 2 ^ 32) }
-    requires loans { (loans.name ≡ L.name) × (loans.parts ≡ L.parts) × (loans.parts ≡ 2 ^ 32) }
+    requires blanks { (blanks.held.name ≡ H.name) × (H.parts ≡ 2 ^ 32) × (blanks.loans.name ≡ L.name) × (L.parts ≡ 2 ^ 32) × (blanks.opened.seen.book ≡ L.book) }
 {
-    let (pool, mut tally) = pool_of::<C, O, H, L>(alloc, 1, connect, held, loans)?;
+    let (pool, mut tally) = pool_of::<C, O, H, L>(alloc, 1, connect, blanks)?;
     let played = performs::<C, O, H, L, R, X>(rt, alloc, &pool, script, out, &mut tally);
     drop(pool);
     drop(tally);
@@ -66,34 +62,27 @@ fn counts<H: Ledger, L: Loans, R: Wait + Abort>(
     rt: &R,
     alloc: Global,
     script: &Script<'_>,
-    held: Blank,
-    loans: Blank,
+    blanks: BlanksOf<Conn, ()>,
 ) -> Result<Counts, Fail>
     requires max { L.max ≡ 1 }
-    requires held { (held.name ≡ H.name) × (held.parts ≡ H.parts) × (held.parts ≡ 2 ^ 32) }
-    requires loans { (loans.name ≡ L.name) × (loans.parts ≡ L.parts) × (loans.parts ≡ 2 ^ 32) }
+    requires blanks { (blanks.held.name ≡ H.name) × (H.parts ≡ 2 ^ 32) × (blanks.loans.name ≡ L.name) × (L.parts ≡ 2 ^ 32) × (blanks.opened.seen.book ≡ L.book) }
 {
     let mut out = new_counts();
-    in_one::<Conn, (), H, L, R, Counts>(rt, alloc, (), script, &mut out, held, loans)?;
+    in_one::<Conn, (), H, L, R, Counts>(rt, alloc, (), script, &mut out, blanks)?;
     Ok(out)
 }
 
 // The same, with ledgers: how many were opened, closed, and closed hard.
 fn counted<R: Wait + Abort>(rt: &R, alloc: Global, script: &Script<'_>) -> Result<[u64; 3], Fail> {
-    let out = counts::<Brand, Brand, R>(
-        rt,
-        alloc,
-        script,
-        Blank::new(1 << 32),
-        Blank::new(1 << 32),
-    )?;
+    let out = counts::<Brand, Brand, R>(rt, alloc, script, BlanksOf::new())?;
     Ok([out.opened, out.closed, out.closed_hard])
 }
 
 // When the second ticket of the last rows times out, and when a ticket of then does.
 const LATE: u64 = 30_000_000_016;
 
-/// A pool of one, call by call: a second client waits in vain; a connection past the line is detached, that of a loan is
+/// A pool of one, call by call: a second client waits in vain, and nothing is lent past the line while the connection is
+/// out; a connection past the line is detached, that of a loan is
 /// closed, and one is kept and reaped beyond the limit; a leaked one keeps its permit, so that a ticket times out, and
 /// another ends by the close; a closed pool refuses to be asked.
 pub const WAY: Script<'static> = Script {
@@ -103,6 +92,7 @@ pub const WAY: Script<'static> = Script {
         Row(2, Act::Ask, 0, 2, 6),
         Row(2, Act::Poll, 0, WAITS, 6),
         Row(2, Act::Cancel, 0, CANCELLED, 7),
+        Row(1, Act::Past, 0, NONE, 7),
         Row(1, Act::Return, 0, KEPT, 8),
         Row(1, Act::Try, 1, LENT, 10),
         Row(1, Act::Detach, 1, 0, 11),
@@ -122,6 +112,7 @@ pub const WAY: Script<'static> = Script {
         Row(2, Act::Poll, LATE, TIMED_OUT, 32),
         Row(2, Act::Ask, LATE, 7, 33),
         Row(2, Act::Shut, LATE, 0, 34),
+        Row(2, Act::Closing, LATE, 1, 34),
         Row(2, Act::Poll, LATE, POOL_CLOSED, 35),
         Row(2, Act::Closing, LATE, 1, 35),
         Row(2, Act::Ask, LATE, POOL_CLOSED, 35),
@@ -198,6 +189,7 @@ const SERVED: Script<'static> = Script {
         Row(2, Act::Poll, 0, WAITS, 6),
         Row(1, Act::Return, 0, KEPT, 7),
         Row(2, Act::Poll, 0, LENT, 11),
+        Row(1, Act::Try, 0, NONE, 11),
         Row(2, Act::Close, 0, 0, 12),
     ],
     log: "asked 1 1 30000000000
@@ -246,12 +238,10 @@ fn opens_first<C: Depth + Drop, O: Drop, H: Ledger, L: Loans, R: Wait + Abort, X
     alloc: Global,
     connect: O,
     out: &mut X,
-    held: Blank,
-    loans: Blank,
+    blanks: BlanksOf<C, O>,
 ) -> Result<(), Fail>
     requires max { L.max ≡ 3 }
-    requires held { (held.name ≡ H.name) × (held.parts ≡ H.parts) × (held.parts ≡ 2 ^ 32) }
-    requires loans { (loans.name ≡ L.name) × (loans.parts ≡ L.parts) × (loans.parts ≡ 2 ^ 32) }
+    requires blanks { (blanks.held.name ≡ H.name) × (H.parts ≡ 2 ^ 32) × (blanks.loans.name ≡ L.name) × (L.parts ≡ 2 ^ 32) × (blanks.opened.seen.book ≡ L.book) }
 {
     let options = PoolOptions::new().max_connections(3).min_connections(2);
     let (pool, mut tally) = options.connect_with::<C, O, H, L, R, X>(
@@ -260,8 +250,7 @@ fn opens_first<C: Depth + Drop, O: Drop, H: Ledger, L: Loans, R: Wait + Abort, X
         connect,
         Moment(0),
         out,
-        held,
-        loans,
+        blanks,
     )?;
     same(rt, u64::from(pool.options().get_min_connections()), 2);
     let played = performs::<C, O, H, L, R, X>(rt, alloc, &pool, &FIRST, out, &mut tally);
@@ -274,25 +263,18 @@ fn opens_first<C: Depth + Drop, O: Drop, H: Ledger, L: Loans, R: Wait + Abort, X
 fn counts_first<H: Ledger, L: Loans, R: Wait + Abort>(
     rt: &R,
     alloc: Global,
-    held: Blank,
-    loans: Blank,
+    blanks: BlanksOf<Conn, ()>,
 ) -> Result<(), Fail>
     requires max { L.max ≡ 3 }
-    requires held { (held.name ≡ H.name) × (held.parts ≡ H.parts) × (held.parts ≡ 2 ^ 32) }
-    requires loans { (loans.name ≡ L.name) × (loans.parts ≡ L.parts) × (loans.parts ≡ 2 ^ 32) }
+    requires blanks { (blanks.held.name ≡ H.name) × (H.parts ≡ 2 ^ 32) × (blanks.loans.name ≡ L.name) × (L.parts ≡ 2 ^ 32) × (blanks.opened.seen.book ≡ L.book) }
 {
     let mut out = new_counts();
-    opens_first::<Conn, (), H, L, R, Counts>(rt, alloc, (), &mut out, held, loans)
+    opens_first::<Conn, (), H, L, R, Counts>(rt, alloc, (), &mut out, blanks)
 }
 
 #[test]
 fn a_pool_that_connects(rt: HostRuntime) -> Result<(), Fail> {
-    counts_first::<Brand, Brand, HostRuntime>(
-        &rt,
-        rt.alloc(),
-        Blank::new(1 << 32),
-        Blank::new(1 << 32),
-    )
+    counts_first::<Brand, Brand, HostRuntime>(&rt, rt.alloc(), BlanksOf::new())
 }
 
 // The connect options.
@@ -322,14 +304,12 @@ fn resets<C: Depth + Drop, H: Ledger, L: Loans, R: Wait + Abort>(
 fn sets_options<H: Ledger, L: Loans, R: Wait + Abort>(
     rt: &R,
     alloc: Global,
-    held: Blank,
-    loans: Blank,
+    blanks: BlanksOf<Conn, u32>,
 ) -> Result<[u64; 2], OutOfMemory>
     requires max { L.max ≡ 1 }
-    requires held { (held.name ≡ H.name) × (held.parts ≡ H.parts) × (held.parts ≡ 2 ^ 32) }
-    requires loans { (loans.name ≡ L.name) × (loans.parts ≡ L.parts) × (loans.parts ≡ 2 ^ 32) }
+    requires blanks { (blanks.held.name ≡ H.name) × (H.parts ≡ 2 ^ 32) × (blanks.loans.name ≡ L.name) × (L.parts ≡ 2 ^ 32) × (blanks.opened.seen.book ≡ L.book) }
 {
-    let (pool, tally) = pool_of::<Conn, u32, H, L>(alloc, 1, 5, held, loans)?;
+    let (pool, tally) = pool_of::<Conn, u32, H, L>(alloc, 1, 5, blanks)?;
     let first = option(rt, &pool);
     let set = resets(rt, alloc, &pool, 7);
     let loans = tally.loans();
@@ -344,8 +324,7 @@ fn options_that_are_set(rt: HostRuntime) -> Result<(), Fail> {
     let [first, loans] = sets_options::<Brand, Brand, HostRuntime>(
         &rt,
         rt.alloc(),
-        Blank::new(1 << 32),
-        Blank::new(1 << 32),
+        BlanksOf::new(),
     )?;
     same_three(&rt, [first, loans, 0], [5, 0, 0]);
     Ok(())

@@ -6,7 +6,7 @@ ghost use Rattle.sqlx_pool_parts.specs.Opened.{IsOpenable};
 use sqlx_pool::*;
 use sqlx_text::{Depth, OutOfMemory};
 use std::alloc::Global;
-use std::sync::ledger::{Blank, Ledger};
+use std::sync::ledger::Ledger;
 
 /// The options of a pool of so many, whose idle connections rest for 5 at most.
 pub fn options_of(max: u32) -> PoolOptions
@@ -23,15 +23,13 @@ pub fn pool_of<C: Depth + Drop, O: Drop, H: Ledger, L: Loans>(
     alloc: Global,
     max: u32,
     connect: O,
-    held: Blank,
-    loans: Blank,
+    blanks: BlanksOf<C, O>,
 ) -> Result<(PoolOf<C, O, H, L>, Tally<L>), OutOfMemory>
     requires max { L.max ≡ max }
     requires some { 1 ≤ max }
-    requires held { (held.name ≡ H.name) × (held.parts ≡ H.parts) × (held.parts ≡ 2 ^ 32) }
-    requires loans { (loans.name ≡ L.name) × (loans.parts ≡ L.parts) × (loans.parts ≡ 2 ^ 32) }
+    requires blanks { (blanks.held.name ≡ H.name) × (H.parts ≡ 2 ^ 32) × (blanks.loans.name ≡ L.name) × (L.parts ≡ 2 ^ 32) × (blanks.opened.seen.book ≡ L.book) }
     ensures tally { IfOk result (λ made. made.1 ≡ record { parts = L.parts; loans = 0 }) }
     ensures some { IfOk result (λ made. 0 < made.1.parts) }
 {
-    options_of(max).connect_lazy_with::<C, O, H, L>(alloc, connect, held, loans)
+    options_of(max).connect_lazy_with::<C, O, H, L>(alloc, connect, blanks)
 }

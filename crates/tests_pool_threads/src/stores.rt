@@ -7,8 +7,7 @@ use crate::levels::*;
 use crate::rows::{WAY, in_one};
 use crate::same::{same_read, same_three};
 use crate::works::{Acts, Work};
-use mem_driver::MemStore;
-use shared_mem_driver::{SharedMem, SharedMemConnection, SharedMemConnector};
+use mem_driver::{MemStore, SharedMem, SharedMemConnection, SharedMemConnector};
 use sqlx_any::{ConnectOptions, Connector, Database, Executor};
 use sqlx_pool::*;
 use sqlx_pool_core::Outside;
@@ -17,7 +16,7 @@ use std::alloc::Global;
 use std::marker::Brand;
 use std::process::Abort;
 use std::sync::Wait;
-use std::sync::ledger::{Blank, Ledger};
+use std::sync::ledger::Ledger;
 use std::test::*;
 
 // The way of a pool of one, by the connections of a connector.
@@ -25,20 +24,18 @@ fn way_over<DB: Database, K: Connector<DB>, H: Ledger, L: Loans, R: Wait + Abort
     rt: &R,
     alloc: Global,
     connector: &mut K,
-    held: Blank,
-    loans: Blank,
+    blanks: BlanksOf<DB::Connection, DB::Options>,
 ) -> Result<(), Fail>
 where
     DB::Connection: Drop,
     requires max { L.max ≡ 1 }
-    requires held { (held.name ≡ H.name) × (held.parts ≡ H.parts) × (held.parts ≡ 2 ^ 32) }
-    requires loans { (loans.name ≡ L.name) × (loans.parts ≡ L.parts) × (loans.parts ≡ 2 ^ 32) }
+    requires blanks { (blanks.held.name ≡ H.name) × (H.parts ≡ 2 ^ 32) × (blanks.loans.name ≡ L.name) × (L.parts ≡ 2 ^ 32) × (blanks.opened.seen.book ≡ L.book) }
 {
     let connect = DB::Options::parse(alloc, "mem:")?;
     let mut hooks = NoHooks;
     let mut out = Parts::<'_, DB, K, NoHooks>::new(connector, &mut hooks);
     in_one::<DB::Connection, DB::Options, H, L, R, Parts<'_, DB, K, NoHooks>>(
-        rt, alloc, connect, &WAY, &mut out, held, loans,
+        rt, alloc, connect, &WAY, &mut out, blanks,
     )
 }
 
@@ -46,20 +43,17 @@ where
 fn way_of_a_store<H: Ledger, L: Loans, R: Wait + Abort + Copy + Drop>(
     rt: R,
     alloc: Global,
-    held: Blank,
-    loans: Blank,
+    blanks: Blanks<SharedMem<R>>,
 ) -> Result<(), Fail>
     requires max { L.max ≡ 1 }
-    requires held { (held.name ≡ H.name) × (held.parts ≡ H.parts) × (held.parts ≡ 2 ^ 32) }
-    requires loans { (loans.name ≡ L.name) × (loans.parts ≡ L.parts) × (loans.parts ≡ 2 ^ 32) }
+    requires blanks { (blanks.held.name ≡ H.name) × (H.parts ≡ 2 ^ 32) × (blanks.loans.name ≡ L.name) × (L.parts ≡ 2 ^ 32) × (blanks.opened.seen.book ≡ L.book) }
 {
     let mut connector = SharedMemConnector::new(alloc, rt, MemStore::new(alloc))?;
     let went = way_over::<SharedMem<R>, SharedMemConnector<R>, H, L, R>(
         &rt,
         alloc,
         &mut connector,
-        held,
-        loans,
+        blanks,
     );
     drop(connector);
     went
@@ -67,12 +61,7 @@ fn way_of_a_store<H: Ledger, L: Loans, R: Wait + Abort + Copy + Drop>(
 
 #[test]
 fn a_pool_of_one_over_a_store(rt: HostRuntime) -> Result<(), Fail> {
-    way_of_a_store::<Brand, Brand, HostRuntime>(
-        rt,
-        rt.alloc(),
-        Blank::new(1 << 32),
-        Blank::new(1 << 32),
-    )
+    way_of_a_store::<Brand, Brand, HostRuntime>(rt, rt.alloc(), BlanksOf::new())
 }
 
 // What is done with a pool of a store.
@@ -143,7 +132,6 @@ fn tried_on<
 where
     DB::Connection: Drop,
     Work: Acts<DB>,
-    requires { 0 < tally.old.parts }
 {
     if let Trial::Queries = trial {
         return does_all::<DB, Work, H, L, R, X>(rt, alloc, pool, QUERIES, out, tally);
@@ -165,17 +153,15 @@ fn lazily<
     alloc: Global,
     trial: Trial,
     out: &mut X,
-    held: Blank,
-    loans: Blank,
+    blanks: BlanksOf<DB::Connection, DB::Options>,
 ) -> Result<[u64; 3], Error>
 where
     DB::Connection: Drop,
     Work: Acts<DB>,
     requires max { L.max ≡ 10 }
-    requires held { (held.name ≡ H.name) × (held.parts ≡ H.parts) × (held.parts ≡ 2 ^ 32) }
-    requires loans { (loans.name ≡ L.name) × (loans.parts ≡ L.parts) × (loans.parts ≡ 2 ^ 32) }
+    requires blanks { (blanks.held.name ≡ H.name) × (H.parts ≡ 2 ^ 32) × (blanks.loans.name ≡ L.name) × (L.parts ≡ 2 ^ 32) × (blanks.opened.seen.book ≡ L.book) }
 {
-    let (pool, mut tally) = Pool::<DB, H, L>::connect_lazy(alloc, "mem:", held, loans)?;
+    let (pool, mut tally) = Pool::<DB, H, L>::connect_lazy(alloc, "mem:", blanks)?;
     same_three(rt, numbers(rt, &pool, &tally), [0, 0, 0]);
     let tried = tried_on::<DB, H, L, R, X>(rt, alloc, &pool, trial, out, &mut tally);
     let numbers = numbers(rt, &pool, &tally);
@@ -213,7 +199,6 @@ fn handled<
 where
     DB::Connection: Executor<DB> + Drop,
     Work: Acts<DB>,
-    requires { 0 < tally.parts }
 {
     let mut handle = pool.with(rt, FixedClock(Moment(0)), 1, out, tally);
     let read = number(calls::<DB, _>(alloc, &mut handle));
@@ -229,16 +214,20 @@ fn by_a_handle<
     L: Loans,
     R: Wait + Abort + Copy + Drop,
     X: Outside<DB::Connection, DB::Options> + Drop,
->(rt: R, alloc: Global, out: X, held: Blank, loans: Blank) -> Result<[u64; 3], Error>
+>(
+    rt: R,
+    alloc: Global,
+    out: X,
+    blanks: BlanksOf<DB::Connection, DB::Options>,
+) -> Result<[u64; 3], Error>
 where
     DB::Connection: Executor<DB> + Drop,
     Work: Acts<DB>,
     requires max { L.max ≡ 10 }
-    requires held { (held.name ≡ H.name) × (held.parts ≡ H.parts) × (held.parts ≡ 2 ^ 32) }
-    requires loans { (loans.name ≡ L.name) × (loans.parts ≡ L.parts) × (loans.parts ≡ 2 ^ 32) }
+    requires blanks { (blanks.held.name ≡ H.name) × (H.parts ≡ 2 ^ 32) × (blanks.loans.name ≡ L.name) × (L.parts ≡ 2 ^ 32) × (blanks.opened.seen.book ≡ L.book) }
 {
     let mut out = out;
-    match Pool::<DB, H, L>::connect::<R, X>(&rt, alloc, "mem:", Moment(0), &mut out, held, loans) {
+    match Pool::<DB, H, L>::connect::<R, X>(&rt, alloc, "mem:", Moment(0), &mut out, blanks) {
         Ok((pool, tally)) => {
             let (read, tally) = handled::<DB, H, L, R, X>(rt, alloc, &pool, out, tally);
             let numbers = numbers(&rt, &pool, &tally);
@@ -274,24 +263,22 @@ fn over<DB: Database, K: Connector<DB>, H: Ledger, L: Loans, R: Wait + Abort + C
     alloc: Global,
     trial: Trial,
     connector: &mut K,
-    held: Blank,
-    loans: Blank,
+    blanks: BlanksOf<DB::Connection, DB::Options>,
 ) -> Result<[u64; 3], Error>
 where
     DB::Connection: Executor<DB> + Drop,
     Work: Acts<DB>,
     requires max { L.max ≡ 10 }
-    requires held { (held.name ≡ H.name) × (held.parts ≡ H.parts) × (held.parts ≡ 2 ^ 32) }
-    requires loans { (loans.name ≡ L.name) × (loans.parts ≡ L.parts) × (loans.parts ≡ 2 ^ 32) }
+    requires blanks { (blanks.held.name ≡ H.name) × (H.parts ≡ 2 ^ 32) × (blanks.loans.name ≡ L.name) × (L.parts ≡ 2 ^ 32) × (blanks.opened.seen.book ≡ L.book) }
 {
     let mut hooks = NoHooks;
     let mut out = Parts::<'_, DB, K, NoHooks>::new(connector, &mut hooks);
     match trial {
         Trial::Handle => by_a_handle::<DB, H, L, R, Parts<'_, DB, K, NoHooks>>(
-            rt, alloc, out, held, loans,
+            rt, alloc, out, blanks,
         ),
         trial => lazily::<DB, H, L, R, Parts<'_, DB, K, NoHooks>>(
-            &rt, alloc, trial, &mut out, held, loans,
+            &rt, alloc, trial, &mut out, blanks,
         ),
     }
 }
@@ -301,12 +288,10 @@ fn over_a_store<H: Ledger, L: Loans, R: Wait + Abort + Copy + Drop>(
     rt: R,
     alloc: Global,
     trial: Trial,
-    held: Blank,
-    loans: Blank,
+    blanks: Blanks<SharedMem<R>>,
 ) -> Result<[u64; 3], Error>
     requires max { L.max ≡ 10 }
-    requires held { (held.name ≡ H.name) × (held.parts ≡ H.parts) × (held.parts ≡ 2 ^ 32) }
-    requires loans { (loans.name ≡ L.name) × (loans.parts ≡ L.parts) × (loans.parts ≡ 2 ^ 32) }
+    requires blanks { (blanks.held.name ≡ H.name) × (H.parts ≡ 2 ^ 32) × (blanks.loans.name ≡ L.name) × (L.parts ≡ 2 ^ 32) × (blanks.opened.seen.book ≡ L.book) }
 {
     let mut connector = SharedMemConnector::new(alloc, rt, MemStore::new(alloc))?;
     let tried = over::<SharedMem<R>, SharedMemConnector<R>, H, L, R>(
@@ -314,8 +299,7 @@ fn over_a_store<H: Ledger, L: Loans, R: Wait + Abort + Copy + Drop>(
         alloc,
         trial,
         &mut connector,
-        held,
-        loans,
+        blanks,
     );
     drop(connector);
     tried
@@ -327,7 +311,7 @@ fn tried<R: Wait + Abort + Copy + Drop>(
     alloc: Global,
     trial: Trial,
 ) -> Result<[u64; 3], Error> {
-    over_a_store::<Brand, Brand, R>(rt, alloc, trial, Blank::new(1 << 32), Blank::new(1 << 32))
+    over_a_store::<Brand, Brand, R>(rt, alloc, trial, BlanksOf::new())
 }
 
 #[test]

@@ -13,7 +13,7 @@ use std::alloc::Global;
 use std::marker::Brand;
 use std::process::Abort;
 use std::sync::Wait;
-use std::sync::ledger::{Blank, Ledger};
+use std::sync::ledger::Ledger;
 use std::test::*;
 use std::thread::{Threads, join};
 
@@ -45,7 +45,6 @@ fn wait_once<C: Depth + Drop, O: Drop, H: Ledger, L: Loans, R: Wait, X: Outside<
     out: &mut X,
     tally: &mut Tally<L>,
 ) -> u64
-    requires { 0 < tally.old.parts }
     ensures parts { tally.new.parts ≡ tally.old.parts }
     ensures loans { tally.new.loans ≤ tally.old.loans + 1 }
 {
@@ -84,7 +83,6 @@ fn waits_often<C: Depth + Drop, O: Drop, H: Ledger, L: Loans, R: Wait, X: Outsid
     out: &mut X,
     tally: &mut Tally<L>,
 ) -> u64
-    requires { 0 < tally.old.parts }
     ensures { tally.new.loans ≤ tally.old.loans + 200 }
 {
     let mut said = NONE;
@@ -114,7 +112,6 @@ fn works<C: Depth + Drop, O: Drop, H: Ledger, L: Loans, R: Wait, X: Outside<C, O
     out: &mut X,
     tally: &mut Tally<L>,
 ) -> u64
-    requires { 0 < tally.old.parts }
     ensures { tally.new.loans ≤ tally.old.loans + 200 }
 {
     match work {
@@ -160,15 +157,13 @@ fn two<H: Ledger + Send + Sync, L: Loans + Send + Sync, R: Wait + Threads + Sync
     max: u32,
     first: Work,
     second: Work,
-    held: Blank,
-    loans: Blank,
+    blanks: BlanksOf<Conn, ()>,
 ) -> Result<Came, Fail>
     requires max { L.max ≡ max }
     requires some { 1 ≤ max }
-    requires held { (held.name ≡ H.name) × (held.parts ≡ H.parts) × (held.parts ≡ 2 ^ 32) }
-    requires loans { (loans.name ≡ L.name) × (loans.parts ≡ L.parts) × (loans.parts ≡ 2 ^ 32) }
+    requires blanks { (blanks.held.name ≡ H.name) × (H.parts ≡ 2 ^ 32) × (blanks.loans.name ≡ L.name) × (L.parts ≡ 2 ^ 32) × (blanks.opened.seen.book ≡ L.book) }
 {
-    let (pool, mut all) = pool_of::<Conn, (), H, L>(alloc, max, (), held, loans)?;
+    let (pool, mut all) = pool_of::<Conn, (), H, L>(alloc, max, (), blanks)?;
     let one = all.split();
     let other = all.split();
     let shared = &pool;
@@ -198,15 +193,7 @@ fn in_threads<R: Wait + Threads + Sync>(
 ) -> Result<Came, Fail>
     requires { 1 ≤ max }
 {
-    two::<Brand, Brand, R>(
-        rt,
-        alloc,
-        max,
-        first,
-        second,
-        Blank::new(1 << 32),
-        Blank::new(1 << 32),
-    )
+    two::<Brand, Brand, R>(rt, alloc, max, first, second, BlanksOf::new())
 }
 
 #[test]
@@ -248,15 +235,13 @@ fn a_close_wakes_who_waits(rt: HostRuntime) -> Result<(), Fail> {
 fn times_out<H: Ledger, L: Loans, R: Wait + Abort>(
     rt: &R,
     alloc: Global,
-    held: Blank,
-    loans: Blank,
+    blanks: BlanksOf<Conn, ()>,
 ) -> Result<(), Fail>
     requires max { L.max ≡ 1 }
-    requires held { (held.name ≡ H.name) × (held.parts ≡ H.parts) × (held.parts ≡ 2 ^ 32) }
-    requires loans { (loans.name ≡ L.name) × (loans.parts ≡ L.parts) × (loans.parts ≡ 2 ^ 32) }
+    requires blanks { (blanks.held.name ≡ H.name) × (H.parts ≡ 2 ^ 32) × (blanks.loans.name ≡ L.name) × (L.parts ≡ 2 ^ 32) × (blanks.opened.seen.book ≡ L.book) }
 {
     let options = PoolOptions::new().max_connections(1).acquire_timeout(0);
-    let (pool, mut tally) = options.connect_lazy_with::<Conn, (), H, L>(alloc, (), held, loans)?;
+    let (pool, mut tally) = options.connect_lazy_with::<Conn, (), H, L>(alloc, (), blanks)?;
     let mut out = new_counts();
     let said = wait_once::<Conn, (), H, L, R, Counts>(
         rt,
@@ -276,10 +261,76 @@ fn times_out<H: Ledger, L: Loans, R: Wait + Abort>(
 
 #[test]
 fn a_timeout_by_a_clock_that_stands_still(rt: HostRuntime) -> Result<(), Fail> {
-    times_out::<Brand, Brand, HostRuntime>(
+    times_out::<Brand, Brand, HostRuntime>(&rt, rt.alloc(), BlanksOf::new())
+}
+
+// The clock of the machine, from 0 on.
+#[derive(Drop)]
+struct Machine<R: Drop> {
+    rt: R,
+}
+
+impl<R: std::rt::Clock + Drop> Clock for Machine<R> {
+    ghost reads = { λ _ _ _. Unit {0} };
+
+    fn now(&mut self) -> Moment {
+        match self.rt.monotonic() {
+            Ok(time) => {
+                let seconds = time.as_secs().saturating_mul(1_000_000_000);
+                Moment(seconds.saturating_add(u64::from(time.subsec_nanos())))
+            }
+            Err(error) => {
+                drop(error);
+                Moment(u64::MAX)
+            }
+        }
+    }
+}
+
+// A client waits for a connection that nobody returns, for 20 ms by the clock of the machine.
+fn waits_out<H: Ledger, L: Loans, R: Wait + Abort + std::rt::Clock + Copy + Drop>(
+    rt: R,
+    alloc: Global,
+    blanks: BlanksOf<Conn, ()>,
+) -> Result<(), Fail>
+    requires max { L.max ≡ 1 }
+    requires blanks { (blanks.held.name ≡ H.name) × (H.parts ≡ 2 ^ 32) × (blanks.loans.name ≡ L.name) × (L.parts ≡ 2 ^ 32) × (blanks.opened.seen.book ≡ L.book) }
+{
+    let options = PoolOptions::new()
+        .max_connections(1)
+        .acquire_timeout(20_000_000);
+    let (pool, mut tally) = options.connect_lazy_with::<Conn, (), H, L>(alloc, (), blanks)?;
+    let mut out = new_counts();
+    let mut clock = Machine { rt };
+    let now = clock.now();
+    let lent = lend::<Conn, (), H, L, R, Counts>(&rt, alloc, &pool, 1, now.0, &mut out, &mut tally);
+    let said = match pool.acquire_wait::<R, Machine<R>, Counts>(
+        &rt, alloc, &mut clock, 2, &mut out, &mut tally,
+    ) {
+        Ok(conn) => ends::<Conn, (), H, L, R, Counts>(
+            &rt,
+            alloc,
+            conn,
+            Act::Return,
+            now.0,
+            &mut out,
+        ),
+        Err(error) => word(error),
+    };
+    if let Some(conn) = lent {
+        ends::<Conn, (), H, L, R, Counts>(&rt, alloc, conn, Act::Return, now.0, &mut out);
+    }
+    same_three(
         &rt,
-        rt.alloc(),
-        Blank::new(1 << 32),
-        Blank::new(1 << 32),
-    )
+        [said, tally.loans(), pool.log_len(&rt) as u64],
+        [TIMED_OUT, 1, 8],
+    );
+    drop(pool);
+    drop(tally);
+    Ok(())
+}
+
+#[test]
+fn a_timeout_that_nobody_wakes(rt: HostRuntime) -> Result<(), Fail> {
+    waits_out::<Brand, Brand, HostRuntime>(rt, rt.alloc(), BlanksOf::new())
 }

@@ -3,7 +3,7 @@ use Rattle.std.specs.Prelude.{◌≡◌, ℕ, false, List, Result}
 use Rattle.sqlx_query.specs.Builder.{Appends}
 use Rattle.sqlx_query.specs.Query.{Asked, handed_over}
 use Rattle.sqlx_query.specs.Tuples.{behind}
-use Rattle.sqlx_query_parts.specs.declared.row_parts.RowParts.{RowParts}
+use Rattle.sqlx_query_drafts.specs.declared.row_parts.RowParts.{RowParts}
 use Rattle.sqlx_text.specs.declared.error.Error.{Error}
 use Rattle.sqlx_text.specs.declared.error.Error.TheVariants.{RowNotFound}
 use Rattle.sqlx_traits.specs.Handed.{Handed}

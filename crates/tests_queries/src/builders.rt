@@ -145,6 +145,56 @@ fn refused_tuples(
     )
 }
 
+// The same by the call that gives the builder back.
+fn refused_pushed_values(
+    alloc: Global,
+    builder: &mut QueryBuilder<Toy>,
+    pairs: Vec<(i64, &'static str)>,
+) -> Result<(), Fault>
+    requires { builder.old.built ≡ Bool.false }
+{
+    builder.push_values(
+        alloc,
+        pairs.into_iter(),
+        |row, pair| -> Result<(), Fault>
+            ensures { RowAppends length take (λ args. args.list) row.old.parts row.new.parts }
+        {
+            row.push_bind(alloc, pair.0)?;
+            row.push_bind(alloc, pair.1)?;
+            row.push_bind(alloc, true)
+        },
+    )?;
+    Ok(())
+}
+
+fn refused_pushed_tuples(
+    alloc: Global,
+    builder: &mut QueryBuilder<Toy>,
+    pairs: Vec<(i64, &'static str)>,
+) -> Result<(), Fault>
+    requires { builder.old.built ≡ Bool.false }
+{
+    builder.push_tuples(
+        alloc,
+        pairs.into_iter(),
+        |row, pair| -> Result<(), Fault>
+            ensures { RowAppends length take (λ args. args.list) row.old.parts row.new.parts }
+        {
+            row.push_bind(alloc, pair.0)?;
+            row.push_bind(alloc, pair.1)?;
+            row.push_bind(alloc, true)
+        },
+    )?;
+    Ok(())
+}
+
+fn refused_pushed_value(alloc: Global, builder: &mut QueryBuilder<Toy>) -> Result<(), Fault>
+    requires { builder.old.built ≡ Bool.false }
+{
+    builder.push(alloc, "")?.push_bind(alloc, true)?;
+    Ok(())
+}
+
 // What is pushed: pieces, lists of so many pairs, and what is refused.
 #[derive(Clone, Copy)]
 enum Piece {
@@ -156,6 +206,9 @@ enum Piece {
     RefusedValue,
     RefusedValues,
     RefusedTuples,
+    RefusedPushedValue,
+    RefusedPushedValues,
+    RefusedPushedTuples,
 }
 
 fn push(alloc: Global, builder: &mut QueryBuilder<Toy>, push: Piece) -> Result<(), Fault>
@@ -170,6 +223,9 @@ fn push(alloc: Global, builder: &mut QueryBuilder<Toy>, push: Piece) -> Result<(
         Piece::RefusedValue => builder.try_push_bind(alloc, true),
         Piece::RefusedValues => refused_values(alloc, builder, two_pairs(alloc, 2)?),
         Piece::RefusedTuples => refused_tuples(alloc, builder, two_pairs(alloc, 2)?),
+        Piece::RefusedPushedValue => refused_pushed_value(alloc, builder),
+        Piece::RefusedPushedValues => refused_pushed_values(alloc, builder, two_pairs(alloc, 2)?),
+        Piece::RefusedPushedTuples => refused_pushed_tuples(alloc, builder, two_pairs(alloc, 2)?),
     }
 }
 
@@ -215,6 +271,9 @@ fn pushes_pieces(rt: HostRuntime) -> Result<(), Fail> {
         (Piece::RefusedValue, REFUSED),
         (Piece::RefusedValues, REFUSED),
         (Piece::RefusedTuples, REFUSED),
+        (Piece::RefusedPushedValue, REFUSED),
+        (Piece::RefusedPushedValues, REFUSED),
+        (Piece::RefusedPushedTuples, REFUSED),
     ] {
         let told = pushed(rt.alloc(), *push);
         says(&rt, told, want)?;

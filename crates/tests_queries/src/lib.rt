@@ -1,4 +1,4 @@
-//! Tests of `sqlx_from_row` and `sqlx_query`, at the toy database, and of queries over a backend of `Any`.
+//! Tests of `sqlx_query_rows` and `sqlx_query`, at the toy database, and of queries over a backend of `Any`.
 #![tactic(auto)]
 
 #[cfg(test)]

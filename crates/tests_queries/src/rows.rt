@@ -23,7 +23,7 @@ where
     i64: FromColumn<DB>,
     String: FromColumn<DB>,
 {
-    ghost use Rattle.sqlx_from_row.specs.FromRow.{Gives, Then};
+    ghost use Rattle.sqlx_query_rows.specs.FromRow.{Gives, Then};
 
     ghost made = { λ row. Then (⟦<i64 as FromColumn<DB>>⟧.column 0 row) λ number. Then (⟦<String as FromColumn<DB>>⟧.column 1 row) λ title.
         Gives (record { number = number; title = title }) };

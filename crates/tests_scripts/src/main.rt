@@ -2,8 +2,8 @@
 //! The file `folders` names the folders that are played; a folder's `list` has a line for each script: its name, and what it is to end with.
 #![tactic(auto)]
 
-use mem_client::ByDriver;
-use sqlx_play::{ByStore, PlayError, Route, SureSink, SureSource, outcome, play_by};
+use sqlx_play::{ByStore, PlayError, Route, SureSink, SureSource, USAGE, outcome, play_by};
+use sqlx_play_client::ByDriver;
 use std::alloc::Global;
 use std::{fs, io};
 
@@ -48,7 +48,7 @@ fn play_one<R: Route>(
     let mut source = SureSource::new(script);
     let mut sink = SureSink::new(alloc);
     let answer = played::<R>(alloc, &mut source, &mut sink);
-    let came = outcome(alloc, &answer)?;
+    let came = outcome(alloc, USAGE, &answer)?;
     let replies_agree = sink.written() == replies.as_slice();
     let is_same = replies_agree && came.as_str() == wanted;
     tally.count(is_same);

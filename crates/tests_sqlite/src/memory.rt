@@ -78,3 +78,22 @@ fn texts_that_are_refused(rt: HostRuntime) -> Result<(), Fail> {
     }
     Ok(())
 }
+
+// Texts that give rows, however they begin, and the last of them changes some.
+const GIVE_ROWS: &[Act] = &[
+    Act::First("select 1"),
+    Act::First("\n SELECT 2"),
+    Act::First("WITH x AS (SELECT 3 AS n) SELECT n FROM x"),
+    Act::First("SELECT n FROM (SELECT 4 AS n)"),
+    Act::First("INSERT INTO kv(k, v) VALUES (1, 5) RETURNING v"),
+    Act::Get(1),
+];
+
+#[test]
+fn texts_that_give_rows(rt: HostRuntime) -> Result<(), Fail> {
+    says(
+        &rt,
+        GIVE_ROWS,
+        "Some(1)|Some(2)|Some(3)|Some(4)|Some(5)|Some(5)|",
+    )
+}

@@ -1,8 +1,7 @@
 //! What a log learns of a statement.
 
 use log::LevelFilter;
-use sqlx_statements::*;
-use sqlx_text::*;
+use sqlx_text::{*, *};
 use std::alloc::Global;
 use std::test::*;
 

@@ -1,6 +1,6 @@
 //! The cache of statements.
 
-use sqlx_statements::StatementCache;
+use sqlx_text::StatementCache;
 use std::test::*;
 
 #[test]

@@ -1,6 +1,6 @@
 //! What is done on a connection in levels, over any database.
 
-use crate::callers::{begins, commits, pings_within, tried, tries, writes};
+use crate::callers::{begins, commits, pings_within, runs_within, tried, tries, writes};
 use crate::levels::{By, End, nests};
 use crate::writes::Writes;
 use sqlx_any::{Database, Executor};
@@ -27,6 +27,8 @@ pub enum Act {
     BeginWith(&'static str),
     /// Runs a text in a level of its own.
     Run(&'static str),
+    /// Runs a text in a call that has a level of its own.
+    RunWithin(&'static str),
     /// Asks for a sign of life in a level.
     Ping,
 }
@@ -79,6 +81,7 @@ where
         Act::Nest(by, ends) => nests::<DB, W>(alloc, conn, *by, *ends),
         Act::Write(value) => W::write(alloc, conn, *value),
         Act::Run(text) => writes::<DB>(alloc, conn, text),
+        Act::RunWithin(text) => runs_within::<DB>(alloc, conn, text),
         act => begun::<DB>(alloc, conn, act),
     }
 }

@@ -1,8 +1,8 @@
 //! Callers of transactions, as `CALLING.md` of `sqlx_tx` names them.
-ghost use Rattle.std.specs.Prelude.{◌≡◌, ◌+◌, ◌-◌, ◌<◌, Ok, None, OnOk};
+ghost use Rattle.std.specs.Prelude.{◌≡◌, ◌+◌, ◌-◌, ◌<◌, Ok, None, OnErr, OnOk};
 ghost use Rattle.sqlx_traits.specs.Calls as call;
 
-use sqlx_any::{Connection, Database, Executor};
+use sqlx_any::{Any, AnyConnection, AnyConnectionBackend, Connection, Database, Executor};
 use sqlx_text::{Error, SqlStr};
 use sqlx_tx::{Borrowed, Hold, Transaction, calls};
 use std::alloc::Global;
@@ -35,11 +35,40 @@ where
     answer
 }
 
+/// Runs a text in a level of its own, which is kept where it works and undone where it is refused; a text that ends its
+/// level is the caller's own affair.
+pub fn runs_within<DB: Database>(
+    alloc: Global,
+    conn: &mut DB::Connection,
+    text: &'static str,
+) -> Result<(), Error>
+where
+    DB::Connection: Executor<DB>,
+{
+    calls::within::<DB, _, (), Error>(alloc, conn, |conn| -> Result<(), Error> {
+        drop(conn.execute(alloc, text)?);
+        Ok(())
+    })
+}
+
 /// Asks for a sign of life in a level that is kept where it comes. It leaves the levels in every case.
 pub fn pings_within<DB: Database>(alloc: Global, conn: &mut DB::Connection) -> Result<(), Error>
     ensures { DB.Connection.levels conn.new ≡ DB.Connection.levels conn.old }
 {
     calls::transaction::<DB, _, _, _>(alloc, conn, |conn| conn.ping())
+}
+
+/// Begins a level on a connection of `Any`, and leaves it open. A refusal leaves the levels.
+pub fn opens<B: AnyConnectionBackend>(
+    alloc: Global,
+    conn: &mut AnyConnection<B>,
+) -> Result<(), Error>
+    ensures ok { OnOk result (B.levels conn.new.backend ≡ B.levels conn.old.backend + 1) }
+    ensures err { OnErr result (B.levels conn.new.backend ≡ B.levels conn.old.backend) }
+{
+    let level = Transaction::<Any<B>, _>::adopt(sqlx_any_levels::begin(conn, alloc)?);
+    let Borrowed(_conn) = level.keep_open();
+    Ok(())
 }
 
 /// Begins a level, and leaves it open.

@@ -212,6 +212,30 @@ fn a_commit_of_a_level_that_was_kept_open(rt: HostRuntime) -> Result<(), Fail> {
     meets(&rt, &[Act::Commit], COMMITS)
 }
 
+// A level that is begun within the one that was kept open, and the innermost one is then committed.
+const BEGINS_WITHIN: &[Met] = &[
+    (
+        Answer::Accept,
+        "done|done|done|done| None, depth 1, 2 begun, 1 ended",
+    ),
+    (
+        Answer::Refuse,
+        "done|done|refused|done| Some(5), depth 0, 1 begun, 1 ended",
+    ),
+];
+
+// A text begins none there, and meets no answer.
+const BEGINS_BY_A_TEXT_WITHIN: &[Met] = &[
+    (
+        Answer::Accept,
+        "done|done|inside|done| Some(5), depth 0, 1 begun, 1 ended",
+    ),
+    (
+        Answer::Refuse,
+        "done|done|inside|refused| None, depth 0, 1 begun, 1 ended",
+    ),
+];
+
 const TRIES: &[Met] = &[
     (
         Answer::Accept,
@@ -225,7 +249,10 @@ const TRIES: &[Met] = &[
 
 #[test]
 fn a_refused_begin_leaves_the_level_around_it(rt: HostRuntime) -> Result<(), Fail> {
-    meets(&rt, &[Act::Try, Act::Commit], TRIES)
+    let by_a_text = &[Act::BeginWith("BEGIN IMMEDIATE"), Act::Commit];
+    meets(&rt, &[Act::Try, Act::Commit], TRIES)?;
+    meets(&rt, &[Act::Begin, Act::Commit], BEGINS_WITHIN)?;
+    meets(&rt, by_a_text, BEGINS_BY_A_TEXT_WITHIN)
 }
 
 const BEGINS: &[Act] = &[
@@ -254,4 +281,17 @@ const TEXTS: &[Act] = &[
 fn a_text_in_a_level_of_its_own(rt: HostRuntime) -> Result<(), Fail> {
     let want = "done|refused|failed|done| None, depth 0, 4 begun, 4 ended";
     tells(&rt, TEXTS, want)
+}
+
+const TEXTS_WITHIN: &[Act] = &[
+    Act::RunWithin("SELECT 1"),
+    Act::RunWithin("DROP TABLE kv"),
+    Act::RunWithin("COMMIT"),
+    Act::Ping,
+];
+
+#[test]
+fn a_call_that_may_end_its_level(rt: HostRuntime) -> Result<(), Fail> {
+    let want = "done|refused|done|done| None, depth 0, 4 begun, 4 ended";
+    tells(&rt, TEXTS_WITHIN, want)
 }

@@ -2,9 +2,9 @@
 
 ghost use Rattle.std.specs.Prelude.{◌≡◌, ℕ, ◌+◌, ◌<◌, ◌^◌, ◌↔◌, List, IfOk, OnOk, OnErr, IfErr, Err, length, true, false, ◌⊎◌};
 ghost use Rattle.sqlx_text.specs.declared.Error.{Error};
-ghost use Rattle.sqlx_log.specs.declared.mark.Mark.{Mark};
+ghost use Rattle.sqlx_pool_marks.specs.declared.mark.Mark.{Mark};
 ghost use Rattle.sqlx_pool_lists.specs.Balance.{Balance, ask_room, try_room};
-ghost use Rattle.sqlx_member.specs.Logs.{moment_of};
+ghost use Rattle.sqlx_pool_core.specs.Logs.{moment_of};
 ghost use Rattle.sqlx_pool_lists.specs.PollSteps.{phase_for, asked_marks, may_cancel, cancel_marks, cancelled, try_lent, try_marks, after_try};
 ghost use Rattle.sqlx_pool_lists.specs.Edits.{at_moment, asked};
 ghost use Rattle.sqlx_family.specs.RootLine.{passes_in};

@@ -1,7 +1,7 @@
 //! Closing a pool, retiring a child, and how far a pool is closed.
 
 ghost use Rattle.std.specs.Prelude.{◌≡◌, ℕ, ◌<◌, true, length};
-ghost use Rattle.sqlx_log.specs.declared.mark.Mark.{Mark};
+ghost use Rattle.sqlx_pool_marks.specs.declared.mark.Mark.{Mark};
 ghost use Rattle.sqlx_pool_lists.specs.Balance.{Balance};
 ghost use Rattle.sqlx_pool_lists.specs.MaintenanceSteps.{close_marks, close_answer, closed_from, close_state};
 ghost use Rattle.sqlx_family.specs.Pools.{pool_in, with_pool, counts_as_closed, entry_of};

@@ -1,10 +1,10 @@
 //! The steps that end a poll: what a test and what a connect came to.
 
 ghost use Rattle.std.specs.Prelude.{◌≡◌, ℕ, ◌<◌, length};
-ghost use Rattle.sqlx_log.specs.declared.mark.Mark.{Mark};
+ghost use Rattle.sqlx_pool_marks.specs.declared.mark.Mark.{Mark};
 ghost use Rattle.sqlx_pool_lists.specs.Core.{ticket_of};
 ghost use Rattle.sqlx_pool_lists.specs.Balance.{Balance};
-ghost use Rattle.sqlx_member.specs.Logs.{moment_of};
+ghost use Rattle.sqlx_pool_core.specs.Logs.{moment_of};
 ghost use Rattle.sqlx_pool_lists.specs.PollSteps.{judged, verdict_answer, test_marks, after_test, connect_answer, connect_marks, after_connect};
 ghost use Rattle.sqlx_family.specs.Pools.{pool_in, with_pool, counts_as_closed, entry_of};
 ghost use Rattle.sqlx_family.specs.Permits.{stepped};

@@ -1,13 +1,13 @@
 //! The steps that end a loan: giving a connection back, ending, detaching and leaking it.
 
 ghost use Rattle.std.specs.Prelude.{◌≡◌, ℕ, ◌<◌, is_some, length};
-ghost use Rattle.sqlx_log.specs.declared.mark.Mark.{Mark};
-ghost use Rattle.sqlx_log.specs.EventTable.{closes};
+ghost use Rattle.sqlx_pool_marks.specs.declared.mark.Mark.{Mark};
+ghost use Rattle.sqlx_pool_marks.specs.EventTable.{closes};
 ghost use Rattle.sqlx_pool_lists.specs.Core.{loan_of};
 ghost use Rattle.sqlx_pool_lists.specs.Limits.{limits_of};
 ghost use Rattle.sqlx_pool_lists.specs.Balance.{Balance, given_back, one_if};
-ghost use Rattle.sqlx_member.specs.Logs.{moment_of};
-ghost use Rattle.sqlx_member.specs.ReturnSteps.{give_answer, give_marks, core_after_give, end_marks, detach_marks, leak_marks, released, leaked};
+ghost use Rattle.sqlx_pool_core.specs.Logs.{moment_of};
+ghost use Rattle.sqlx_pool_core.specs.ReturnSteps.{give_answer, give_marks, core_after_give, end_marks, detach_marks, leak_marks, released, leaked};
 ghost use Rattle.sqlx_family.specs.Pools.{pool_in, with_pool, counts_as_closed, entry_of};
 ghost use Rattle.sqlx_family.specs.Permits.{stepped};
 ghost use Rattle.sqlx_family.specs.FamilyLogs.{FamilyLogs};

@@ -1,11 +1,11 @@
 //! The start of a poll, by which a child's ticket may take a permit from the root.
 
 ghost use Rattle.std.specs.Prelude.{◌≡◌, ℕ, ◌+◌, ◌<◌, ◌≤◌, max, length, not, ◌&&◌, ◌||◌, true, false};
-ghost use Rattle.sqlx_log.specs.declared.mark.Mark.{Mark};
+ghost use Rattle.sqlx_pool_marks.specs.declared.mark.Mark.{Mark};
 ghost use Rattle.sqlx_pool_lists.specs.Core.{ticket_of, free};
 ghost use Rattle.sqlx_pool_lists.specs.CoreTurn.{turn_of};
 ghost use Rattle.sqlx_pool_lists.specs.Balance.{Balance};
-ghost use Rattle.sqlx_member.specs.Logs.{moment_of};
+ghost use Rattle.sqlx_pool_core.specs.Logs.{moment_of};
 ghost use Rattle.sqlx_pool_lists.specs.PollSteps.{start_answer, start_marks, started, phase_for};
 ghost use Rattle.sqlx_family.specs.Pools.{pool_in, entry_of};
 ghost use Rattle.sqlx_family.specs.RootLine.{is_entitled, is_entitled_alone, is_entitled_by_root, may_leave, takes_permit, granting};

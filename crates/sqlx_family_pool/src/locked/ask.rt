@@ -2,8 +2,8 @@
 
 ghost use Rattle.std.specs.Prelude.{◌≡◌, ℕ, ◌+◌, ◌^◌, ◌<◌, ◌≤◌, ◌↔◌, ◌⊎◌, [], ◌∷◌, true, false, None, is_some, Ok, Err, IfSome, IfOk, IfErr, OnOk, OnErr};
 ghost use Rattle.sqlx_text.specs.declared.error.Error.{Error};
-ghost use Rattle.sqlx_log.specs.declared.mark.Mark.{Mark};
-ghost use Rattle.sqlx_member.specs.Logs.{moment_of};
+ghost use Rattle.sqlx_pool_marks.specs.declared.mark.Mark.{Mark};
+ghost use Rattle.sqlx_pool_core.specs.Logs.{moment_of};
 ghost use Rattle.sqlx_pool_lists.specs.PollSteps.{asked_marks, try_marks};
 ghost use Rattle.sqlx_pool_parts.specs.Answers.{lent_alone};
 ghost use Rattle.sqlx_pool_parts.specs.Booked.{CountsIf};
@@ -13,7 +13,7 @@ ghost use Rattle.sqlx_family_steps.specs.FamilySteps.{core_after_ask, try_lent_i
 
 use super::LockedFamily;
 use sqlx_family_steps::asking;
-use sqlx_pool_base::{Held, Loans, Tally};
+use sqlx_pool::{Held, Loans, Tally};
 use sqlx_pool_core::Lent;
 use sqlx_text::{Depth, Error, Moment};
 use std::alloc::Global;
@@ -61,7 +61,6 @@ impl<C: Depth, O, H: Ledger, L: Loans> LockedFamily<C, O, H, L> {
         client: u32,
         tally: &mut Tally<L>,
     ) -> Result<Option<(Lent<C>, Held<H>)>, Error>
-        requires parts { 0 < tally.old.parts }
         ensures answer { IsNamed pool self.old → IfOk result (λ lent. lent_alone lent ≡ try_lent_in pool self.old.family) }
         ensures marks { IfOk result (λ lent. self.new.logs ≡ with_made pool (try_marks client (lent_alone lent)) self.old.logs) }
         ensures becomes { let f = self.old.family in IfOk result (λ lent. self.new.family ≡ family_after_try pool client (moment_of (pool_in pool f) now) (lent_alone lent) f) }

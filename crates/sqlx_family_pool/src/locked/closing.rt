@@ -8,7 +8,7 @@ ghost use Rattle.sqlx_family_pool.specs.FamilyState.{IsNamed, IsUnnamed, with_ma
 
 use super::LockedFamily;
 use sqlx_family_steps::closing;
-use sqlx_pool_base::Loans;
+use sqlx_pool::Loans;
 use sqlx_pool_core::Idle;
 use sqlx_text::Depth;
 use std::alloc::Global;

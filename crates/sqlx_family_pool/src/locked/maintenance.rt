@@ -1,17 +1,17 @@
 //! The steps that keep a pool in shape: reaping, and places for the minimum.
 
 ghost use Rattle.std.specs.Prelude.{◌≡◌, ℕ, ◌+◌, [], false, None, Ok, max, IfSome, IfOk, OnErr};
-ghost use Rattle.sqlx_member.specs.Logs.{moment_of};
+ghost use Rattle.sqlx_pool_core.specs.Logs.{moment_of};
 ghost use Rattle.sqlx_pool_lists.specs.MaintenanceSteps.{reap_answer, reap_marks, reaped, has_place_if, placed};
 ghost use Rattle.sqlx_family.specs.Pools.{pool_in, with_pool};
 ghost use Rattle.sqlx_family.specs.RootLine.{passes_in};
-ghost use Rattle.sqlx_pool_base.specs.Places.{holds_place, back_if};
+ghost use Rattle.sqlx_pool.specs.Places.{holds_place, back_if};
 ghost use Rattle.sqlx_family_pool.specs.FamilyState.{IsNamed, IsUnnamed, with_made};
 ghost use Rattle.sqlx_family_pool.specs.FamilyPlaces.{marks_of_done, family_after_done};
 
 use super::LockedFamily;
 use sqlx_family_steps::{asking, upkeep};
-use sqlx_pool_base::Loans;
+use sqlx_pool::Loans;
 use sqlx_pool_core::Idle;
 use sqlx_text::{Depth, Moment, OutOfMemory};
 use std::alloc::Global;

@@ -5,10 +5,10 @@ ghost use Rattle.sqlx_pool_lists.specs.declared.steps.Start.{Start};
 ghost use Rattle.sqlx_pool_lists.specs.declared.steps.AfterTest.{AfterTest};
 ghost use Rattle.sqlx_pool_lists.specs.declared.steps.AfterConnect.{AfterConnect};
 ghost use Rattle.sqlx_pool_lists.specs.Core.{ticket_of};
-ghost use Rattle.sqlx_member.specs.Logs.{moment_of};
+ghost use Rattle.sqlx_pool_core.specs.Logs.{moment_of};
 ghost use Rattle.sqlx_pool_lists.specs.PollSteps.{phase_for, judged, start_marks, verdict_answer, test_marks, after_test, connect_answer, connect_marks, after_connect};
 ghost use Rattle.sqlx_pool_lists.specs.PollSteps.{may_cancel, cancel_marks, cancelled};
-ghost use Rattle.sqlx_member.specs.CameTo.{IfAccepted};
+ghost use Rattle.sqlx_pool_core.specs.CameTo.{IfAccepted};
 ghost use Rattle.sqlx_family.specs.Pools.{pool_in};
 ghost use Rattle.sqlx_family.specs.Permits.{stepped};
 ghost use Rattle.sqlx_pool_parts.specs.Answers.{lends_tested, IfTestLends, lends_new, IfTryLends, IfTried, is_fatal, is_ended};
@@ -18,7 +18,7 @@ ghost use Rattle.sqlx_family_steps.specs.FamilySteps.{start_answer_in, family_af
 
 use super::LockedFamily;
 use sqlx_family_steps::polling;
-use sqlx_pool_base::{Held, Loans, Tally};
+use sqlx_pool::{Held, Loans, Tally};
 use sqlx_pool_core::{AfterConnect, AfterTest, Start, Tried, Verdict};
 use sqlx_pool_parts::answers::{lends_new, lends_tested};
 use sqlx_text::{Depth, Moment};
@@ -52,7 +52,6 @@ impl<C: Depth, O, H: Ledger, L: Loans> LockedFamily<C, O, H, L> {
         verdict: Verdict<C>,
         tally: &mut Tally<L>,
     ) -> (AfterTest<C>, Option<Held<H>>)
-        requires parts { 0 < tally.old.parts }
         requires flat { IfAccepted verdict (λ raw. C.levels raw ≡ 0) }
         ensures answer { IsNamed pool self.old → let core = pool_in pool self.old.family in result.0 ≡ verdict_answer client ticket core.closed core verdict }
         ensures marks { IsNamed pool self.old → self.new.logs ≡ with_made pool (test_marks client ticket (judged verdict) result.0) self.old.logs }
@@ -84,7 +83,6 @@ impl<C: Depth, O, H: Ledger, L: Loans> LockedFamily<C, O, H, L> {
         tried: Tried<C>,
         tally: &mut Tally<L>,
     ) -> (AfterConnect<C>, Option<Held<H>>)
-        requires parts { 0 < tally.old.parts }
         requires flat { IfTried tried (λ raw. C.levels raw ≡ 0) }
         ensures answer { IsNamed pool self.old → let core = pool_in pool self.old.family in result.0 ≡ connect_answer (ticket_of client ticket core.tickets) core.closed core.next_conn (moment_of core now) tried }
         ensures marks { IsNamed pool self.old → self.new.logs ≡ with_made pool (connect_marks client ticket (moment_of (pool_in pool self.old.family) now) result.0) self.old.logs }

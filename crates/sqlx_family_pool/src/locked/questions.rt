@@ -1,11 +1,11 @@
 //! What the value under the lock is asked without a change, and its connect options.
 
 ghost use Rattle.std.specs.Prelude.{◌≡◌, ◌<◌, ◌≤◌, Bool, true, false, List, [], IfOk, length, max, nat_lt};
-ghost use Rattle.sqlx_log.specs.FairLog.{IsSafe};
-ghost use Rattle.sqlx_log.specs.EventTable.{closes};
+ghost use Rattle.sqlx_pool_marks.specs.FairLog.{IsSafe};
+ghost use Rattle.sqlx_pool_marks.specs.EventTable.{closes};
 ghost use Rattle.sqlx_pool_lists.specs.Core.{size};
 ghost use Rattle.sqlx_pool_lists.specs.Limits.{limits_of};
-ghost use Rattle.sqlx_member.specs.Logs.{moment_of};
+ghost use Rattle.sqlx_pool_core.specs.Logs.{moment_of};
 ghost use Rattle.sqlx_family.specs.Pools.{pool_in, counts_as_closed};
 ghost use Rattle.sqlx_family.specs.Permits.{owned_by};
 ghost use Rattle.sqlx_family.specs.IsFamily.{IsFamily};
@@ -14,7 +14,7 @@ ghost use Rattle.sqlx_family_pool.specs.FamilyState.{IsStanding, IsNamed, IsUnna
 
 use super::LockedFamily;
 use sqlx_family_steps::questions;
-use sqlx_pool_base::{Loans, MarkLog};
+use sqlx_pool::{Loans, MarkLog};
 use sqlx_text::{Depth, Moment, OutOfMemory};
 use std::alloc::Global;
 use std::sync::ledger::Ledger;

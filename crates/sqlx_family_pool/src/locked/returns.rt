@@ -2,10 +2,10 @@
 
 ghost use Rattle.std.specs.Prelude.{◌≡◌, ℕ, ◌+◌, true, false, not, is_some};
 ghost use Rattle.sqlx_pool_lists.specs.declared.steps.Given.{Given};
-ghost use Rattle.sqlx_member.specs.Answers.{is_kept, is_held};
+ghost use Rattle.sqlx_pool_core.specs.Answers.{is_kept, is_held};
 ghost use Rattle.sqlx_pool_lists.specs.Core.{loan_of};
-ghost use Rattle.sqlx_member.specs.Logs.{moment_of};
-ghost use Rattle.sqlx_member.specs.ReturnSteps.{give_answer, give_marks, end_marks, detach_marks, leak_marks, released, leaked};
+ghost use Rattle.sqlx_pool_core.specs.Logs.{moment_of};
+ghost use Rattle.sqlx_pool_core.specs.ReturnSteps.{give_answer, give_marks, end_marks, detach_marks, leak_marks, released, leaked};
 ghost use Rattle.sqlx_family.specs.Pools.{pool_in, with_pool};
 ghost use Rattle.sqlx_family.specs.Permits.{stepped};
 ghost use Rattle.sqlx_family_pool.specs.FamilyState.{IsNamed, IsUnnamed, with_made};
@@ -13,7 +13,7 @@ ghost use Rattle.sqlx_family_steps.specs.FamilySteps.{core_after_return};
 
 use super::LockedFamily;
 use sqlx_family_steps::returning;
-use sqlx_pool_base::{Held, Loans};
+use sqlx_pool::{Held, Loans};
 use sqlx_pool_core::{Given, Lent};
 use sqlx_pool_parts::answers::is_held;
 use sqlx_text::{Depth, Moment};

@@ -2,17 +2,17 @@
 //! between.
 
 ghost use Rattle.std.specs.Prelude.{◌≡◌, ◌⊎◌, ℕ, ◌≤◌, true, false, None, length};
-ghost use Rattle.sqlx_member.specs.Giving.{is_pass};
+ghost use Rattle.sqlx_pool_core.specs.Giving.{is_pass};
 ghost use Rattle.sqlx_pool_parts.specs.Checks.{IfPassed};
 ghost use Rattle.sqlx_pool_parts.specs.Opened.{IsCounted, TellsLevels};
-ghost use Rattle.sqlx_pool_base.specs.Upkeep.{EndsKeeping, IfUnfilled};
+ghost use Rattle.sqlx_pool.specs.Upkeep.{EndsKeeping, IfUnfilled};
 ghost use Rattle.sqlx_family_pool.specs.Seen.{SawIn};
 ghost use Rattle.sqlx_family_pool.specs.Upkeep.{IsFilledIn, to_close_in, to_reap_in};
 
 use super::FamilyPoolOf;
 use crate::LockedFamily;
-use sqlx_member::idle_check::{Check, Opening};
-use sqlx_pool_base::Loans;
+use sqlx_pool::Loans;
+use sqlx_pool_core::idle_check::{Check, Opening};
 use sqlx_pool_core::{Openings, Outside, PoolConnectionMetadata};
 use sqlx_pool_parts::checks;
 use sqlx_pool_parts::filled::Filled;

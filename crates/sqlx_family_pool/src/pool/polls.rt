@@ -2,18 +2,18 @@
 
 ghost use Rattle.std.specs.Prelude.{◌≡◌, ℕ, ◌+◌, ◌<◌, ◌≤◌, ◌⊎◌, false};
 ghost use Rattle.sqlx_pool_lists.specs.Balance.{one_if};
-ghost use Rattle.sqlx_member.specs.CameTo.{IfOpened, IfFailed, IsForGood};
+ghost use Rattle.sqlx_pool_core.specs.CameTo.{IfOpened, IfFailed, IsForGood};
 ghost use Rattle.sqlx_pool_parts.specs.Answers.{IfTried, is_fatal};
 ghost use Rattle.sqlx_pool_parts.specs.Booked.{CountsIf};
 ghost use Rattle.sqlx_pool_parts.specs.Opened.{IfUnopened, IsCounted, TellsLevels};
-ghost use Rattle.sqlx_pool_base.specs.Refusals.{IsEnd, IsPollRefusal};
-ghost use Rattle.sqlx_pool_base.specs.Stage.{has_lent, IfLent, IfEnded, wants_test, wants_connect};
+ghost use Rattle.sqlx_pool.specs.Refusals.{IsEnd, IsPollRefusal};
+ghost use Rattle.sqlx_pool.specs.Stage.{has_lent, IfLent, IfEnded, wants_test, wants_connect};
 
 use super::FamilyPoolOf;
 use crate::LockedFamily;
-use sqlx_member::idle_check::Opening;
-use sqlx_pool_base::stage::{Stage, after_start, after_test, after_try};
-use sqlx_pool_base::{Held, Loans, Tally};
+use sqlx_pool::stage::{Stage, after_start, after_test, after_try};
+use sqlx_pool::{Held, Loans, Tally};
+use sqlx_pool_core::idle_check::Opening;
 use sqlx_pool_core::{AfterConnect, Idle, Outside, PoolOptions, Tried, Verdict};
 use sqlx_pool_parts::checks;
 use sqlx_text::{Depth, Error, Moment};
@@ -33,7 +33,6 @@ impl<C: Depth, O, H: Ledger, L: Loans> LockedFamily<C, O, H, L> {
         now: Moment,
         tally: &mut Tally<L>,
     ) -> Stage<C, Held<H>>
-        requires { 0 < tally.old.parts }
         ensures tally { CountsIf (has_lent result) tally.old tally.new }
         ensures flat { IfLent result (λ lent. C.levels lent.raw ≡ 0) }
         ensures causes { IfEnded result IsEnd }
@@ -61,7 +60,6 @@ impl<C: Depth, O, H: Ledger, L: Loans> LockedFamily<C, O, H, L> {
         moment: Moment,
         tally: &mut Tally<L>,
     ) -> Stage<C, Held<H>>
-        requires parts { 0 < tally.old.parts }
         requires flat { C.levels idle.lent.raw ≡ 0 }
         ensures tally { CountsIf (has_lent result) tally.old tally.new }
         ensures flat { IfLent result (λ lent. C.levels lent.raw ≡ 0) }
@@ -98,7 +96,6 @@ impl<C: Depth + Drop, O: Drop, H: Ledger, L: Loans> FamilyPoolOf<C, O, H, L> {
         out: &mut X,
         tally: &mut Tally<L>,
     ) -> Stage<C, Held<H>>
-        requires { 0 < tally.old.parts }
         ensures parts { tally.new.parts ≡ tally.old.parts }
         ensures loans { tally.new.loans + one_if (has_lent stage) ≡ tally.old.loans + one_if (has_lent result) }
         ensures flat { IfLent stage (λ lent. C.levels lent.raw ≡ 0) → IfLent result (λ lent. C.levels lent.raw ≡ 0) }
@@ -133,7 +130,6 @@ impl<C: Depth + Drop, O: Drop, H: Ledger, L: Loans> FamilyPoolOf<C, O, H, L> {
         out: &mut X,
         tally: &mut Tally<L>,
     ) -> Stage<C, Held<H>>
-        requires { 0 < tally.old.parts }
         ensures tally { CountsIf (has_lent result) tally.old tally.new }
         ensures flat { IfLent result (λ lent. C.levels lent.raw ≡ 0) }
         ensures causes { IfEnded result IsEnd }
@@ -177,7 +173,6 @@ impl<C: Depth + Drop, O: Drop, H: Ledger, L: Loans> FamilyPoolOf<C, O, H, L> {
         tried: Tried<C>,
         tally: &mut Tally<L>,
     ) -> Stage<C, Held<H>>
-        requires parts { 0 < tally.old.parts }
         requires flat { IfTried tried (λ raw. C.levels raw ≡ 0) }
         requires calm { is_fatal tried ≡ false }
         ensures tally { CountsIf (has_lent result) tally.old tally.new }
@@ -203,7 +198,6 @@ impl<C: Depth + Drop, O: Drop, H: Ledger, L: Loans> FamilyPoolOf<C, O, H, L> {
         error: Error,
         tally: &mut Tally<L>,
     ) -> Stage<C, Held<H>>
-        requires { 0 < tally.old.parts }
         ensures tally { CountsIf (has_lent result) tally.old tally.new }
         ensures flat { IfLent result (λ lent. C.levels lent.raw ≡ 0) }
         ensures causes { IfEnded result (λ e. IsEnd e ⊎ (e ≡ error)) }
@@ -235,7 +229,6 @@ impl<C: Depth + Drop, O: Drop, H: Ledger, L: Loans> FamilyPoolOf<C, O, H, L> {
         out: &mut X,
         tally: &mut Tally<L>,
     ) -> Stage<C, Held<H>>
-        requires { 0 < tally.old.parts }
         ensures parts { tally.new.parts ≡ tally.old.parts }
         ensures loans { tally.new.loans + one_if (has_lent stage) ≡ tally.old.loans + one_if (has_lent result) }
         ensures flat { IfLent stage (λ lent. C.levels lent.raw ≡ 0) → IfLent result (λ lent. C.levels lent.raw ≡ 0) }

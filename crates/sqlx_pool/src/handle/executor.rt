@@ -4,10 +4,10 @@ ghost use Rattle.std.specs.Prelude.{◌≡◌, ℕ, ◌<◌, ◌≤◌, ◌⊎�
 ghost use Rattle.sqlx_traits.specs.Faults.{FaultCause};
 ghost use Rattle.sqlx_traits.specs.Handed.{handed};
 ghost use Rattle.sqlx_traits.specs.StepList.{StepCauses};
-ghost use Rattle.sqlx_pool.specs.Handle.{is_of_begin, told, WasRefused, WorkedOn};
+ghost use Rattle.sqlx_pool.specs.Handle.{is_of_no_driver, told, WasRefused, WorkedOn};
 
 use super::PoolHandle;
-use sqlx_pool_base::{Clock, Loans, Pool, PoolConnection, PoolOf};
+use crate::{Clock, Loans, Pool, PoolConnection, PoolOf};
 use sqlx_pool_core::Outside;
 use sqlx_pool_parts::taken::Taken;
 use sqlx_text::{Error, IoFault, SqlStr};
@@ -20,22 +20,23 @@ use std::sync::ledger::Ledger;
 // The pool of a database as an executor.
 type Handle<'p, DB, H, L, R, K, X> = PoolHandle<'p, Pool<DB, H, L>, L, R, K, X>;
 
-// It is one of the two errors of a begin.
-fn is_of_begin(error: &Error) -> bool
-    ensures { result ≡ is_of_begin error.now }
+// It is one of the two errors of a begin, or that of arguments which can't be had.
+fn is_of_no_driver(error: &Error) -> bool
+    ensures { result ≡ is_of_no_driver error.now }
 {
     match error {
         Error::InvalidSavePointStatement => true,
         Error::BeginFailed => true,
+        Error::Encode(_) => true,
         _ => false,
     }
 }
 
-// An error of the lending, as an executor tells it: a connect may answer the two of a begin, and an executor may not.
+// An error of the lending, as an executor tells it: a connect may answer these three, and an executor may not.
 fn as_told(error: Error) -> Error
     ensures { result ≡ told error }
 {
-    if is_of_begin(&error) {
+    if is_of_no_driver(&error) {
         drop(error);
         Error::Io(IoFault::Other)
     } else {

@@ -2,18 +2,19 @@
 
 ghost use Rattle.std.specs.Prelude.{◌≡◌, ◌<◌, ℕ, max, List, Option};
 ghost use Rattle.std.specs.List.{list_any};
-ghost use Rattle.sqlx_log.specs.declared.mark.Mark.{Mark};
-ghost use Rattle.sqlx_log.specs.Marks.{is_shut, next_conn};
-ghost use Rattle.sqlx_member.specs.Logs.{Logs, moment_of};
+ghost use Rattle.sqlx_pool_marks.specs.declared.mark.Mark.{Mark};
+ghost use Rattle.sqlx_pool_marks.specs.Marks.{is_shut, next_conn};
+ghost use Rattle.sqlx_pool_core.specs.Logs.{Logs, moment_of};
 ghost use Rattle.sqlx_pool_lists.specs.Core.{ticket_of};
 ghost use Rattle.sqlx_pool_lists.specs.Balance.{Balance};
 ghost use Rattle.sqlx_pool_lists.specs.StandsFor.{StandsFor};
 ghost use Rattle.sqlx_pool_lists.specs.PollSteps.{judged, verdict_answer, test_marks, after_test, connect_answer, connect_marks, after_connect};
 ghost use Rattle.sqlx_pool_core.specs.KeptLine.{Looks};
+ghost use Rattle.sqlx_pool_core.specs.LonePool.{KeepsEntitled};
 
 use super::{PoolCore, line};
-use sqlx_line::Steps;
 use sqlx_pool_lists::{AfterConnect, AfterTest, Tried, Verdict};
+use sqlx_pool_places::Steps;
 use sqlx_text::Moment;
 use std::marker::Brand;
 use std::sync::ledger::{Blank, Ledger};
@@ -23,11 +24,12 @@ impl<C> PoolCore<C> {
     /// where fewer than `idle_tries` were tested in this poll; else a connection is opened. The moment of opening is the one that the pool keeps,
     /// whatever `lent.created` says.
     pub fn finish_test(&mut self, client: u32, ticket: u64, verdict: Verdict<C>) -> AfterTest<C>
-        ensures marks { (marks : List Mark) → StandsFor self.old marks → result ≡ verdict_answer client ticket (list_any is_shut marks) self.old verdict }
-        ensures answer { result ≡ verdict_answer client ticket self.old.shut self.old verdict }
-        ensures makes { Logs self.old (test_marks client ticket (judged verdict) result) self.new }
-        ensures balance { Balance self.old self.new (test_marks client ticket (judged verdict) result) 0 0 }
-        ensures becomes { self.new ≡ after_test client ticket result self.old }
+        ensures marks { (marks : List Mark) → StandsFor self.old.pool marks → result ≡ verdict_answer client ticket (list_any is_shut marks) self.old.pool verdict }
+        ensures answer { result ≡ verdict_answer client ticket self.old.pool.shut self.old.pool verdict }
+        ensures makes { Logs self.old.pool (test_marks client ticket (judged verdict) result) self.new.pool }
+        ensures balance { Balance self.old.pool self.new.pool (test_marks client ticket (judged verdict) result) 0 0 }
+        ensures becomes { self.new.pool ≡ after_test client ticket result self.old.pool }
+        ensures edge { KeepsEntitled self.old self.new }
     {
         self.uncounted_finish_test::<Brand>(client, ticket, verdict, Blank::new(1))
     }
@@ -43,11 +45,12 @@ impl<C> PoolCore<C> {
         requires named { blank.name ≡ L.name }
         requires whole { blank.parts ≡ L.parts }
         requires some { 0 < blank.parts }
-        ensures marks { (marks : List Mark) → StandsFor self.old marks → result ≡ verdict_answer client ticket (list_any is_shut marks) self.old verdict }
-        ensures answer { result ≡ verdict_answer client ticket self.old.shut self.old verdict }
-        ensures makes { Logs self.old (test_marks client ticket (judged verdict) result) self.new }
-        ensures balance { Balance self.old self.new (test_marks client ticket (judged verdict) result) 0 0 }
-        ensures becomes { self.new ≡ after_test client ticket result self.old }
+        ensures marks { (marks : List Mark) → StandsFor self.old.pool marks → result ≡ verdict_answer client ticket (list_any is_shut marks) self.old.pool verdict }
+        ensures answer { result ≡ verdict_answer client ticket self.old.pool.shut self.old.pool verdict }
+        ensures makes { Logs self.old.pool (test_marks client ticket (judged verdict) result) self.new.pool }
+        ensures balance { Balance self.old.pool self.new.pool (test_marks client ticket (judged verdict) result) 0 0 }
+        ensures becomes { self.new.pool ≡ after_test client ticket result self.old.pool }
+        ensures edge { KeepsEntitled self.old self.new }
     {
         let mut steps = Steps::<L>::new(blank);
         self.finish_test_counted(client, ticket, verdict, &mut steps)
@@ -61,11 +64,11 @@ impl<C> PoolCore<C> {
         verdict: Verdict<C>,
         steps: &mut Steps<L>,
     ) -> AfterTest<C>
-        ensures marks { (marks : List Mark) → StandsFor self.old marks → result ≡ verdict_answer client ticket (list_any is_shut marks) self.old verdict }
-        ensures answer { result ≡ verdict_answer client ticket self.old.shut self.old verdict }
-        ensures makes { Logs self.old (test_marks client ticket (judged verdict) result) self.new }
-        ensures balance { Balance self.old self.new (test_marks client ticket (judged verdict) result) 0 0 }
-        ensures becomes { self.new ≡ after_test client ticket result self.old }
+        ensures marks { (marks : List Mark) → StandsFor self.old.pool marks → result ≡ verdict_answer client ticket (list_any is_shut marks) self.old.pool verdict }
+        ensures answer { result ≡ verdict_answer client ticket self.old.pool.shut self.old.pool verdict }
+        ensures makes { Logs self.old.pool (test_marks client ticket (judged verdict) result) self.new.pool }
+        ensures balance { Balance self.old.pool self.new.pool (test_marks client ticket (judged verdict) result) 0 0 }
+        ensures becomes { self.new.pool ≡ after_test client ticket result self.old.pool }
         ensures cost { Looks self.old self.new steps.old steps.new }
     {
         self.pool.sound();
@@ -83,11 +86,13 @@ impl<C> PoolCore<C> {
         now: Moment,
         tried: Tried<C>,
     ) -> AfterConnect<C>
-        ensures marks { (marks : List Mark) → StandsFor self.old marks → result ≡ connect_answer (ticket_of client ticket self.old.tickets) (list_any is_shut marks) (next_conn marks) (moment_of self.old now) tried }
-        ensures answer { result ≡ connect_answer (ticket_of client ticket self.old.tickets) self.old.shut self.old.next_conn (moment_of self.old now) tried }
-        ensures makes { Logs self.old (connect_marks client ticket (moment_of self.old now) result) self.new }
-        ensures balance { Balance self.old self.new (connect_marks client ticket (moment_of self.old now) result) 0 0 }
-        ensures becomes { self.new ≡ after_connect client ticket (moment_of self.old now) result self.old }
+        ensures marks { (marks : List Mark) → StandsFor self.old.pool marks →
+            result ≡ connect_answer (ticket_of client ticket self.old.pool.tickets) (list_any is_shut marks) (next_conn marks) (moment_of self.old.pool now) tried }
+        ensures answer { result ≡ connect_answer (ticket_of client ticket self.old.pool.tickets) self.old.pool.shut self.old.pool.next_conn (moment_of self.old.pool now) tried }
+        ensures makes { Logs self.old.pool (connect_marks client ticket (moment_of self.old.pool now) result) self.new.pool }
+        ensures balance { Balance self.old.pool self.new.pool (connect_marks client ticket (moment_of self.old.pool now) result) 0 0 }
+        ensures becomes { self.new.pool ≡ after_connect client ticket (moment_of self.old.pool now) result self.old.pool }
+        ensures edge { KeepsEntitled self.old self.new }
     {
         self.uncounted_finish_connect::<Brand>(client, ticket, now, tried, Blank::new(1))
     }
@@ -104,11 +109,13 @@ impl<C> PoolCore<C> {
         requires named { blank.name ≡ L.name }
         requires whole { blank.parts ≡ L.parts }
         requires some { 0 < blank.parts }
-        ensures marks { (marks : List Mark) → StandsFor self.old marks → result ≡ connect_answer (ticket_of client ticket self.old.tickets) (list_any is_shut marks) (next_conn marks) (moment_of self.old now) tried }
-        ensures answer { result ≡ connect_answer (ticket_of client ticket self.old.tickets) self.old.shut self.old.next_conn (moment_of self.old now) tried }
-        ensures makes { Logs self.old (connect_marks client ticket (moment_of self.old now) result) self.new }
-        ensures balance { Balance self.old self.new (connect_marks client ticket (moment_of self.old now) result) 0 0 }
-        ensures becomes { self.new ≡ after_connect client ticket (moment_of self.old now) result self.old }
+        ensures marks { (marks : List Mark) → StandsFor self.old.pool marks →
+            result ≡ connect_answer (ticket_of client ticket self.old.pool.tickets) (list_any is_shut marks) (next_conn marks) (moment_of self.old.pool now) tried }
+        ensures answer { result ≡ connect_answer (ticket_of client ticket self.old.pool.tickets) self.old.pool.shut self.old.pool.next_conn (moment_of self.old.pool now) tried }
+        ensures makes { Logs self.old.pool (connect_marks client ticket (moment_of self.old.pool now) result) self.new.pool }
+        ensures balance { Balance self.old.pool self.new.pool (connect_marks client ticket (moment_of self.old.pool now) result) 0 0 }
+        ensures becomes { self.new.pool ≡ after_connect client ticket (moment_of self.old.pool now) result self.old.pool }
+        ensures edge { KeepsEntitled self.old self.new }
     {
         let mut steps = Steps::<L>::new(blank);
         self.finish_connect_counted(client, ticket, now, tried, &mut steps)
@@ -123,11 +130,12 @@ impl<C> PoolCore<C> {
         tried: Tried<C>,
         steps: &mut Steps<L>,
     ) -> AfterConnect<C>
-        ensures marks { (marks : List Mark) → StandsFor self.old marks → result ≡ connect_answer (ticket_of client ticket self.old.tickets) (list_any is_shut marks) (next_conn marks) (moment_of self.old now) tried }
-        ensures answer { result ≡ connect_answer (ticket_of client ticket self.old.tickets) self.old.shut self.old.next_conn (moment_of self.old now) tried }
-        ensures makes { Logs self.old (connect_marks client ticket (moment_of self.old now) result) self.new }
-        ensures balance { Balance self.old self.new (connect_marks client ticket (moment_of self.old now) result) 0 0 }
-        ensures becomes { self.new ≡ after_connect client ticket (moment_of self.old now) result self.old }
+        ensures marks { (marks : List Mark) → StandsFor self.old.pool marks →
+            result ≡ connect_answer (ticket_of client ticket self.old.pool.tickets) (list_any is_shut marks) (next_conn marks) (moment_of self.old.pool now) tried }
+        ensures answer { result ≡ connect_answer (ticket_of client ticket self.old.pool.tickets) self.old.pool.shut self.old.pool.next_conn (moment_of self.old.pool now) tried }
+        ensures makes { Logs self.old.pool (connect_marks client ticket (moment_of self.old.pool now) result) self.new.pool }
+        ensures balance { Balance self.old.pool self.new.pool (connect_marks client ticket (moment_of self.old.pool now) result) 0 0 }
+        ensures becomes { self.new.pool ≡ after_connect client ticket (moment_of self.old.pool now) result self.old.pool }
         ensures cost { Looks self.old self.new steps.old steps.new }
     {
         let moment = self.pool.moment(now);

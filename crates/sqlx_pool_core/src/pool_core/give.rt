@@ -2,23 +2,24 @@
 
 ghost use Rattle.std.specs.Prelude.{◌≡◌, ◌<◌, ℕ, max, List, Option, is_some};
 ghost use Rattle.std.specs.List.{list_any};
-ghost use Rattle.sqlx_log.specs.declared.mark.Mark.{Mark};
-ghost use Rattle.sqlx_log.specs.Marks.{owner_of, is_shut};
-ghost use Rattle.sqlx_log.specs.Answers.{owns, is_kept_at};
-ghost use Rattle.sqlx_log.specs.EventTable.{closes};
-ghost use Rattle.sqlx_member.specs.Logs.{Logs, moment_of};
-ghost use Rattle.sqlx_member.specs.Answers.{IsGivenAt};
+ghost use Rattle.sqlx_pool_marks.specs.declared.mark.Mark.{Mark};
+ghost use Rattle.sqlx_pool_marks.specs.Marks.{owner_of, is_shut};
+ghost use Rattle.sqlx_pool_marks.specs.Answers.{owns, is_kept_at};
+ghost use Rattle.sqlx_pool_marks.specs.EventTable.{closes};
+ghost use Rattle.sqlx_pool_core.specs.Logs.{Logs, moment_of};
+ghost use Rattle.sqlx_pool_core.specs.Answers.{IsGivenAt};
 ghost use Rattle.sqlx_pool_lists.specs.Limits.{limits_of};
 ghost use Rattle.sqlx_pool_lists.specs.Core.{loan_of};
 ghost use Rattle.sqlx_pool_lists.specs.Balance.{Balance, given_back, one_if};
 ghost use Rattle.sqlx_pool_lists.specs.Sound.{IsSound};
 ghost use Rattle.sqlx_pool_lists.specs.StandsFor.{StandsFor};
-ghost use Rattle.sqlx_member.specs.ReturnSteps.{give_answer, give_marks, core_after_give, end_marks, detach_marks, leak_marks, released, leaked};
+ghost use Rattle.sqlx_pool_core.specs.ReturnSteps.{give_answer, give_marks, core_after_give, end_marks, detach_marks, leak_marks, released, leaked};
 ghost use Rattle.sqlx_pool_core.specs.KeptLine.{Looks};
+ghost use Rattle.sqlx_pool_core.specs.LonePool.{KeepsEntitled, LeavesEdge};
 
 use super::{PoolCore, line};
-use sqlx_line::Steps;
 use sqlx_pool_lists::{Given, Lent, OwnedConn};
+use sqlx_pool_places::Steps;
 use sqlx_text::Moment;
 use std::marker::Brand;
 use std::sync::ledger::{Blank, Ledger};
@@ -27,8 +28,8 @@ impl<C> PoolCore<C> {
     /// Whether a connection of this opening would be closed rather than kept: the pool is closed, or the
     /// connection's age is above the lifetime.
     pub fn must_close(&self, created: Moment, now: Moment) -> bool
-        ensures marks { (marks : List Mark) → StandsFor self.now marks → result ≡ closes (limits_of self.now.options) (list_any is_shut marks) created.0 (moment_of self.now now) }
-        ensures own { result ≡ closes (limits_of self.now.options) self.now.shut created.0 (moment_of self.now now) }
+        ensures marks { (marks : List Mark) → StandsFor self.now.pool marks → result ≡ closes (limits_of self.now.pool.options) (list_any is_shut marks) created.0 (moment_of self.now.pool now) }
+        ensures own { result ≡ closes (limits_of self.now.pool.options) self.now.pool.shut created.0 (moment_of self.now.pool now) }
     {
         let moment = self.pool.moment(now);
         self.pool.closes(created, moment)
@@ -36,8 +37,8 @@ impl<C> PoolCore<C> {
 
     // This client's loan of this connection.
     pub(super) fn loan(&self, client: u32, conn: u64) -> Option<OwnedConn>
-        ensures found { result ≡ loan_of client conn self.now.held }
-        ensures sound { IsSound self.now }
+        ensures found { result ≡ loan_of client conn self.now.pool.held }
+        ensures sound { IsSound self.now.pool }
     {
         self.pool.sound();
         self.pool.loan(client, conn)
@@ -47,11 +48,12 @@ impl<C> PoolCore<C> {
     /// open and its age isn't above the lifetime; else the caller closes what comes back. The moment of opening is
     /// the one that the pool keeps, whatever `lent.created` says. In sqlx: `PoolConnection::return_to_pool`.
     pub fn give(&mut self, client: u32, lent: Lent<C>, now: Moment, accepted: bool) -> Given<C>
-        ensures marks { (marks : List Mark) → StandsFor self.old marks → IsGivenAt self.old.options marks client lent.id (moment_of self.old now) accepted result }
-        ensures answer { result ≡ give_answer self.old.options self.old.shut (moment_of self.old now) accepted (loan_of client lent.id self.old.held) lent }
-        ensures makes { Logs self.old (give_marks lent.id (moment_of self.old now) result) self.new }
-        ensures balance { Balance self.old self.new (give_marks lent.id (moment_of self.old now) result) (given_back result) 0 }
-        ensures becomes { self.new ≡ core_after_give (loan_of client lent.id self.old.held) lent (moment_of self.old now) result self.old }
+        ensures marks { (marks : List Mark) → StandsFor self.old.pool marks → IsGivenAt self.old.pool.options marks client lent.id (moment_of self.old.pool now) accepted result }
+        ensures answer { result ≡ give_answer self.old.pool.options self.old.pool.shut (moment_of self.old.pool now) accepted (loan_of client lent.id self.old.pool.held) lent }
+        ensures makes { Logs self.old.pool (give_marks lent.id (moment_of self.old.pool now) result) self.new.pool }
+        ensures balance { Balance self.old.pool self.new.pool (give_marks lent.id (moment_of self.old.pool now) result) (given_back result) 0 }
+        ensures becomes { self.new.pool ≡ core_after_give (loan_of client lent.id self.old.pool.held) lent (moment_of self.old.pool now) result self.old.pool }
+        ensures edge { KeepsEntitled self.old self.new }
     {
         self.uncounted_give::<Brand>(client, lent, now, accepted, Blank::new(1))
     }
@@ -68,11 +70,12 @@ impl<C> PoolCore<C> {
         requires named { blank.name ≡ L.name }
         requires whole { blank.parts ≡ L.parts }
         requires some { 0 < blank.parts }
-        ensures marks { (marks : List Mark) → StandsFor self.old marks → IsGivenAt self.old.options marks client lent.id (moment_of self.old now) accepted result }
-        ensures answer { result ≡ give_answer self.old.options self.old.shut (moment_of self.old now) accepted (loan_of client lent.id self.old.held) lent }
-        ensures makes { Logs self.old (give_marks lent.id (moment_of self.old now) result) self.new }
-        ensures balance { Balance self.old self.new (give_marks lent.id (moment_of self.old now) result) (given_back result) 0 }
-        ensures becomes { self.new ≡ core_after_give (loan_of client lent.id self.old.held) lent (moment_of self.old now) result self.old }
+        ensures marks { (marks : List Mark) → StandsFor self.old.pool marks → IsGivenAt self.old.pool.options marks client lent.id (moment_of self.old.pool now) accepted result }
+        ensures answer { result ≡ give_answer self.old.pool.options self.old.pool.shut (moment_of self.old.pool now) accepted (loan_of client lent.id self.old.pool.held) lent }
+        ensures makes { Logs self.old.pool (give_marks lent.id (moment_of self.old.pool now) result) self.new.pool }
+        ensures balance { Balance self.old.pool self.new.pool (give_marks lent.id (moment_of self.old.pool now) result) (given_back result) 0 }
+        ensures becomes { self.new.pool ≡ core_after_give (loan_of client lent.id self.old.pool.held) lent (moment_of self.old.pool now) result self.old.pool }
+        ensures edge { KeepsEntitled self.old self.new }
     {
         let mut steps = Steps::<L>::new(blank);
         self.give_counted(client, lent, now, accepted, &mut steps)
@@ -87,11 +90,11 @@ impl<C> PoolCore<C> {
         accepted: bool,
         steps: &mut Steps<L>,
     ) -> Given<C>
-        ensures marks { (marks : List Mark) → StandsFor self.old marks → IsGivenAt self.old.options marks client lent.id (moment_of self.old now) accepted result }
-        ensures answer { result ≡ give_answer self.old.options self.old.shut (moment_of self.old now) accepted (loan_of client lent.id self.old.held) lent }
-        ensures makes { Logs self.old (give_marks lent.id (moment_of self.old now) result) self.new }
-        ensures balance { Balance self.old self.new (give_marks lent.id (moment_of self.old now) result) (given_back result) 0 }
-        ensures becomes { self.new ≡ core_after_give (loan_of client lent.id self.old.held) lent (moment_of self.old now) result self.old }
+        ensures marks { (marks : List Mark) → StandsFor self.old.pool marks → IsGivenAt self.old.pool.options marks client lent.id (moment_of self.old.pool now) accepted result }
+        ensures answer { result ≡ give_answer self.old.pool.options self.old.pool.shut (moment_of self.old.pool now) accepted (loan_of client lent.id self.old.pool.held) lent }
+        ensures makes { Logs self.old.pool (give_marks lent.id (moment_of self.old.pool now) result) self.new.pool }
+        ensures balance { Balance self.old.pool self.new.pool (give_marks lent.id (moment_of self.old.pool now) result) (given_back result) 0 }
+        ensures becomes { self.new.pool ≡ core_after_give (loan_of client lent.id self.old.pool.held) lent (moment_of self.old.pool now) result self.old.pool }
         ensures cost { Looks self.old self.new steps.old steps.new }
     {
         let moment = self.pool.moment(now);
@@ -105,11 +108,12 @@ impl<C> PoolCore<C> {
     /// Ends the loan of a connection, which the caller closes. False, and nothing changes, where the client
     /// doesn't own it.
     pub fn end(&mut self, client: u32, id: u64) -> bool
-        ensures marks { (marks : List Mark) → StandsFor self.old marks → result ≡ owns client (owner_of id marks) }
-        ensures answer { result ≡ is_some (loan_of client id self.old.held) }
-        ensures makes { Logs self.old (end_marks id result) self.new }
-        ensures balance { Balance self.old self.new (end_marks id result) (one_if result) 0 }
-        ensures becomes { self.new ≡ released id result self.old }
+        ensures marks { (marks : List Mark) → StandsFor self.old.pool marks → result ≡ owns client (owner_of id marks) }
+        ensures answer { result ≡ is_some (loan_of client id self.old.pool.held) }
+        ensures makes { Logs self.old.pool (end_marks id result) self.new.pool }
+        ensures balance { Balance self.old.pool self.new.pool (end_marks id result) (one_if result) 0 }
+        ensures becomes { self.new.pool ≡ released id result self.old.pool }
+        ensures edge { KeepsEntitled self.old self.new }
     {
         self.uncounted_end::<Brand>(client, id, Blank::new(1))
     }
@@ -119,11 +123,12 @@ impl<C> PoolCore<C> {
         requires named { blank.name ≡ L.name }
         requires whole { blank.parts ≡ L.parts }
         requires some { 0 < blank.parts }
-        ensures marks { (marks : List Mark) → StandsFor self.old marks → result ≡ owns client (owner_of id marks) }
-        ensures answer { result ≡ is_some (loan_of client id self.old.held) }
-        ensures makes { Logs self.old (end_marks id result) self.new }
-        ensures balance { Balance self.old self.new (end_marks id result) (one_if result) 0 }
-        ensures becomes { self.new ≡ released id result self.old }
+        ensures marks { (marks : List Mark) → StandsFor self.old.pool marks → result ≡ owns client (owner_of id marks) }
+        ensures answer { result ≡ is_some (loan_of client id self.old.pool.held) }
+        ensures makes { Logs self.old.pool (end_marks id result) self.new.pool }
+        ensures balance { Balance self.old.pool self.new.pool (end_marks id result) (one_if result) 0 }
+        ensures becomes { self.new.pool ≡ released id result self.old.pool }
+        ensures edge { KeepsEntitled self.old self.new }
     {
         let mut steps = Steps::<L>::new(blank);
         self.end_counted(client, id, &mut steps)
@@ -131,11 +136,11 @@ impl<C> PoolCore<C> {
 
     /// The same; each look at the line is a step.
     pub fn end_counted<L: Ledger>(&mut self, client: u32, id: u64, steps: &mut Steps<L>) -> bool
-        ensures marks { (marks : List Mark) → StandsFor self.old marks → result ≡ owns client (owner_of id marks) }
-        ensures answer { result ≡ is_some (loan_of client id self.old.held) }
-        ensures makes { Logs self.old (end_marks id result) self.new }
-        ensures balance { Balance self.old self.new (end_marks id result) (one_if result) 0 }
-        ensures becomes { self.new ≡ released id result self.old }
+        ensures marks { (marks : List Mark) → StandsFor self.old.pool marks → result ≡ owns client (owner_of id marks) }
+        ensures answer { result ≡ is_some (loan_of client id self.old.pool.held) }
+        ensures makes { Logs self.old.pool (end_marks id result) self.new.pool }
+        ensures balance { Balance self.old.pool self.new.pool (end_marks id result) (one_if result) 0 }
+        ensures becomes { self.new.pool ≡ released id result self.old.pool }
         ensures cost { Looks self.old self.new steps.old steps.new }
     {
         self.pool.sound();
@@ -148,11 +153,12 @@ impl<C> PoolCore<C> {
     /// Takes a connection out of the pool: its place and its permit are free again. False, and nothing changes,
     /// where the client doesn't own it.
     pub fn detach(&mut self, client: u32, id: u64) -> bool
-        ensures marks { (marks : List Mark) → StandsFor self.old marks → result ≡ owns client (owner_of id marks) }
-        ensures answer { result ≡ is_some (loan_of client id self.old.held) }
-        ensures makes { Logs self.old (detach_marks id result) self.new }
-        ensures balance { Balance self.old self.new (detach_marks id result) (one_if result) 0 }
-        ensures becomes { self.new ≡ released id result self.old }
+        ensures marks { (marks : List Mark) → StandsFor self.old.pool marks → result ≡ owns client (owner_of id marks) }
+        ensures answer { result ≡ is_some (loan_of client id self.old.pool.held) }
+        ensures makes { Logs self.old.pool (detach_marks id result) self.new.pool }
+        ensures balance { Balance self.old.pool self.new.pool (detach_marks id result) (one_if result) 0 }
+        ensures becomes { self.new.pool ≡ released id result self.old.pool }
+        ensures edge { KeepsEntitled self.old self.new }
     {
         self.uncounted_detach::<Brand>(client, id, Blank::new(1))
     }
@@ -162,11 +168,12 @@ impl<C> PoolCore<C> {
         requires named { blank.name ≡ L.name }
         requires whole { blank.parts ≡ L.parts }
         requires some { 0 < blank.parts }
-        ensures marks { (marks : List Mark) → StandsFor self.old marks → result ≡ owns client (owner_of id marks) }
-        ensures answer { result ≡ is_some (loan_of client id self.old.held) }
-        ensures makes { Logs self.old (detach_marks id result) self.new }
-        ensures balance { Balance self.old self.new (detach_marks id result) (one_if result) 0 }
-        ensures becomes { self.new ≡ released id result self.old }
+        ensures marks { (marks : List Mark) → StandsFor self.old.pool marks → result ≡ owns client (owner_of id marks) }
+        ensures answer { result ≡ is_some (loan_of client id self.old.pool.held) }
+        ensures makes { Logs self.old.pool (detach_marks id result) self.new.pool }
+        ensures balance { Balance self.old.pool self.new.pool (detach_marks id result) (one_if result) 0 }
+        ensures becomes { self.new.pool ≡ released id result self.old.pool }
+        ensures edge { KeepsEntitled self.old self.new }
     {
         let mut steps = Steps::<L>::new(blank);
         self.detach_counted(client, id, &mut steps)
@@ -174,11 +181,11 @@ impl<C> PoolCore<C> {
 
     /// The same; each look at the line is a step.
     pub fn detach_counted<L: Ledger>(&mut self, client: u32, id: u64, steps: &mut Steps<L>) -> bool
-        ensures marks { (marks : List Mark) → StandsFor self.old marks → result ≡ owns client (owner_of id marks) }
-        ensures answer { result ≡ is_some (loan_of client id self.old.held) }
-        ensures makes { Logs self.old (detach_marks id result) self.new }
-        ensures balance { Balance self.old self.new (detach_marks id result) (one_if result) 0 }
-        ensures becomes { self.new ≡ released id result self.old }
+        ensures marks { (marks : List Mark) → StandsFor self.old.pool marks → result ≡ owns client (owner_of id marks) }
+        ensures answer { result ≡ is_some (loan_of client id self.old.pool.held) }
+        ensures makes { Logs self.old.pool (detach_marks id result) self.new.pool }
+        ensures balance { Balance self.old.pool self.new.pool (detach_marks id result) (one_if result) 0 }
+        ensures becomes { self.new.pool ≡ released id result self.old.pool }
         ensures cost { Looks self.old self.new steps.old steps.new }
     {
         self.pool.sound();
@@ -191,11 +198,12 @@ impl<C> PoolCore<C> {
     /// Takes a connection out of the pool, which keeps its place and its permit for good. False, and nothing
     /// changes, where the client doesn't own it.
     pub fn leak(&mut self, client: u32, id: u64) -> bool
-        ensures marks { (marks : List Mark) → StandsFor self.old marks → result ≡ owns client (owner_of id marks) }
-        ensures answer { result ≡ is_some (loan_of client id self.old.held) }
-        ensures makes { Logs self.old (leak_marks id result) self.new }
-        ensures balance { Balance self.old self.new (leak_marks id result) (one_if result) 0 }
-        ensures becomes { self.new ≡ leaked id result self.old }
+        ensures marks { (marks : List Mark) → StandsFor self.old.pool marks → result ≡ owns client (owner_of id marks) }
+        ensures answer { result ≡ is_some (loan_of client id self.old.pool.held) }
+        ensures makes { Logs self.old.pool (leak_marks id result) self.new.pool }
+        ensures balance { Balance self.old.pool self.new.pool (leak_marks id result) (one_if result) 0 }
+        ensures becomes { self.new.pool ≡ leaked id result self.old.pool }
+        ensures edge { LeavesEdge self.old self.new }
     {
         self.pool.sound();
         let held = self.pool.leak(client, id);

@@ -2,12 +2,12 @@
 
 ghost use Rattle.std.specs.Prelude.{◌≡◌, ℕ, max};
 ghost use Rattle.sqlx_pool_lists.specs.Core.{loan_of};
-ghost use Rattle.sqlx_member.specs.Giving.{Ends, TestsIf, GivesBack, returned_by};
-ghost use Rattle.sqlx_member.specs.Logs.{moment_of};
+ghost use Rattle.sqlx_pool_core.specs.Giving.{Ends, TestsIf, GivesBack, returned_by};
+ghost use Rattle.sqlx_pool_core.specs.Logs.{moment_of};
 
 use super::PoolCore;
-use sqlx_member::idle_check::{self, Check};
-use sqlx_member::{Outside, PoolConnectionMetadata};
+use crate::idle_check::{self, Check};
+use crate::{Outside, PoolConnectionMetadata};
 use sqlx_pool_lists::{Given, Lent, Returned};
 use sqlx_text::Moment;
 
@@ -59,7 +59,7 @@ impl<C> PoolCore<C> {
         now: Moment,
         out: &mut X,
     ) -> Returned<C>
-        ensures { GivesBack X.does X.depth (loan_of client lent.id self.old.held) (moment_of self.old now) lent self.old self.new out.old out.new result }
+        ensures { GivesBack X.does X.depth (loan_of client lent.id self.old.pool.held) (moment_of self.old.pool now) lent self.old.pool self.new.pool out.old out.new result }
     {
         let Some(loan) = self.loan(client, lent.id) else {
             return Returned::NotHeld(lent.raw);

@@ -1,18 +1,18 @@
 //! Keeping the minimum, with the outside asked for each connection.
 
 ghost use Rattle.std.specs.Prelude.{◌≡◌, ℕ, ◌≤◌, ◌⊎◌, nat_lt, max, true, false, List, Option, Some, None};
-ghost use Rattle.sqlx_log.specs.declared.mark.Mark.{Mark};
-ghost use Rattle.sqlx_log.specs.EventTable.{lacking_at};
+ghost use Rattle.sqlx_pool_marks.specs.declared.mark.Mark.{Mark};
+ghost use Rattle.sqlx_pool_marks.specs.EventTable.{lacking_at};
 ghost use Rattle.sqlx_pool_lists.specs.Limits.{limits_of};
 ghost use Rattle.sqlx_pool_lists.specs.StandsFor.{StandsFor};
-ghost use Rattle.sqlx_member.specs.Logs.{Logs, moment_of};
+ghost use Rattle.sqlx_pool_core.specs.Logs.{Logs, moment_of};
 ghost use Rattle.sqlx_pool_lists.specs.MaintenanceSteps.{done, done_marks, has_place, lacks};
 ghost use Rattle.sqlx_pool_core.specs.Minimum.{KeepsMinimum, Opens, openings_made};
-ghost use Rattle.sqlx_member.specs.Outside.{HasRisen, is_want};
+ghost use Rattle.sqlx_pool_core.specs.Outside.{HasRisen, is_want};
 
 use super::PoolCore;
-use sqlx_member::Outside;
-use sqlx_member::idle_check::{self, Opening};
+use crate::Outside;
+use crate::idle_check::{self, Opening};
 use sqlx_pool_lists::Openings;
 use sqlx_text::{Error, Moment};
 use std::alloc::Global;
@@ -27,10 +27,10 @@ fn is_want(error: &Error) -> bool
 impl<C> PoolCore<C> {
     // Tells an open pool what came of a place.
     fn fill(&mut self, now: Moment, raw: Option<C>)
-        requires place { 1 ≤ self.old.places }
-        requires open { self.old.shut ≡ false }
-        ensures becomes { self.new ≡ done self.old.shut (moment_of self.old now) raw self.old }
-        ensures makes { Logs self.old (done_marks self.old.shut self.old.next_conn (moment_of self.old now) raw) self.new }
+        requires place { 1 ≤ self.old.pool.places }
+        requires open { self.old.pool.shut ≡ false }
+        ensures becomes { self.new.pool ≡ done self.old.pool.shut (moment_of self.old.pool now) raw self.old.pool }
+        ensures makes { Logs self.old.pool (done_marks self.old.pool.shut self.old.pool.next_conn (moment_of self.old.pool now) raw) self.new.pool }
     {
         match self.minimum_done(now, raw) {
             None => {}
@@ -48,18 +48,18 @@ impl<C> PoolCore<C> {
         options: &O,
         out: &mut X,
     ) -> Openings
-        ensures keeps { KeepsMinimum X.does X.depth options.now now.0 self.old self.new out.old out.new result }
+        ensures keeps { KeepsMinimum X.does X.depth options.now now.0 self.old.pool self.new.pool out.old out.new result }
         // The marks are those of so many openings, and what was opened is the last of the idle.
-        ensures makes { Logs self.old (openings_made result.opened self.old.next_conn (moment_of self.old now)) self.new }
-        ensures opens { Opens X.depth self.old self.new result.opened now.0 }
+        ensures makes { Logs self.old.pool (openings_made result.opened self.old.pool.next_conn (moment_of self.old.pool now)) self.new.pool }
+        ensures opens { Opens X.depth self.old.pool self.new.pool result.opened now.0 }
         // A place is left where fewer are opened than lack, and more than lack are never opened.
-        ensures most { result.opened ≤ lacks self.old }
-        ensures place { has_place self.old.options.min_connections self.new ≡ nat_lt result.opened (lacks self.old) }
-        ensures lacks { (marks : List Mark) → StandsFor self.old marks → lacks self.old ≡ lacking_at (limits_of self.old.options) self.old.places marks }
+        ensures most { result.opened ≤ lacks self.old.pool }
+        ensures place { has_place self.old.pool.options.min_connections self.new.pool ≡ nat_lt result.opened (lacks self.old.pool) }
+        ensures lacks { (marks : List Mark) → StandsFor self.old.pool marks → lacks self.old.pool ≡ lacking_at (limits_of self.old.pool.options) self.old.pool.places marks }
         // Want of memory leaves a place.
-        ensures short { result.short ≡ true → (has_place self.old.options.min_connections self.new ≡ true) × X.IsShort out.new }
+        ensures short { result.short ≡ true → (has_place self.old.pool.options.min_connections self.new.pool ≡ true) × X.IsShort out.new }
         // It ends where no place is left, where a refusal was counted, or for want of memory.
-        ensures ends { (has_place self.old.options.min_connections self.new ≡ false) ⊎ ((HasRisen (X.faults out.old) (X.faults out.new) ⊎ HasRisen (X.refusals out.old) (X.refusals out.new)) ⊎ (result.short ≡ true)) }
+        ensures ends { (has_place self.old.pool.options.min_connections self.new.pool ≡ false) ⊎ ((HasRisen (X.faults out.old) (X.faults out.new) ⊎ HasRisen (X.refusals out.old) (X.refusals out.new)) ⊎ (result.short ≡ true)) }
         // The counts never fall.
         ensures counts { (X.faults out.old ≤ X.faults out.new) × (X.refusals out.old ≤ X.refusals out.new) }
     {

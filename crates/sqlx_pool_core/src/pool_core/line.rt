@@ -1,13 +1,16 @@
 //! How the line follows a step.
 
 ghost use Rattle.std.specs.Prelude.{◌≡◌, ◌+◌, ◌-◌, ◌<◌, ◌≤◌, ◌^◌, ◌&&◌, ◌⊎◌, if◌then◌else◌};
-ghost use Rattle.sqlx_line.specs.Line.{ComesLast, beyond, entitled, is_below_edge, pushed};
+ghost use Rattle.sqlx_pool_places.specs.Line.{ComesLast, beyond, entitled, is_below_edge, pushed};
 ghost use Rattle.sqlx_pool_core.specs.KeptLine.{IsLined, IsNearlyLined, EntitlesBeyond, leaves, taken_out};
+ghost use Rattle.sqlx_pool_core.specs.LonePool.{MovesOnce};
 ghost use Rattle.sqlx_pool_lists.specs.PollSteps.{phase_for, is_in_line};
+ghost use Rattle.sqlx_pool_lists.specs.Sound.{IsSound};
 
-use sqlx_line::{Line, Steps};
-use sqlx_member::Member;
+use crate::Member;
 use sqlx_pool_lists::Start;
+use sqlx_pool_places::{Line, Steps};
+use std::alloc::Global;
 use std::sync::ledger::Ledger;
 
 // How many waiting tickets are entitled.
@@ -32,13 +35,13 @@ pub fn leaves<C>(started: &Start<C>) -> bool
 }
 
 /// A ticket joins behind all others. False for want of memory.
-pub fn join<L: Ledger>(line: &mut Line, ticket: u64, steps: &mut Steps<L>) -> bool
+pub fn join<L: Ledger>(line: &mut Line, alloc: Global, ticket: u64, steps: &mut Steps<L>) -> bool
     requires last { ComesLast ticket line.old }
     requires numbered { ticket < 2 ^ 64 - 1 }
     ensures becomes { line.new ≡ (if result then pushed ticket line.old else line.old) }
     ensures cost { steps.new ≡ steps.old + 1 }
 {
-    line.push(ticket, steps).is_ok()
+    line.push(alloc, ticket, steps).is_ok()
 }
 
 /// Takes a ticket that went out of the line.
@@ -52,12 +55,16 @@ pub fn take_out<L: Ledger>(line: &mut Line, ticket: u64, went: bool, steps: &mut
 }
 
 /// Moves the edge once, where a permit is free for a ticket that isn't entitled yet.
+#[inline]
 pub fn serve<C, L: Ledger>(pool: &Member<C>, line: &mut Line, steps: &mut Steps<L>)
     requires near { IsNearlyLined pool.now line.old }
     ensures lined { IsLined pool.now line.new }
     ensures cost { steps.new + beyond line.new ≡ steps.old + beyond line.old }
     ensures once { steps.new ≤ steps.old + 1 }
     ensures turns { (steps.new ≤ steps.old) ⊎ EntitlesBeyond pool.now line.old }
+    ensures moves { steps.new + line.old.moves ≡ steps.old + line.new.moves }
+    ensures edge { MovesOnce line.old line.new }
+    ensures sound { IsSound pool.now }
 {
     pool.sound();
     if line.beyond() > 0 && entitled(line) < pool.num_free() as usize {

@@ -1,20 +1,20 @@
 //! A whole poll: its steps, with the outside asked between them.
 
 ghost use Rattle.std.specs.Prelude.{◌≡◌, ◌<◌, ◌≤◌, drop, ℕ, max, false, List, Some};
-ghost use Rattle.sqlx_log.specs.declared.mark.Mark.{Mark};
+ghost use Rattle.sqlx_pool_marks.specs.declared.mark.Mark.{Mark};
 ghost use Rattle.sqlx_pool_lists.specs.declared.ticket.Phase.TheVariants.{Connecting};
 ghost use Rattle.sqlx_pool_lists.specs.Core.{ticket_of};
-ghost use Rattle.sqlx_member.specs.Logs.{Logs, moment_of};
+ghost use Rattle.sqlx_pool_core.specs.Logs.{Logs, moment_of};
 ghost use Rattle.sqlx_pool_lists.specs.StandsFor.{StandsFor};
 ghost use Rattle.sqlx_pool_lists.specs.CoreTurn.{core_turn, turn_at_marks};
-ghost use Rattle.sqlx_member.specs.CameTo.{IsForGood};
-ghost use Rattle.sqlx_pool_core.specs.PollParts.{IfReady, IfRefused, WhereIdleRests, first_depth, tried_answer, next_try_at};
-ghost use Rattle.sqlx_pool_lists.specs.PollSteps.{phase_for, judged, tested_at, may_test_next, test_answer, test_marks, after_test, connect_answer, connect_marks, after_connect};
-ghost use Rattle.sqlx_pool_core.specs.Walk.{GoesOn, Polls, Test, Connect, last, tried_of};
+ghost use Rattle.sqlx_pool_core.specs.CameTo.{IsForGood};
+ghost use Rattle.sqlx_pool_core.specs.PollParts.{BacksOff, IfBackoff, IfReady, IfRefused, WhereIdleRests, first_depth, tried_answer, next_try_at};
+ghost use Rattle.sqlx_pool_lists.specs.PollSteps.{phase_for, start_answer, judged, tested_at, may_test_next, test_answer, test_marks, after_test, connect_answer, connect_marks, after_connect};
+ghost use Rattle.sqlx_pool_core.specs.Walk.{GoesOn, IfAnswer, Polls, Test, Connect, first, last, tried_of};
 
 use super::PoolCore;
-use sqlx_member::Outside;
-use sqlx_member::idle_check::{self, Opening};
+use crate::Outside;
+use crate::idle_check::{self, Opening};
 use sqlx_pool_lists::{AfterConnect, AfterTest, Idle, Polled, Start, Tried, Verdict};
 use sqlx_text::Moment;
 use std::alloc::Global;
@@ -28,11 +28,11 @@ impl<C> PoolCore<C> {
         _created: Moment,
         verdict: Verdict<C>,
     ) -> AfterTest<C>
-        requires tested { tested_at (judged verdict) (phase_for client ticket self.old.tickets) ≡ Some _created }
-        requires open { self.old.shut ≡ false }
-        ensures answer { result ≡ test_answer (Some _created) false (may_test_next self.old.options.idle_tries (phase_for client ticket self.old.tickets)) self.old.idle verdict }
-        ensures makes { Logs self.old (test_marks client ticket (judged verdict) result) self.new }
-        ensures becomes { self.new ≡ after_test client ticket result self.old }
+        requires tested { tested_at (judged verdict) (phase_for client ticket self.old.pool.tickets) ≡ Some _created }
+        requires open { self.old.pool.shut ≡ false }
+        ensures answer { result ≡ test_answer (Some _created) false (may_test_next self.old.pool.options.idle_tries (phase_for client ticket self.old.pool.tickets)) self.old.pool.idle verdict }
+        ensures makes { Logs self.old.pool (test_marks client ticket (judged verdict) result) self.new.pool }
+        ensures becomes { self.new.pool ≡ after_test client ticket result self.old.pool }
     {
         self.finish_test(client, ticket, verdict)
     }
@@ -45,25 +45,27 @@ impl<C> PoolCore<C> {
         moment: Moment,
         tried: Tried<C>,
     ) -> AfterConnect<C>
-        requires connecting { phase_for client ticket self.old.tickets ≡ Some Connecting }
-        requires open { self.old.shut ≡ false }
-        requires at { moment.0 ≡ self.old.last }
-        ensures tells { result ≡ connect_answer (ticket_of client ticket self.old.tickets) self.old.shut self.old.next_conn moment.0 tried }
-        ensures answer { result ≡ tried_answer self.old.next_conn moment.0 (next_try_at moment.0 (ticket_of client ticket self.old.tickets)) tried }
-        ensures makes { Logs self.old (connect_marks client ticket moment.0 result) self.new }
-        ensures becomes { self.new ≡ after_connect client ticket moment.0 result self.old }
+        requires connecting { phase_for client ticket self.old.pool.tickets ≡ Some Connecting }
+        requires open { self.old.pool.shut ≡ false }
+        requires at { moment.0 ≡ self.old.pool.last }
+        ensures tells { result ≡ connect_answer (ticket_of client ticket self.old.pool.tickets) self.old.pool.shut self.old.pool.next_conn moment.0 tried }
+        ensures answer { result ≡ tried_answer self.old.pool.next_conn moment.0 (next_try_at moment.0 (ticket_of client ticket self.old.pool.tickets)) tried }
+        ensures makes { Logs self.old.pool (connect_marks client ticket moment.0 result) self.new.pool }
+        ensures becomes { self.new.pool ≡ after_connect client ticket moment.0 result self.old.pool }
     {
         self.finish_connect(client, ticket, moment, tried)
     }
 
     // Tells what a try came to, and ends the poll.
     fn tell(&mut self, client: u32, ticket: u64, moment: Moment, opening: Opening<C>) -> Polled<C>
-        requires connecting { phase_for client ticket self.old.tickets ≡ Some Connecting }
-        requires open { self.old.shut ≡ false }
-        requires at { moment.0 ≡ self.old.last }
-        ensures answer { result ≡ last (connect_answer (ticket_of client ticket self.old.tickets) self.old.shut self.old.next_conn moment.0 (tried_of opening)) opening }
-        ensures becomes { self.new ≡ after_connect client ticket moment.0 (connect_answer (ticket_of client ticket self.old.tickets) self.old.shut self.old.next_conn moment.0 (tried_of opening)) self.old }
-        ensures makes { Logs self.old (connect_marks client ticket moment.0 (connect_answer (ticket_of client ticket self.old.tickets) self.old.shut self.old.next_conn moment.0 (tried_of opening))) self.new }
+        requires connecting { phase_for client ticket self.old.pool.tickets ≡ Some Connecting }
+        requires open { self.old.pool.shut ≡ false }
+        requires at { moment.0 ≡ self.old.pool.last }
+        ensures answer { result ≡ last (connect_answer (ticket_of client ticket self.old.pool.tickets) self.old.pool.shut self.old.pool.next_conn moment.0 (tried_of opening)) opening }
+        ensures becomes { self.new.pool ≡ after_connect client ticket moment.0
+            (connect_answer (ticket_of client ticket self.old.pool.tickets) self.old.pool.shut self.old.pool.next_conn moment.0 (tried_of opening)) self.old.pool }
+        ensures makes { Logs self.old.pool
+            (connect_marks client ticket moment.0 (connect_answer (ticket_of client ticket self.old.pool.tickets) self.old.pool.shut self.old.pool.next_conn moment.0 (tried_of opening))) self.new.pool }
     {
         match opening {
             Opening::Opened(raw) => match self.connect_ended(
@@ -110,10 +112,10 @@ impl<C> PoolCore<C> {
         options: &O,
         out: &mut X,
     ) -> Polled<C>
-        requires connecting { phase_for client ticket self.old.tickets ≡ Some Connecting }
-        requires open { self.old.shut ≡ false }
-        requires at { moment.0 ≡ self.old.last }
-        ensures { GoesOn X.does X.depth options.now client ticket moment.0 Connect self.old self.new out.old out.new result }
+        requires connecting { phase_for client ticket self.old.pool.tickets ≡ Some Connecting }
+        requires open { self.old.pool.shut ≡ false }
+        requires at { moment.0 ≡ self.old.pool.last }
+        ensures { GoesOn X.does X.depth options.now client ticket moment.0 Connect self.old.pool self.new.pool out.old out.new result }
     {
         let hook = self.options().get_after_connect();
         let opening = idle_check::try_connect::<C, O, X>(alloc, hook, options, out);
@@ -131,10 +133,10 @@ impl<C> PoolCore<C> {
         options: &O,
         out: &mut X,
     ) -> Polled<C>
-        requires tested { tested_at idle.lent.id (phase_for client ticket self.old.tickets) ≡ Some idle.lent.created }
-        requires open { self.old.shut ≡ false }
-        requires at { moment.0 ≡ self.old.last }
-        ensures { GoesOn X.does X.depth options.now client ticket moment.0 (Test idle) self.old self.new out.old out.new result }
+        requires tested { tested_at idle.lent.id (phase_for client ticket self.old.pool.tickets) ≡ Some idle.lent.created }
+        requires open { self.old.pool.shut ≡ false }
+        requires at { moment.0 ≡ self.old.pool.last }
+        ensures { GoesOn X.does X.depth options.now client ticket moment.0 (Test idle) self.old.pool self.new.pool out.old out.new result }
     {
         let set = *self.options();
         let created = idle.lent.created;
@@ -161,15 +163,19 @@ impl<C> PoolCore<C> {
         options: &O,
         out: &mut X,
     ) -> Polled<C>
-        ensures polls { Polls X.does X.depth options.now client ticket (moment_of self.old now) self.old self.new out.old out.new result }
+        ensures polls { Polls X.does X.depth options.now client ticket (moment_of self.old.pool now) self.old.pool self.new.pool out.old out.new result }
         // The turn is the poll table's, by the marks that the core stands for.
-        ensures turn { (marks : List Mark) → StandsFor self.old marks → core_turn self.old client ticket (moment_of self.old now) ≡ turn_at_marks self.old marks client ticket (moment_of self.old now) }
+        ensures turn { (marks : List Mark) → StandsFor self.old.pool marks → core_turn self.old.pool client ticket (moment_of self.old.pool now) ≡ turn_at_marks self.old.pool marks client ticket (moment_of self.old.pool now) }
         // A connect is refused for good for want of memory, or a fault was counted; it isn't a refusal that may pass.
         ensures cause { IfRefused result (λ e. IsForGood (X.faults out.old) (X.faults out.new) e) }
+        // What the turn answers at once is the answer.
+        ensures at_once { IfAnswer (first (start_answer (core_turn self.old.pool client ticket (moment_of self.old.pool now)) self.old.pool.idle)) (λ answer. result ≡ answer) }
+        // A ticket backs off where that is its turn, or where a refusal was counted.
+        ensures backs_off { IfBackoff result (BacksOff (core_turn self.old.pool client ticket (moment_of self.old.pool now)) (X.faults out.old) (X.faults out.new) (X.refusals out.old) (X.refusals out.new)) }
         // The counts never fall.
         ensures counts { (X.faults out.old ≤ X.faults out.new) × (X.refusals out.old ≤ X.refusals out.new) }
-        // What is lent has no level open, where the first idle connection has none and, if more are tested, the others stay at rest.
-        ensures rests { WhereIdleRests X.does X.depth self.old out.old (IfReady result (λ lent. X.depth out.new lent.raw ≡ 0)) }
+        // What is lent has no level open, where a hook looks at it, or else where the idle connections have none and no ping and no close opens one.
+        ensures rests { WhereIdleRests X.does X.depth self.old.pool out.old (IfReady result (λ lent. X.depth out.new lent.raw ≡ 0)) }
     {
         let moment = self.moment(now);
         match self.start(client, ticket, now) {

@@ -3,13 +3,13 @@ ghost use Rattle.std.specs.Prelude.{◌≡◌, ◌≤◌, ◌⊎◌, ◌∷◌, 
 ghost use Rattle.sqlx_text.specs.declared.error.Error.{Error};
 ghost use Rattle.sqlx_traits.specs.Reads.{Answers};
 ghost use Rattle.sqlx_traits.specs.StepList.{Ran, RunsNothing, StepCause, StepCauses, first_of, one_or, rows_of};
-ghost use Rattle.sqlx_query_parts.specs.Query.{handed_over, turned};
-ghost use Rattle.sqlx_query_parts.specs.Mapping.{MapsAll, ReadsOne, ReadsOptional, RefusedBy, made_by};
+ghost use Rattle.sqlx_query_drafts.specs.Query.{handed_over, turned};
+ghost use Rattle.sqlx_query_rows.specs.Mapping.{MapsAll, ReadsOne, ReadsOptional, RefusedBy, made_by};
 
 use crate::{
     Each, MapManyStream, MapStream, Mapped, MappedRowList, MappedStepList, Mapper, Query, TryEach,
 };
-use sqlx_query_parts::{map_one, map_optional};
+use sqlx_query_rows::{map_one, map_optional};
 use sqlx_text::{Error, Fault, OutOfMemory, SqlStr};
 use sqlx_traits::{Database, Execute, Executor, IntoArguments, Row};
 use std::alloc::Global;

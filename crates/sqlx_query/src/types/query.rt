@@ -3,12 +3,12 @@ ghost use Rattle.std.specs.Prelude.{◌≡◌, ◌≤◌, ◌⊎◌, ◌∷◌, 
 ghost use Rattle.sqlx_text.specs.declared.error.Error.{Error};
 ghost use Rattle.sqlx_traits.specs.Reads.{Answers};
 ghost use Rattle.sqlx_traits.specs.StepList.{Ran, RunsNothing, StepCause, StepCauses, all_of, combined, first_of, one_or, results_of, rows_of};
-ghost use Rattle.sqlx_query_parts.specs.Binding.{Binds, Bound, CanBind, fault_after_a_fault};
-ghost use Rattle.sqlx_query_parts.specs.Query.{fresh_query, given_arguments, handed_over, statement_of, text_of, turned};
+ghost use Rattle.sqlx_query_drafts.specs.Binding.{Binds, Bound, CanBind, fault_after_a_fault};
+ghost use Rattle.sqlx_query_drafts.specs.Query.{fresh_query, given_arguments, handed_over, statement_of, text_of, turned};
 
 use crate::types::request::Request;
 use either::Either;
-use sqlx_query_parts::{after_a_fault, bound, turn};
+use sqlx_query_drafts::{after_a_fault, bound, turn};
 use sqlx_text::{Error, Fault, OutOfMemory, SqlStr};
 use sqlx_traits::{
     ArgumentList, Arguments, Database, Encode, Execute, ExecuteMany, Executor, Fetch, FetchMany,
@@ -27,7 +27,7 @@ pub struct Query<'q, DB: Database, A> {
 }
 
 impl<'q, DB: Database, A> Model for Query<'q, DB, A> {
-    ghost use Rattle.sqlx_query_parts.specs.Query.{Asked, statement_of, text_of};
+    ghost use Rattle.sqlx_query_drafts.specs.Query.{Asked, statement_of, text_of};
 
     ghost Value = { Asked DB.Statement A };
 

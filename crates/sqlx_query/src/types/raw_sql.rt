@@ -3,7 +3,7 @@ ghost use Rattle.std.specs.Prelude.{◌≡◌, ◌≤◌, ◌⊎◌, IfErr};
 ghost use Rattle.sqlx_text.specs.declared.error.Error.{Error};
 ghost use Rattle.sqlx_traits.specs.Reads.{Answers};
 ghost use Rattle.sqlx_traits.specs.StepList.{Ran, StepCause, StepCauses, all_of, combined, first_of, one_or, results_of, rows_of};
-ghost use Rattle.sqlx_query_parts.specs.Query.{handed_raw, no_arguments};
+ghost use Rattle.sqlx_query_drafts.specs.Query.{handed_raw, no_arguments};
 
 use sqlx_text::{Error, Fault, OutOfMemory, SqlStr};
 use sqlx_traits::{Database, Execute, ExecuteMany, Executor, Fetch, FetchMany, QueryResult, Row};

@@ -3,9 +3,9 @@ ghost use Rattle.std.specs.Prelude.{◌≡◌, ◌≤◌, ◌⊎◌, ◌∷◌, 
 ghost use Rattle.sqlx_text.specs.declared.error.Error.{Error};
 ghost use Rattle.sqlx_traits.specs.Reads.{Answers};
 ghost use Rattle.sqlx_traits.specs.StepList.{Ran, RunsNothing, StepCause, StepCauses, first_of, one_or, rows_of};
-ghost use Rattle.sqlx_query_parts.specs.Binding.{Binds};
-ghost use Rattle.sqlx_query_parts.specs.Mapping.{ReadsAll, ReadsOne, ReadsOptional, Refused};
-ghost use Rattle.sqlx_query_parts.specs.Query.{handed_over, turned};
+ghost use Rattle.sqlx_query_drafts.specs.Binding.{Binds};
+ghost use Rattle.sqlx_query_rows.specs.Mapping.{ReadsAll, ReadsOne, ReadsOptional, Refused};
+ghost use Rattle.sqlx_query_drafts.specs.Query.{handed_over, turned};
 
 use crate::types::read_stream::{read_all, read_one, read_optional};
 use crate::{AsRows, AsScalars, Query, ReadManyStream, ReadStream, Reader};

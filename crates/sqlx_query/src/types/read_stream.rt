@@ -1,6 +1,6 @@
 //! The rows of a query, each read as it is handed out. A refusal stands in its row's place.
 ghost use Rattle.std.specs.Prelude.{length};
-ghost use Rattle.sqlx_query_parts.specs.Mapping.{ReadsAll, ReadsNext, ReadsNextStep, ReadsOne, ReadsOptional, ReadsStep};
+ghost use Rattle.sqlx_query_rows.specs.Mapping.{ReadsAll, ReadsNext, ReadsNextStep, ReadsOne, ReadsOptional, ReadsStep};
 
 use crate::{AsRows, AsScalars, MappedRowList, Mapper, Reader};
 use sqlx_text::Error;

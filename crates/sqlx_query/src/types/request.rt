@@ -15,7 +15,7 @@ pub(crate) struct Request<'q, S, A> {
 }
 
 impl<'q, DB: Database> Execute<DB> for Request<'q, DB::Statement, DB::Arguments> {
-    ghost use Rattle.sqlx_query_parts.specs.Query.{statement_of, text_of};
+    ghost use Rattle.sqlx_query_drafts.specs.Query.{statement_of, text_of};
 
     ghost text = { λ request. text_of DB.Statement.text request.statement };
 

@@ -1,5 +1,5 @@
 use Rattle.std.proofs.Common.{◌≡◌, take}
-use Rattle.sqlx_numbered.specs.Numbered.{items_at}
+use Rattle.sqlx_pool_places.specs.Numbered.{items_at}
 use Rattle.mem_store.specs.UndoLog.{deletions_done}
 use Rattle.mem_store.proofs.writes.do_deletions.Given as goal
 

@@ -1,5 +1,5 @@
 use Rattle.std.proofs.Common.{◌≡◌, take}
-use Rattle.sqlx_numbered.specs.Numbered.{items_at}
+use Rattle.sqlx_pool_places.specs.Numbered.{items_at}
 use Rattle.mem_store.specs.UndoLog.{unwritten, values_inserted}
 use Rattle.mem_store.proofs.writes.insert_values.Given as goal
 

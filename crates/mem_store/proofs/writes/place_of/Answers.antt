@@ -3,7 +3,7 @@ use mir.Val.{SFits, of_z}
 use Rattle.std.specs.Int.{w64}
 use Rattle.std.specs.Ordering.{int_cmp}
 use Rattle.std.specs.FinMap.{find}
-use Rattle.sqlx_numbered.specs.Numbered.{items_at, HasNone, IsFirstAt}
+use Rattle.sqlx_pool_places.specs.Numbered.{items_at, HasNone, IsFirstAt}
 use Rattle.mem_store.specs.OwnWrites.{number_of, StandOnce, StandsAt}
 use Rattle.mem_store.proofs.OnceEach.{none-at, stands-at}
 use Rattle.mem_store.proofs.writes.place_of.Goals as goal

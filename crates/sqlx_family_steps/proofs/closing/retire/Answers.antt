@@ -1,5 +1,6 @@
-use Rattle.std.proofs.Common.{◌++◌, length, ap, ◌∙◌, arith, vec_items}
+use Rattle.std.proofs.Common.{◌++◌, length, ap, ◌∙◌, arith}
 use Rattle.sqlx_pool_lists.specs.MaintenanceSteps.{close_marks}
+use Rattle.sqlx_pool_log.specs.PackedLog.{marks_of}
 use Rattle.sqlx_family_steps.proofs.closing.retire.Goals as goal
 
 pub close-requires : goal.close-requires
@@ -10,4 +11,4 @@ close-requires g c =
     omega (arith, r, b, e)
 
 pub returns-clause-marks : goal.returns-clause-marks
-returns-clause-marks g c = c.close.ensures.marks ∙ ap (λ b. vec_items c.args.log.now ++ close_marks b c.retire-idle.result.items) c.is_shut-shut.ensures
+returns-clause-marks g c = c.close.ensures.marks ∙ ap (λ b. marks_of c.args.log.now ++ close_marks b c.retire-idle.result.items) c.is_shut-shut.ensures

@@ -1,5 +1,6 @@
-use Rattle.std.proofs.Common.{ℕ, ◌++◌, length, ap, ◌∙◌, arith, vec_items}
+use Rattle.std.proofs.Common.{ℕ, ◌++◌, length, ap, ◌∙◌, arith}
 use Rattle.sqlx_pool_lists.specs.PollSteps.{test_marks}
+use Rattle.sqlx_pool_log.specs.PackedLog.{marks_of}
 use Rattle.sqlx_family_steps.proofs.polling.finish_test.Goals as goal
 
 pub test-requires : goal.test-requires
@@ -10,4 +11,4 @@ test-requires g c =
     omega (arith, r, b, e)
 
 pub returns-clause-marks : goal.returns-clause-marks
-returns-clause-marks g c = c.test.ensures.marks ∙ ap (λ (n : ℕ). vec_items c.args.log.now ++ test_marks c.args.client c.args.ticket n c.finish_test-after.result) c.judged_of-conn.ensures
+returns-clause-marks g c = c.test.ensures.marks ∙ ap (λ (n : ℕ). marks_of c.args.log.now ++ test_marks c.args.client c.args.ticket n c.finish_test-after.result) c.judged_of-conn.ensures

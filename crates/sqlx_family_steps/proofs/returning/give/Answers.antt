@@ -1,5 +1,6 @@
-use Rattle.std.proofs.Common.{ℕ, ◌++◌, length, ap, ◌∙◌, arith, vec_items}
-use Rattle.sqlx_member.specs.ReturnSteps.{give_marks}
+use Rattle.std.proofs.Common.{ℕ, ◌++◌, length, ap, ◌∙◌, arith}
+use Rattle.sqlx_pool_core.specs.ReturnSteps.{give_marks}
+use Rattle.sqlx_pool_log.specs.PackedLog.{marks_of}
 use Rattle.sqlx_family_steps.proofs.returning.give.Goals as goal
 
 pub give-requires : goal.give-requires
@@ -10,4 +11,4 @@ give-requires g c =
     omega (arith, r, b, e)
 
 pub returns-clause-marks : goal.returns-clause-marks
-returns-clause-marks g c = c.give.ensures.marks ∙ ap (λ (n : ℕ). vec_items c.args.log.now ++ give_marks c.args.lent.id n c.give-given.result) c.moment-moment.ensures
+returns-clause-marks g c = c.give.ensures.marks ∙ ap (λ (n : ℕ). marks_of c.args.log.now ++ give_marks c.args.lent.id n c.give-given.result) c.moment-moment.ensures

@@ -1,7 +1,8 @@
-use Rattle.std.proofs.Common.{◌++◌, length, refl, ap, ◌∙◌, arith, vec_items}
-use Rattle.sqlx_log.specs.declared.mark.Mark.TheVariants.{Leaked}
-use Rattle.sqlx_member.specs.ReturnSteps.{leak_marks}
+use Rattle.std.proofs.Common.{◌++◌, length, refl, ap, ◌∙◌, arith}
+use Rattle.sqlx_pool_marks.specs.declared.mark.Mark.TheVariants.{Leaked}
+use Rattle.sqlx_pool_core.specs.ReturnSteps.{leak_marks}
 use Rattle.sqlx_family_steps.proofs.MarkLemmas.{so-made, so-long}
+use Rattle.sqlx_pool_log.specs.PackedLog.{marks_of}
 use Rattle.sqlx_family_steps.proofs.returning.leak.Goals as goal
 
 pub if_so-requires : goal.if_so-requires
@@ -13,4 +14,4 @@ if_so-requires g c =
     omega (arith, r, b, e, o)
 
 pub returns-clause-marks : goal.returns-clause-marks
-returns-clause-marks g c = c.if_so.ensures.marks ∙ ap (λ l. vec_items c.args.log.now ++ l) (so-made (leak_marks c.args.id) (Leaked c.args.id) refl refl c.leak-ends.result)
+returns-clause-marks g c = c.if_so.ensures.marks ∙ ap (λ l. marks_of c.args.log.now ++ l) (so-made (leak_marks c.args.id) (Leaked c.args.id) refl refl c.leak-ends.result)

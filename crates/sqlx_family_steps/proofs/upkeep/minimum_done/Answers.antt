@@ -1,8 +1,9 @@
-use Rattle.std.proofs.Common.{◌++◌, not, ◌&&◌, is_some, length, ap, ◌∙◌, arith, vec_items}
-use Rattle.sqlx_member.specs.Logs.{moment_of}
+use Rattle.std.proofs.Common.{◌++◌, not, ◌&&◌, is_some, length, ap, ◌∙◌, arith}
+use Rattle.sqlx_pool_core.specs.Logs.{moment_of}
 use Rattle.sqlx_family.specs.Pools.{pool_in}
 use Rattle.sqlx_pool_parts.proofs.MarkLemmas.{done-made}
 use Rattle.sqlx_family_steps.proofs.MarkLemmas.{opened-long}
+use Rattle.sqlx_pool_log.specs.PackedLog.{marks_of}
 use Rattle.sqlx_family_steps.proofs.upkeep.minimum_done.Goals as goal
 
 pub open_if-requires : goal.open_if-requires
@@ -21,4 +22,4 @@ returns-clause-marks g c =
     let core = pool_in c.args.pool c.args.family.now in
     let opens = c.opens-opens.ensures ∙ ap (λ b. not b && is_some c.args.raw) c.is_closed.ensures in
     let conn = ap (λ n. n.next_conn) c.numbers-conn.ensures in
-    c.open_if.ensures.marks ∙ ap (λ l. vec_items c.args.log.now ++ l) (done-made core.closed c.args.raw c.opens-opens.result opens _ core.next_conn conn _ (moment_of core c.args.now) c.moment-moment.ensures)
+    c.open_if.ensures.marks ∙ ap (λ l. marks_of c.args.log.now ++ l) (done-made core.closed c.args.raw c.opens-opens.result opens _ core.next_conn conn _ (moment_of core c.args.now) c.moment-moment.ensures)

@@ -1,5 +1,5 @@
-use Rattle.sqlx_member.proofs.CheckEnds.{tests-judged}
-use Rattle.sqlx_member.proofs.CheckKeeps.{tests-more}
+use Rattle.sqlx_pool_core.proofs.CheckEnds.{tests-judged}
+use Rattle.sqlx_pool_core.proofs.CheckKeeps.{tests-more}
 use Rattle.sqlx_pool_parts.proofs.checks.tested.Goals as goal
 
 pub returns-clause-judged : goal.returns-clause-judged

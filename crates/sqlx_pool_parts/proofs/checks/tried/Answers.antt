@@ -1,5 +1,5 @@
-use Rattle.sqlx_member.proofs.CheckEnds.{tries-cause, tries-rest}
-use Rattle.sqlx_member.proofs.CheckKeeps.{tries-more}
+use Rattle.sqlx_pool_core.proofs.CheckEnds.{tries-cause, tries-rest}
+use Rattle.sqlx_pool_core.proofs.CheckKeeps.{tries-more}
 use Rattle.sqlx_pool_parts.proofs.CheckLemmas.{unopened-why}
 use Rattle.sqlx_pool_parts.proofs.checks.tried.Goals as goal
 

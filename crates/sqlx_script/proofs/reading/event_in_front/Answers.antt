@@ -1,5 +1,5 @@
 use Rattle.std.proofs.Common.{refl}
-use Rattle.sqlx_script.specs.Words.{words_in_front}
+use Rattle.sqlx_lines.specs.Words.{words_in_front}
 use Rattle.sqlx_script.proofs.NamedLines.{no_event}
 use Rattle.sqlx_script.proofs.reading.event_in_front.Goals as goal
 

@@ -1,8 +1,9 @@
 use Rattle.std.proofs.Common.{sym, refl}
-use Rattle.sqlx_script.specs.Words.{behind_line, words_in_front}
+use Rattle.sqlx_lines.specs.Words.{behind_line, words_in_front}
 use Rattle.sqlx_script.specs.Grammar.{event_words, event_of}
-use Rattle.sqlx_script.proofs.FirstLines.{whole_first, none_first}
-use Rattle.sqlx_script.proofs.ToldLines.{told_few, told_shorter}
+use Rattle.sqlx_lines.proofs.FirstLines.{whole_first, none_first}
+use Rattle.sqlx_script.proofs.ToldLines.{told_few}
+use Rattle.sqlx_lines.proofs.ToldLines.{told_shorter}
 use Rattle.sqlx_script.proofs.reading.read_event.Goals as goal
 
 pub returns-then-has_newline-clause-says : goal.returns-then-has_newline-clause-says

@@ -1,7 +1,7 @@
 use Rattle.std.proofs.Common.{sym, refl}
 use Rattle.sqlx_script.specs.Grammar.{pool_words, pool_of}
-use Rattle.sqlx_script.proofs.FirstLines.{whole_first, none_first}
-use Rattle.sqlx_script.proofs.ToldLines.{told_shorter}
+use Rattle.sqlx_lines.proofs.FirstLines.{whole_first, none_first}
+use Rattle.sqlx_lines.proofs.ToldLines.{told_shorter}
 use Rattle.sqlx_script.proofs.reading.read_pool_line.Goals as goal
 
 pub returns-then-has_newline-clause-says : goal.returns-then-has_newline-clause-says

@@ -9,3 +9,7 @@ ghosts-family-L-Ledger g a = record { name = a.loans.name; parts = a.loans.parts
 
 abbrev pub ghosts-family-L-Loans : goal.ghosts-family-L-Loans
 ghosts-family-L-Loans g a = record { max = 3; cuts = false }
+
+-- no history stands beside a family
+abbrev pub ghosts-family-L-Naming : goal.ghosts-family-L-Naming
+ghosts-family-L-Naming g a = record { book = record { number = 0; log_name = 0; cells_name = 0 } }

@@ -9,3 +9,7 @@ ghosts-woken-L-Ledger g a = record { name = a.loans.name; parts = a.loans.parts 
 
 abbrev pub ghosts-woken-L-Loans : goal.ghosts-woken-L-Loans
 ghosts-woken-L-Loans g a = record { max = 1; cuts = false }
+
+-- no history stands beside a family
+abbrev pub ghosts-woken-L-Naming : goal.ghosts-woken-L-Naming
+ghosts-woken-L-Naming g a = record { book = record { number = 0; log_name = 0; cells_name = 0 } }

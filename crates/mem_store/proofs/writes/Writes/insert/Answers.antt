@@ -2,7 +2,7 @@ use Rattle.std.proofs.Common.{◌∙◌, refl, sym, arith, Some, nat_eq, to_z-of
 use Rattle.std.specs.HashMap.{get}
 use Rattle.std.specs.Cmp.{int_cmp_total}
 use Rattle.std.specs.FinMap.{get-from_entries}
-use Rattle.sqlx_numbered.proofs.Places.{noted-changed}
+use Rattle.sqlx_pool_places.proofs.Places.{noted-changed}
 use Rattle.mem_store.specs.OwnWrites.{number_of, StandsAt}
 use Rattle.mem_store.proofs.OnceEach.{get-at, not-gap, read-at, same-value, within-at, written-at, written-once}
 use Rattle.mem_store.proofs.writes.Writes.insert.Goals as goal

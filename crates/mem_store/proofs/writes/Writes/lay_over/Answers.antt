@@ -1,5 +1,5 @@
 use Rattle.std.proofs.Common.{◌∙◌, ap}
-use Rattle.sqlx_numbered.specs.Numbered.{items_at}
+use Rattle.sqlx_pool_places.specs.Numbered.{items_at}
 use Rattle.mem_store.specs.UndoLog.{deletions_done}
 use Rattle.mem_store.proofs.LaidInPlace.{in_place_laid}
 use Rattle.mem_store.proofs.writes.Writes.lay_over.Goals as goal

@@ -2,8 +2,8 @@ use Rattle.std.proofs.Common.{◌≡◌, ◌∙◌, ◌++◌, ◌∷◌, [], ap,
 use Rattle.std.specs.Cmp.{int_cmp_total}
 use Rattle.std.specs.Ordering.{int_cmp}
 use Rattle.std.specs.FinMap.{find, get-from_entries, from_entries, from_entries_push, int_cmp-IsAntisymmetric}
-use Rattle.sqlx_numbered.specs.Numbered.{items_at}
-use Rattle.sqlx_numbered.proofs.Places.{items-push}
+use Rattle.sqlx_pool_places.specs.Numbered.{items_at}
+use Rattle.sqlx_pool_places.proofs.Places.{items-push}
 use Rattle.mem_store.specs.OwnWrites.{number_of, StandOnce}
 use Rattle.mem_store.proofs.OnceEach.{once-pushed}
 use Rattle.mem_store.proofs.writes.Writes.push.Goals as goal

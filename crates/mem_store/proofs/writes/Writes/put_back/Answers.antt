@@ -1,6 +1,6 @@
 use Rattle.std.proofs.Common.{refl, arith, nat_eq, to_z-of_z}
 use Rattle.std.specs.HashMap.{get}
-use Rattle.sqlx_numbered.proofs.Places.{noted-changed, noted-gap}
+use Rattle.sqlx_pool_places.proofs.Places.{noted-changed, noted-gap}
 use Rattle.mem_store.specs.OwnWrites.{number_of, StandsAt}
 use Rattle.mem_store.proofs.OnceEach.{back-at, gone-from, gone-once, map-unfound, within-at, written-once}
 use Rattle.mem_store.proofs.writes.Writes.put_back.Goals as goal

@@ -20,7 +20,7 @@ pub returns-in-Err-clause-steps : goal.returns-in-Err-clause-steps
 returns-in-Err-clause-steps c = (
   inr (
     c.in-Err.error,
-    subst (λ text. RefusesItems text (all_taken c.args.arguments) c.args.self.now c.in-Err.error c.run-given.new.self.base) c.as_str.ensures c.in-Err.ensures.refused,
+    subst (λ text. RefusesItems text (all_taken c.args.arguments) c.args.self.now c.in-Err.error c.run-given.new.self) c.as_str.ensures c.in-Err.ensures.refused,
     c.refused.ensures,
   ),
   c.in-Err.ensures.depth,

@@ -1,5 +1,4 @@
-use Rattle.std.proofs.Common.{rules, ap, sym, subst}
-use Rattle.sqlite_driver.specs.Does.{RefusesText}
+use Rattle.std.proofs.Common.{rules}
 use Rattle.sqlite_driver.proofs.TextLemmas.{ran_as}
 use Rattle.sqlite_driver.proofs.connection.SqliteConnection.end_level.Goals as goal
 
@@ -9,8 +8,7 @@ returns-in-Ok-clause-ends c = λ due is.
     search rules
 
 pub returns-in-Err-clause-ends : goal.returns-in-Err-clause-ends
-returns-in-Err-clause-ends c = λ due is.
-    (subst (λ base. RefusesText due c.args.self.now c.in-Err.error base) (ap (λ conn. conn.base) (sym c.give_up.ensures.new)) (c.in-Err.ensures.refused due is), c.give_up.ensures.noted)
+returns-in-Err-clause-ends c = λ due is. (c.perform.new.self, c.in-Err.ensures.refused due is, c.perform.ensures.depth, c.give_up.ensures.new)
 
 pub returns-in-Err-clause-levels : goal.returns-in-Err-clause-levels
 returns-in-Err-clause-levels c = search rules

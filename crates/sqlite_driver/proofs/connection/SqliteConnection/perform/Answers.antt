@@ -7,4 +7,4 @@ returns-in-Ok-text-clause-ran c =
     rw c.in-Ok-text.is ran
 
 pub returns-in-Ok-text-clause-refused : goal.returns-in-Ok-text-clause-refused
-returns-in-Ok-text-clause-refused c = refused_settled c.hand_on.result c.args.text c.in-Ok-text.text c.args.self.now c.settle.new.self c.hand_on.new.self c.in-Ok-text.is c.in-Ok.ensures.pings c.hand_on.ensures.refused
+returns-in-Ok-text-clause-refused c = refused_settled c.hand_on.result c.args.text c.in-Ok-text.text c.args.self.now c.settle.new.self c.hand_on.new.self c.in-Ok-text.is c.in-Ok.ensures.pings c.in-Ok.ensures.rises c.hand_on.ensures.refused c.hand_on.ensures.noted c.hand_on.ensures.risen

@@ -1,6 +1,6 @@
 use Rattle.std.proofs.Common.{◌<◌, length}
 use Rattle.sqlx_pool_lists.specs.Core.{Core}
-use Rattle.sqlx_member.specs.ReturnSteps.{give_marks}
+use Rattle.sqlx_pool_core.specs.ReturnSteps.{give_marks}
 use Rattle.sqlx_family.proofs.FamilyLemmas.{family-steps}
 use Rattle.sqlx_family.proofs.LogLemmas.{logs-stepped}
 use Rattle.sqlx_family.proofs.BalanceLemmas.{balance-stepped}

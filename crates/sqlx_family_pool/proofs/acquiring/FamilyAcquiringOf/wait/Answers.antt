@@ -1,5 +1,5 @@
-use Rattle.sqlx_pool_base.proofs.RefusalLemmas.{refusal_sooner}
-use Rattle.sqlx_pool_base.proofs.TallyLemmas.{kept_since, lent_since, rose_twice}
+use Rattle.sqlx_pool.proofs.RefusalLemmas.{refusal_sooner}
+use Rattle.sqlx_pool.proofs.TallyLemmas.{kept_since, lent_since, rose_twice}
 use Rattle.sqlx_family_pool.proofs.acquiring.FamilyAcquiringOf.wait.Goals as goal
 
 pub returns-in-Ready-clause-lent : goal.returns-in-Ready-clause-lent

@@ -1,9 +1,9 @@
 use Rattle.std.proofs.Common.{◌<◌, length, inl, arith}
 use Rattle.sqlx_family.specs.Pools.{pool_in}
 use Rattle.sqlx_family_pool.proofs.StepLemmas.{in-logs, room-there, logs-grow, written}
-use Rattle.sqlx_member.specs.ReturnSteps.{detach_marks}
-use Rattle.sqlx_pool_base.proofs.LeavesLemmas.{released-leaves}
-use Rattle.sqlx_pool_base.proofs.StepLemmas.{detach-lends}
+use Rattle.sqlx_pool_core.specs.ReturnSteps.{detach_marks}
+use Rattle.sqlx_pool.proofs.LeavesLemmas.{released-leaves}
+use Rattle.sqlx_pool.proofs.StepLemmas.{detach-lends}
 use Rattle.sqlx_family_pool.proofs.Replaces.{replaces-step}
 use Rattle.sqlx_family_pool.proofs.locked.LockedFamily.detach.Goals as goal
 

@@ -1,13 +1,13 @@
 use Rattle.std.proofs.Common.{◌<◌, length, ap, ◌∙◌, inl, arith}
 use Rattle.sqlx_family.specs.Pools.{pool_in}
 use Rattle.sqlx_family_pool.proofs.StepLemmas.{in-logs, room-there, logs-grow, written, few-held}
-use Rattle.sqlx_member.specs.Logs.{moment_of}
+use Rattle.sqlx_pool_core.specs.Logs.{moment_of}
 use Rattle.sqlx_pool_lists.specs.PollSteps.{connect_marks}
 use Rattle.sqlx_pool_lists.specs.Core.{ticket_of}
 use Rattle.sqlx_pool_parts.specs.Answers.{is_ended}
 use Rattle.sqlx_pool_lists.specs.Balance.{one_if}
-use Rattle.sqlx_pool_base.proofs.LeavesLemmas.{connect-leaves}
-use Rattle.sqlx_pool_base.proofs.StepLemmas.{connect-lends, connect-few, calm-answer}
+use Rattle.sqlx_pool.proofs.LeavesLemmas.{connect-leaves}
+use Rattle.sqlx_pool.proofs.StepLemmas.{connect-lends, connect-few, calm-answer}
 use Rattle.sqlx_family_pool.proofs.Replaces.{replaces-step}
 use Rattle.sqlx_family_pool.proofs.locked.LockedFamily.finish_connect.Goals as goal
 

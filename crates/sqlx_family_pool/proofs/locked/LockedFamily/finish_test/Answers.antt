@@ -5,8 +5,8 @@ use Rattle.sqlx_pool_lists.specs.PollSteps.{judged, test_marks, tested_at, may_t
 use Rattle.sqlx_pool_lists.specs.declared.steps.AfterTest.{AfterTest}
 use Rattle.sqlx_pool_parts.specs.Answers.{IfTestLends}
 use Rattle.sqlx_pool_lists.specs.Balance.{one_if}
-use Rattle.sqlx_pool_base.proofs.LeavesLemmas.{test-leaves}
-use Rattle.sqlx_pool_base.proofs.StepLemmas.{test-lends, test-few}
+use Rattle.sqlx_pool.proofs.LeavesLemmas.{test-leaves}
+use Rattle.sqlx_pool.proofs.StepLemmas.{test-lends, test-few}
 use Rattle.sqlx_family_pool.proofs.Replaces.{replaces-step}
 use Rattle.sqlx_family_pool.proofs.locked.LockedFamily.finish_test.Goals as goal
 

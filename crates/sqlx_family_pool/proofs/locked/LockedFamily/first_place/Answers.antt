@@ -1,8 +1,9 @@
-use Rattle.std.proofs.Common.{◌<◌, [], List, length, append-nil, refl, ap, ◌∙◌, sym, arith, vec_items}
-use Rattle.sqlx_log.specs.declared.mark.Mark.{Mark}
+use Rattle.std.proofs.Common.{◌<◌, [], List, length, append-nil, refl, ap, ◌∙◌, sym, arith}
+use Rattle.sqlx_pool_marks.specs.declared.mark.Mark.{Mark}
+use Rattle.sqlx_pool_log.specs.PackedLog.{marks_of}
 use Rattle.sqlx_family.specs.Pools.{pool_in}
-use Rattle.sqlx_pool_base.proofs.LeavesLemmas.{placed-leaves}
-use Rattle.sqlx_pool_base.proofs.StepLemmas.{kept-books}
+use Rattle.sqlx_pool.proofs.LeavesLemmas.{placed-leaves}
+use Rattle.sqlx_pool.proofs.StepLemmas.{kept-books}
 use Rattle.sqlx_family_pool.specs.FamilyState.{family_state}
 use Rattle.sqlx_family_pool.proofs.Replaces.{replaces-put}
 use Rattle.sqlx_family_pool.proofs.StepLemmas.{in-logs, room-there, written, place-few}
@@ -27,7 +28,7 @@ invariant_of-self-2 g c =
     written c.self.inside.logs.items c.self.invariant c.args.pool here c.index_mut.result.now c.index_mut.ensures.value
     (replaces-put c.args.pool c.self.inside.family here c.first_place.ensures.becomes) c.first_place.ensures.makes c.first_place.ensures.balance
     (placed-leaves g.C.Depth.levels c.first_place.result (pool_in c.args.pool c.self.inside.family))
-    c.self.inside.connect (kept-books c.self.inside.books [] refl) c.reserve.new.log (c.reserve.ensures.marks ∙ sym (append-nil (vec_items c.index_mut.result.now)))
+    c.self.inside.connect (kept-books c.self.inside.books [] refl) c.reserve.new.log (c.reserve.ensures.marks ∙ sym (append-nil (marks_of c.index_mut.result.now)))
     (omega (arith, room, few))
 
 pub returns-then-not-reserve-clause-logs : goal.returns-then-not-reserve-clause-logs

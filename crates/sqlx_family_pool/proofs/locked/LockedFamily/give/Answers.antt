@@ -1,13 +1,13 @@
 use Rattle.std.proofs.Common.{◌<◌, length, ap, ◌∙◌, inl, arith}
 use Rattle.sqlx_family.specs.Pools.{pool_in}
 use Rattle.sqlx_family_pool.proofs.StepLemmas.{in-logs, room-there, logs-grow, written}
-use Rattle.sqlx_member.specs.Logs.{moment_of}
-use Rattle.sqlx_member.specs.ReturnSteps.{give_marks}
+use Rattle.sqlx_pool_core.specs.Logs.{moment_of}
+use Rattle.sqlx_pool_core.specs.ReturnSteps.{give_marks}
 use Rattle.sqlx_pool_lists.specs.Core.{loan_of}
-use Rattle.sqlx_member.specs.Answers.{is_kept}
+use Rattle.sqlx_pool_core.specs.Answers.{is_kept}
 use Rattle.sqlx_pool_lists.specs.Balance.{one_if}
-use Rattle.sqlx_pool_base.proofs.LeavesLemmas.{give-leaves}
-use Rattle.sqlx_pool_base.proofs.StepLemmas.{give-lends, given-back, refused-give}
+use Rattle.sqlx_pool.proofs.LeavesLemmas.{give-leaves}
+use Rattle.sqlx_pool.proofs.StepLemmas.{give-lends, given-back, refused-give}
 use Rattle.sqlx_family_pool.proofs.Replaces.{replaces-step}
 use Rattle.sqlx_family_pool.proofs.locked.LockedFamily.give.Goals as goal
 

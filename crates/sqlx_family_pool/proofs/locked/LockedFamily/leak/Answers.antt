@@ -1,9 +1,9 @@
 use Rattle.std.proofs.Common.{◌<◌, length, inl, arith}
 use Rattle.sqlx_family.specs.Pools.{pool_in}
 use Rattle.sqlx_family_pool.proofs.StepLemmas.{in-logs, room-there, logs-grow, written}
-use Rattle.sqlx_member.specs.ReturnSteps.{leak_marks}
-use Rattle.sqlx_pool_base.proofs.LeavesLemmas.{leaked-leaves}
-use Rattle.sqlx_pool_base.proofs.StepLemmas.{leak-lends}
+use Rattle.sqlx_pool_core.specs.ReturnSteps.{leak_marks}
+use Rattle.sqlx_pool.proofs.LeavesLemmas.{leaked-leaves}
+use Rattle.sqlx_pool.proofs.StepLemmas.{leak-lends}
 use Rattle.sqlx_family_pool.proofs.Replaces.{replaces-put}
 use Rattle.sqlx_family_pool.proofs.locked.LockedFamily.leak.Goals as goal
 

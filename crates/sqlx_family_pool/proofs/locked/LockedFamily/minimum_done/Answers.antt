@@ -1,10 +1,11 @@
-use Rattle.std.proofs.Common.{◌<◌, ◌≤◌, ◌++◌, length, ap, ◌∙◌, sym, arith, vec_items}
-use Rattle.sqlx_member.specs.Logs.{moment_of}
+use Rattle.std.proofs.Common.{◌<◌, ◌≤◌, ◌++◌, length, ap, ◌∙◌, sym, arith}
+use Rattle.sqlx_pool_log.specs.PackedLog.{marks_of}
+use Rattle.sqlx_pool_core.specs.Logs.{moment_of}
 use Rattle.sqlx_pool_lists.specs.MaintenanceSteps.{done_marks}
 use Rattle.sqlx_family.specs.Pools.{pool_in}
-use Rattle.sqlx_pool_base.specs.Places.{holds_place, done_if_marks}
-use Rattle.sqlx_pool_base.proofs.LeavesLemmas.{done-leaves}
-use Rattle.sqlx_pool_base.proofs.StepLemmas.{kept-books, done-lends}
+use Rattle.sqlx_pool.specs.Places.{holds_place, done_if_marks}
+use Rattle.sqlx_pool.proofs.LeavesLemmas.{done-leaves}
+use Rattle.sqlx_pool.proofs.StepLemmas.{kept-books, done-lends}
 use Rattle.sqlx_family_pool.proofs.Replaces.{replaces-step}
 use Rattle.sqlx_family_pool.proofs.StepLemmas.{in-logs, room-there, logs-grow, written, held-marks}
 use Rattle.sqlx_family_pool.proofs.locked.LockedFamily.minimum_done.Goals as goal
@@ -35,4 +36,4 @@ returns-clause-marks g c =
     let some : 1 ≤ core.places = grind arith in
     rw (← c.self.view_is)
     (λ named. logs-grow c.self.inside.logs.items c.args.pool c.index_mut-log.result.now (in-logs c.self.inside.logs.items c.self.invariant c.args.pool here c.index_mut-log.result.now c.index_mut-log.ensures.value) c.index_mut-log.ensures.value c.minimum_done.new.log (done_if_marks (holds_place core) core.closed core.next_conn moment c.args.raw)
-    (c.minimum_done.ensures.marks ∙ ap (λ l. vec_items c.index_mut-log.result.now ++ l) (sym (held-marks core.places some core.closed core.next_conn moment c.args.raw))))
+    (c.minimum_done.ensures.marks ∙ ap (λ l. marks_of c.index_mut-log.result.now ++ l) (sym (held-marks core.places some core.closed core.next_conn moment c.args.raw))))

@@ -5,6 +5,6 @@ use Rattle.sqlx_family_pool.proofs.locked.LockedFamily.new.Goals as goal
 pub invariant_of-locked : goal.invariant_of-locked
 invariant_of-locked g c =
     let due = c.due.ensures in
-    let capacity = c.in-Ok-with_capacity.ensures.capacity in
+    let capacity = c.in-Ok-with_capacity.ensures.room in
     begun g.C.Depth.levels g.L.Loans.max c.args.connect c.new-books.result.0 c.in_ok-family.family c.args.options c.in_ok-family.ensures c.requires.max c.new-books.ensures.books
     c.push_reserved.new.self.items c.in-Ok-with_capacity.log (c.push_reserved.ensures.items ∙ ap (λ l. l ++ c.in-Ok-with_capacity.log ∷ []) c.in-Ok.ensures.items) c.in-Ok-with_capacity.ensures.items (omega (arith, due, capacity))

@@ -1,10 +1,10 @@
 use Rattle.std.proofs.Common.{◌<◌, length, arith}
 use Rattle.sqlx_family.specs.Pools.{pool_in}
 use Rattle.sqlx_family_pool.proofs.StepLemmas.{in-logs, room-there, logs-grow, written}
-use Rattle.sqlx_member.specs.Logs.{moment_of}
+use Rattle.sqlx_pool_core.specs.Logs.{moment_of}
 use Rattle.sqlx_pool_lists.specs.MaintenanceSteps.{reap_marks}
-use Rattle.sqlx_pool_base.proofs.LeavesLemmas.{reaped-leaves}
-use Rattle.sqlx_pool_base.proofs.StepLemmas.{kept-books, reap-lends}
+use Rattle.sqlx_pool.proofs.LeavesLemmas.{reaped-leaves}
+use Rattle.sqlx_pool.proofs.StepLemmas.{kept-books, reap-lends}
 use Rattle.sqlx_family_pool.proofs.Replaces.{replaces-put}
 use Rattle.sqlx_family_pool.proofs.locked.LockedFamily.reap.Goals as goal
 

@@ -2,8 +2,8 @@ use Rattle.std.proofs.Common.{◌<◌, length, arith}
 use Rattle.sqlx_family.specs.Pools.{pool_in}
 use Rattle.sqlx_family_pool.proofs.StepLemmas.{in-logs, room-there, logs-grow, written}
 use Rattle.sqlx_pool_lists.specs.MaintenanceSteps.{close_marks}
-use Rattle.sqlx_pool_base.proofs.LeavesLemmas.{closed-leaves}
-use Rattle.sqlx_pool_base.proofs.StepLemmas.{kept-books, close-lends}
+use Rattle.sqlx_pool.proofs.LeavesLemmas.{closed-leaves}
+use Rattle.sqlx_pool.proofs.StepLemmas.{kept-books, close-lends}
 use Rattle.sqlx_family_pool.proofs.Replaces.{replaces-retire}
 use Rattle.sqlx_family_pool.proofs.locked.LockedFamily.retire.Goals as goal
 

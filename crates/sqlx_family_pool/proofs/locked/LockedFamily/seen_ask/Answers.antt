@@ -1,5 +1,5 @@
 use Rattle.std.proofs.lemmas.Result.{IfOk-weaker}
-use Rattle.sqlx_pool_base.proofs.SeenLemmas.{ask-refused}
+use Rattle.sqlx_pool.proofs.SeenLemmas.{ask-refused}
 use Rattle.sqlx_family_pool.proofs.SeenLemmas.{saw-here}
 use Rattle.sqlx_family_pool.proofs.locked.LockedFamily.seen_ask.Goals as goal
 

@@ -1,7 +1,7 @@
 use Rattle.std.proofs.Common.{◌∙◌, inl, inr, is_some, length, sym, ap}
 use Rattle.std.proofs.lemmas.Result.{IfOk-weaker}
 use Rattle.std.proofs.lemmas.Bool.Decides.{leb_tells}
-use Rattle.sqlx_pool_base.proofs.SeenLemmas.{some-alone, try-refused}
+use Rattle.sqlx_pool.proofs.SeenLemmas.{some-alone, try-refused}
 use Rattle.sqlx_family_pool.proofs.SeenLemmas.{named-ok, not-refused, saw-here}
 use Rattle.sqlx_family_pool.proofs.locked.LockedFamily.seen_try.Goals as goal
 

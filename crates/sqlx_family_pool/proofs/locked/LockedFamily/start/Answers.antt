@@ -1,9 +1,9 @@
 use Rattle.std.proofs.Common.{◌<◌, length, arith}
 use Rattle.sqlx_family.specs.Pools.{pool_in}
 use Rattle.sqlx_family_pool.proofs.StepLemmas.{in-logs, room-there, logs-grow, written}
-use Rattle.sqlx_member.specs.Logs.{moment_of}
+use Rattle.sqlx_pool_core.specs.Logs.{moment_of}
 use Rattle.sqlx_pool_lists.specs.PollSteps.{phase_for, start_marks}
-use Rattle.sqlx_pool_base.proofs.StepLemmas.{start-lends, kept-books}
+use Rattle.sqlx_pool.proofs.StepLemmas.{start-lends, kept-books}
 use Rattle.sqlx_family_pool.proofs.Replaces.{replaces-poll, poll-leaves}
 use Rattle.sqlx_family_pool.proofs.locked.LockedFamily.start.Goals as goal
 

@@ -1,10 +1,11 @@
-use Rattle.std.proofs.Common.{◌<◌, List, Some, inr, length, append-nil, refl, sym, ap, ◌∙◌, arith, vec_items}
-use Rattle.sqlx_log.specs.declared.mark.Mark.{Mark}
-use Rattle.sqlx_member.specs.Logs.{moment_of}
+use Rattle.std.proofs.Common.{◌<◌, List, Some, inr, length, append-nil, refl, sym, ap, ◌∙◌, arith}
+use Rattle.sqlx_pool_marks.specs.declared.mark.Mark.{Mark}
+use Rattle.sqlx_pool_log.specs.PackedLog.{marks_of}
+use Rattle.sqlx_pool_core.specs.Logs.{moment_of}
 use Rattle.sqlx_pool_lists.specs.PollSteps.{try_marks}
 use Rattle.sqlx_family.specs.Pools.{pool_in}
 use Rattle.sqlx_family.specs.RootLine.{passes_in}
-use Rattle.sqlx_pool_base.proofs.LeavesLemmas.{try-leaves, try-flat}
+use Rattle.sqlx_pool.proofs.LeavesLemmas.{try-leaves, try-flat}
 use Rattle.sqlx_family_pool.specs.FamilyState.{family_state}
 use Rattle.sqlx_family_pool.proofs.Replaces.{replaces-put}
 use Rattle.sqlx_family_pool.proofs.StepLemmas.{in-logs, room-there, logs-grow, written, few-held}
@@ -34,7 +35,7 @@ pub invariant_of-self-in-None : goal.invariant_of-self-in-None
 invariant_of-self-in-None g c =
     let here : c.args.pool < length c.self.inside.family.pools = grind arith in
     rw (c.in-None.ensures.none refl)
-    (reserved c.self.inside.logs.items c.self.invariant c.args.pool c.index_mut-log.result.now c.lend_past.new.log (in-logs c.self.inside.logs.items c.self.invariant c.args.pool here c.index_mut-log.result.now c.index_mut-log.ensures.value) c.index_mut-log.ensures.value (c.in-None.ensures.marks ∙ append-nil (vec_items c.index_mut-log.result.now)) c.lend_past.ensures.capacity)
+    (reserved c.self.inside.logs.items c.self.invariant c.args.pool c.index_mut-log.result.now c.lend_past.new.log (in-logs c.self.inside.logs.items c.self.invariant c.args.pool here c.index_mut-log.result.now c.index_mut-log.ensures.value) c.index_mut-log.ensures.value (c.in-None.ensures.marks ∙ append-nil (marks_of c.index_mut-log.result.now)) c.lend_past.ensures.capacity)
 
 pub returns-in-Some-clause-flat : goal.returns-in-Some-clause-flat
 returns-in-Some-clause-flat g c =
@@ -55,6 +56,6 @@ pub returns-in-None-clause-err : goal.returns-in-None-clause-err
 returns-in-None-clause-err g c = (
   rw (← c.self.view_is)
       (rw (c.in-None.ensures.none refl)
-      (ap (λ (l : List (List Mark)). family_state c.self.inside.family l c.self.inside.connect c.self.inside.books) (reserved-same c.self.inside.logs.items c.args.pool c.index_mut-log.result.now c.lend_past.new.log c.index_mut-log.ensures.value (c.in-None.ensures.marks ∙ append-nil (vec_items c.index_mut-log.result.now))))),
+      (ap (λ (l : List (List Mark)). family_state c.self.inside.family l c.self.inside.connect c.self.inside.books) (reserved-same c.self.inside.logs.items c.args.pool c.index_mut-log.result.now c.lend_past.new.log c.index_mut-log.ensures.value (c.in-None.ensures.marks ∙ append-nil (marks_of c.index_mut-log.result.now))))),
   refl,
 )

@@ -1,4 +1,4 @@
-use Rattle.sqlx_pool_base.proofs.EndLemmas.{connect_first, ended_by_rules, ended_for_good}
+use Rattle.sqlx_pool.proofs.EndLemmas.{connect_first, ended_by_rules, ended_for_good}
 use Rattle.sqlx_family_pool.proofs.pool.FamilyPoolOf.open_wanted.Goals as goal
 
 pub returns-in-Opened-clause-loans : goal.returns-in-Opened-clause-loans

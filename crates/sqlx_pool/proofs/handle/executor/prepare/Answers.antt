@@ -1,6 +1,6 @@
 use Rattle.std.proofs.Common.{Err, inl, inr, ap}
 use Rattle.sqlx_pool.proofs.HandleLemmas.{errs_counted, told_fault}
-use Rattle.sqlx_pool_base.proofs.TallyLemmas.{lent_back, risen_same}
+use Rattle.sqlx_pool.proofs.TallyLemmas.{lent_back, risen_same}
 use Rattle.sqlx_pool.proofs.handle.executor.prepare.Goals as goal
 
 pub returns-in-Ok-clause-ran : goal.returns-in-Ok-clause-ran

@@ -2,24 +2,24 @@ use Rattle.std.proofs.Common.{◌≡◌, ◌<◌, length, refl, sym, ap, ◌∙�
 use Rattle.sqlx_pool_lists.specs.declared.steps.AfterTest.TheVariants as tested
 use Rattle.sqlx_pool_lists.specs.Core.{Core}
 use Rattle.sqlx_pool_lists.specs.PollSteps.{phase_for, tested_at}
-use Rattle.sqlx_member.proofs.Fair.{makes-nothing}
-use Rattle.sqlx_member.proofs.CheckEnds.{tests-judged}
+use Rattle.sqlx_pool_core.proofs.Fair.{makes-nothing}
+use Rattle.sqlx_pool_core.proofs.CheckEnds.{tests-judged}
 use Rattle.sqlx_pool_core.proofs.Polling.{untested-connects, next-found, fewer-idle, tested-goes}
 use Rattle.sqlx_pool_core.proofs.pool_core.PoolCore.+test_taken.Goals as goal
 
 pub test_ended-requires-clause-tested : goal.test_ended-requires-clause-tested
 test_ended-requires-clause-tested g t c =
-    ap (λ n. tested_at n (phase_for c.args.client c.args.ticket c.args.self.now.tickets)) (tests-judged g.X.Outside.does g.X.Outside.depth _ _ c.args.idle c.test-verdict.result _ _ c.test-verdict.ensures)
+    ap (λ n. tested_at n (phase_for c.args.client c.args.ticket c.args.self.now.pool.tickets)) (tests-judged g.X.Outside.does g.X.Outside.depth _ _ c.args.idle c.test-verdict.result _ _ c.test-verdict.ensures)
     ∙ c.requires.tested
 
 pub connect-requires-clause-connecting : goal.connect-requires-clause-connecting
 connect-requires-clause-connecting g t c =
-    untested-connects c.args.self.now c.test_ended.new.self c.args.client c.args.ticket c.args.idle.lent.id c.args.idle.lent.created c.requires.tested c.in-Connect.ensures.becomes
+    untested-connects c.args.self.now.pool c.test_ended.new.self.pool c.args.client c.args.ticket c.args.idle.lent.id c.args.idle.lent.created c.requires.tested c.in-Connect.ensures.becomes
 
 pub test_taken-requires : goal.test_taken-requires
 test_taken-requires g t c =
-    let core = c.args.self.now in
-    let new = c.test_ended.new.self in
+    let core = c.args.self.now.pool in
+    let new = c.test_ended.new.self.pool in
     let is = c.in-Test.ensures.becomes in
     let smaller : length new.idle < length core.idle =
     fewer-idle core c.args.idle.lent.created _ c.test-verdict.result c.in-Test.next c.in-Test.ensures.answer new c.args.client c.args.ticket is in
@@ -31,16 +31,16 @@ test_taken-requires g t c =
 
 pub returns-in-Ready : goal.returns-in-Ready
 returns-in-Ready g t c =
-    tested-goes g.X.Outside.does g.X.Outside.depth c.args.options.now c.args.client c.args.ticket c.args.moment.0 c.args.idle c.args.self.now c.test_ended.new.self c.test_ended.new.self c.args.out.now c.test-verdict.new.out c.test-verdict.new.out _ c.test-verdict.result (tested.Ready c.in-Ready.lent) _
+    tested-goes g.X.Outside.does g.X.Outside.depth c.args.options.now c.args.client c.args.ticket c.args.moment.0 c.args.idle c.args.self.now.pool c.test_ended.new.self.pool c.test_ended.new.self.pool c.args.out.now c.test-verdict.new.out c.test-verdict.new.out _ c.test-verdict.result (tested.Ready c.in-Ready.lent) _
     c.options.ensures c.test-verdict.ensures c.in-Ready.ensures.answer c.in-Ready.ensures.becomes (ap (λ (n : Core _). n.options) c.in-Ready.ensures.becomes) c.in-Ready.ensures.makes
-    (record { verdicts = []; made = []; goes = (refl, refl, refl, refl); makes = λ marks s. makes-nothing c.test_ended.new.self.options.max_connections marks c.test_ended.new.self s })
+    (record { verdicts = []; made = []; goes = (refl, refl, refl, refl); makes = λ marks s. makes-nothing c.test_ended.new.self.pool.options.max_connections marks c.test_ended.new.self.pool s })
 
 pub returns-in-Test : goal.returns-in-Test
 returns-in-Test g t c =
-    tested-goes g.X.Outside.does g.X.Outside.depth c.args.options.now c.args.client c.args.ticket c.args.moment.0 c.args.idle c.args.self.now c.test_ended.new.self c.test_taken.new.self c.args.out.now c.test-verdict.new.out c.test_taken.new.out _ c.test-verdict.result (tested.Test c.in-Test.next) _
+    tested-goes g.X.Outside.does g.X.Outside.depth c.args.options.now c.args.client c.args.ticket c.args.moment.0 c.args.idle c.args.self.now.pool c.test_ended.new.self.pool c.test_taken.new.self.pool c.args.out.now c.test-verdict.new.out c.test_taken.new.out _ c.test-verdict.result (tested.Test c.in-Test.next) _
     c.options.ensures c.test-verdict.ensures c.in-Test.ensures.answer c.in-Test.ensures.becomes (ap (λ (n : Core _). n.options) c.in-Test.ensures.becomes) c.in-Test.ensures.makes c.test_taken.ensures
 
 pub returns-in-Connect : goal.returns-in-Connect
 returns-in-Connect g t c =
-    tested-goes g.X.Outside.does g.X.Outside.depth c.args.options.now c.args.client c.args.ticket c.args.moment.0 c.args.idle c.args.self.now c.test_ended.new.self c.connect.new.self c.args.out.now c.test-verdict.new.out c.connect.new.out _ c.test-verdict.result tested.Connect _
+    tested-goes g.X.Outside.does g.X.Outside.depth c.args.options.now c.args.client c.args.ticket c.args.moment.0 c.args.idle c.args.self.now.pool c.test_ended.new.self.pool c.connect.new.self.pool c.args.out.now c.test-verdict.new.out c.connect.new.out _ c.test-verdict.result tested.Connect _
     c.options.ensures c.test-verdict.ensures c.in-Connect.ensures.answer c.in-Connect.ensures.becomes (ap (λ (n : Core _). n.options) c.in-Connect.ensures.becomes) c.in-Connect.ensures.makes c.connect.ensures

@@ -1,13 +1,15 @@
-use Rattle.std.proofs.Common.{ℕ, [], ◌∷◌, Ok, sym, subst, ◌∙◌}
+use Rattle.std.proofs.Common.{ℕ, [], ◌∷◌, Ok, sym, subst, ◌∙◌, arith}
 use Rattle.sqlx_text.specs.declared.Error.{Error}
-use Rattle.sqlx_log.specs.declared.mark.Mark.TheVariants.{Asked}
-use Rattle.sqlx_line.specs.Line.{ComesLast}
+use Rattle.sqlx_pool_marks.specs.declared.mark.Mark.TheVariants.{Asked}
+use Rattle.sqlx_pool_places.specs.Line.{ComesLast}
 use Rattle.sqlx_pool_lists.specs.Sound.{IsSound}
 use Rattle.sqlx_pool_core.specs.KeptLine.{IsNearlyLined}
+use Rattle.sqlx_pool_core.specs.LonePool.{lone_of}
 use Rattle.sqlx_pool_core.proofs.Alone.{ask-alone, ask-moves-alone}
 use Rattle.sqlx_pool_core.proofs.KeptLine.{comes-last}
 use Rattle.sqlx_pool_core.proofs.LineSteps.{taken-back, asked-nearly, lone-back, has-joined}
-use Rattle.sqlx_pool_core.proofs.Looks.{looks-asked, looks-once}
+use Rattle.sqlx_pool_core.proofs.Looks.{looks-asked, looks-nothing}
+use Rattle.sqlx_pool_core.proofs.LonePools.{pool-is, unjoined}
 use Rattle.sqlx_pool_core.proofs.pool_core.PoolCore.ask_counted.Goals as goal
 
 pub join-requires-clause-last : goal.join-requires-clause-last
@@ -22,10 +24,12 @@ invariant_of-self-then-not-join g c =
 
 pub returns-then-not-join-clause-err : goal.returns-then-not-join-clause-err
 returns-then-not-join-clause-err g c =
-    c.unask.ensures ∙ taken-back _ _ _ c.args.client _ _ _ c.sound.ensures c.in-Ok.ensures.numbered c.moment-last.ensures c.in-Ok.ensures.becomes ∙ c.self.view_is
+    let pool = c.unask.ensures ∙ taken-back _ _ _ c.args.client _ _ _ c.sound.ensures c.in-Ok.ensures.numbered c.moment-last.ensures c.in-Ok.ensures.becomes in
+    let line = unjoined c.self.inside.line c.join.new.line c.in-Ok.ticket c.join.result c.join.ensures.becomes c.if-not-join.true in
+    (λ i. lone_of (pool i) (line i)) ∙ c.self.view_is
 
 pub returns-then-not-join-clause-cost : goal.returns-then-not-join-clause-cost
-returns-then-not-join-clause-cost g c = looks-once _ _ _ _ (returns-then-not-join-clause-err g c) c.join.ensures.cost
+returns-then-not-join-clause-cost g c = looks-nothing _ _ _ _ (returns-then-not-join-clause-err g c) (omega (arith, c.join.ensures.cost))
 
 pub serve-requires : goal.serve-requires
 serve-requires g c = record {
@@ -36,13 +40,14 @@ serve-requires g c = record {
 
 pub returns-clause-makes : goal.returns-clause-makes
 returns-clause-makes g c =
-    ask-alone _ _ _ c.self.view_is {E = Error} (λ t d. Asked t c.args.client d ∷ []) c.moment-moment.result.0 c.args.now.0 (Ok c.in-Ok.ticket) c.moment-moment.ensures c.self.invariant.alone c.sound-2.ensures c.in-Ok.ensures.stays c.in-Ok.ensures.draws c.in-Ok.ensures.makes
+    ask-alone _ _ _ (pool-is c.self.view_is) {E = Error} (λ t d. Asked t c.args.client d ∷ []) c.moment-moment.result.0 c.args.now.0 (Ok c.in-Ok.ticket) c.moment-moment.ensures c.self.invariant.alone c.sound-2.ensures c.in-Ok.ensures.stays c.in-Ok.ensures.draws c.in-Ok.ensures.makes
 
 pub returns-clause-balance : goal.returns-clause-balance
 returns-clause-balance g c =
-    ask-moves-alone _ _ _ c.self.view_is {E = Error} (λ t d. Asked t c.args.client d ∷ []) c.moment-moment.result.0 c.args.now.0 (Ok c.in-Ok.ticket) c.moment-moment.ensures c.in-Ok.ensures.balance
+    ask-moves-alone _ _ _ (pool-is c.self.view_is) {E = Error} (λ t d. Asked t c.args.client d ∷ []) c.moment-moment.result.0 c.args.now.0 (Ok c.in-Ok.ticket) c.moment-moment.ensures c.in-Ok.ensures.balance
 
 pub returns-clause-cost : goal.returns-clause-cost
 returns-clause-cost g c =
-    looks-asked _ _ _ _ _ _ c.args.client _ _ _ _ _ c.self.view_is c.self.invariant.lined c.in-Ok.ensures.becomes (has-joined _ _ _ _ c.join.result c.join.ensures.becomes c.if-not-join.false c.in-Ok.ensures.numbered) c.serve.ensures.lined c.join.ensures.cost c.serve.ensures.cost
-    c.serve.ensures.once c.sound.ensures c.serve.ensures.turns
+    looks-asked c.self.inside.pool c.args.self.now c.ask.new.self c.self.inside.line c.join.new.line c.serve.new.line c.args.client _ _ _ _ _ c.self.view_is c.sound.ensures c.self.invariant.lined c.in-Ok.ensures.becomes
+    (has-joined _ _ _ _ c.join.result c.join.ensures.becomes c.if-not-join.false c.in-Ok.ensures.numbered) c.join.ensures.cost
+    (record { cost = c.serve.ensures.cost; once = c.serve.ensures.once; turns = c.serve.ensures.turns; moves = c.serve.ensures.moves; edge = c.serve.ensures.edge; lined = c.serve.ensures.lined; sound = c.serve.ensures.sound })

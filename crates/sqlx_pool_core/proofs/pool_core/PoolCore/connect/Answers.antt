@@ -2,14 +2,14 @@ use Rattle.std.proofs.Common.{Bool, [], sym, ap, ◌∙◌, refl, subst}
 use Rattle.sqlx_pool_lists.specs.declared.options.PoolOptions.{PoolOptions}
 use Rattle.sqlx_pool_lists.specs.declared.steps.AfterConnect.{AfterConnect}
 use Rattle.sqlx_pool_lists.specs.PollSteps.{connect_marks, after_connect}
-use Rattle.sqlx_member.specs.Chain.{Tries}
+use Rattle.sqlx_pool_core.specs.Chain.{Tries}
 use Rattle.sqlx_pool_core.specs.Walk.{last, tells}
 use Rattle.sqlx_pool_core.proofs.Polling.{is-connecting, tells-is, logs-by}
 use Rattle.sqlx_pool_core.proofs.pool_core.PoolCore.connect.Goals as goal
 
 pub returns : goal.returns
 returns g c =
-    let core = c.args.self.now in
+    let core = c.args.self.now.pool in
     let opening = c.try_connect-opening.result in
     let m = c.args.moment.0 in
     let ticket = is-connecting c.args.client c.args.ticket core.tickets c.requires.connecting in
@@ -27,5 +27,5 @@ returns g c =
         becomes = c.tell.ensures.becomes ∙ ap (λ (a : AfterConnect _). after_connect c.args.client c.args.ticket m a core) is;
         marks = refl;
       };
-      makes = logs-by core c.tell.new.self _ _ (ap (λ (a : AfterConnect _). connect_marks c.args.client c.args.ticket m a) (sym is)) c.tell.ensures.makes;
+      makes = logs-by core c.tell.new.self.pool _ _ (ap (λ (a : AfterConnect _). connect_marks c.args.client c.args.ticket m a) (sym is)) c.tell.ensures.makes;
     }

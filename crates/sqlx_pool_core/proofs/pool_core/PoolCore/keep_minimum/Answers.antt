@@ -2,11 +2,11 @@ use Rattle.std.proofs.Common.{◌≡◌, ◌+◌, ◌≤◌, max, ℕ, Bool, tru
 use Rattle.sqlx_pool_lists.specs.Core.{Core}
 use Rattle.sqlx_pool_lists.specs.MaintenanceSteps.{done, done_marks, placed, has_place}
 use Rattle.sqlx_pool_lists.specs.declared.options.PoolOptions.{PoolOptions}
-use Rattle.sqlx_member.specs.declared.idle_check.Opening.{Opening}
-use Rattle.sqlx_member.specs.declared.idle_check.Opening.TheVariants.{Opened, Rejected, Transient, Failed}
-use Rattle.sqlx_member.specs.Chain.{Tries}
+use Rattle.sqlx_pool_core.specs.declared.idle_check.Opening.{Opening}
+use Rattle.sqlx_pool_core.specs.declared.idle_check.Opening.TheVariants.{Opened, Rejected, Transient, Failed}
+use Rattle.sqlx_pool_core.specs.Chain.{Tries}
 use Rattle.sqlx_pool_core.specs.Minimum.{filled, raw_of}
-use Rattle.sqlx_member.specs.Logs.{Logs}
+use Rattle.sqlx_pool_core.specs.Logs.{Logs}
 use Rattle.sqlx_pool_core.proofs.Polling.{logs-by}
 use Rattle.sqlx_pool_core.proofs.CallsKeep.{minimum-more}
 use Rattle.sqlx_pool_core.proofs.KeepRuns.{kept-so, kept-place}
@@ -27,61 +27,61 @@ still_open : {C : Type 0} (core mid : Core C) → mid ≡ placed true core → h
 still_open core mid held place = ap (λ (c : Core _). c.shut) held ∙ place-open core place
 
 pub fill-requires-clause-place : goal.fill-requires-clause-place
-fill-requires-clause-place g c = held_place c.places.self c.minimum_place.new.self c.places-test.ensures.becomes
+fill-requires-clause-place g c = held_place c.places.self.pool c.minimum_place.new.self.pool c.places-test.ensures.becomes
 
 pub fill-requires-clause-open : goal.fill-requires-clause-open
-fill-requires-clause-open g c = still_open c.places.self c.minimum_place.new.self c.places-test.ensures.becomes (sym c.places-test.ensures.answer)
+fill-requires-clause-open g c = still_open c.places.self.pool c.minimum_place.new.self.pool c.places-test.ensures.becomes (sym c.places-test.ensures.answer)
 
 pub fill-requires-in-Rejected-clause-place : goal.fill-requires-in-Rejected-clause-place
-fill-requires-in-Rejected-clause-place g c = held_place c.places.self c.minimum_place.new.self c.places-test.ensures.becomes
+fill-requires-in-Rejected-clause-place g c = held_place c.places.self.pool c.minimum_place.new.self.pool c.places-test.ensures.becomes
 
 pub fill-requires-in-Rejected-clause-open : goal.fill-requires-in-Rejected-clause-open
-fill-requires-in-Rejected-clause-open g c = still_open c.places.self c.minimum_place.new.self c.places-test.ensures.becomes (sym c.places-test.ensures.answer)
+fill-requires-in-Rejected-clause-open g c = still_open c.places.self.pool c.minimum_place.new.self.pool c.places-test.ensures.becomes (sym c.places-test.ensures.answer)
 
 pub fill-requires-in-Failed-clause-place : goal.fill-requires-in-Failed-clause-place
-fill-requires-in-Failed-clause-place g c = held_place c.places.self c.minimum_place.new.self c.places-test.ensures.becomes
+fill-requires-in-Failed-clause-place g c = held_place c.places.self.pool c.minimum_place.new.self.pool c.places-test.ensures.becomes
 
 pub fill-requires-in-Failed-clause-open : goal.fill-requires-in-Failed-clause-open
-fill-requires-in-Failed-clause-open g c = still_open c.places.self c.minimum_place.new.self c.places-test.ensures.becomes (sym c.places-test.ensures.answer)
+fill-requires-in-Failed-clause-open g c = still_open c.places.self.pool c.minimum_place.new.self.pool c.places-test.ensures.becomes (sym c.places-test.ensures.answer)
 
 pub returns-in-Rejected-clause-lacks : goal.returns-in-Rejected-clause-lacks
-returns-in-Rejected-clause-lacks g c = λ marks s. lacks-at c.args.self.now marks s
+returns-in-Rejected-clause-lacks g c = λ marks s. lacks-at c.args.self.now.pool marks s
 
 pub returns-in-Failed-clause-lacks : goal.returns-in-Failed-clause-lacks
-returns-in-Failed-clause-lacks g c = λ marks s. lacks-at c.args.self.now marks s
+returns-in-Failed-clause-lacks g c = λ marks s. lacks-at c.args.self.now.pool marks s
 
 pub returns-clause-lacks : goal.returns-clause-lacks
-returns-clause-lacks g c = λ marks s. lacks-at c.args.self.now marks s
+returns-clause-lacks g c = λ marks s. lacks-at c.args.self.now.pool marks s
 
 pub places-smaller : goal.places-smaller
 places-smaller g c =
-    let core = c.places.self in
+    let core = c.places.self.pool in
     let place = sym c.places-test.ensures.answer in
-    let becomes = step c.args.now.0 (Opened c.in-Opened.raw) core c.minimum_place.new.self c.fill.new.self c.places-test.ensures.becomes c.fill.ensures.becomes in
-    let same = ap (λ (o : PoolOptions). o.max_connections) (filled-options c.args.now.0 c.in-Opened.raw core c.fill.new.self becomes (place-open core place)) in
-    let grown = filled-size c.args.now.0 c.in-Opened.raw core c.fill.new.self becomes (place-open core place) in
+    let becomes = step c.args.now.0 (Opened c.in-Opened.raw) core c.minimum_place.new.self.pool c.fill.new.self.pool c.places-test.ensures.becomes c.fill.ensures.becomes in
+    let same = ap (λ (o : PoolOptions). o.max_connections) (filled-options c.args.now.0 c.in-Opened.raw core c.fill.new.self.pool becomes (place-open core place)) in
+    let grown = filled-size c.args.now.0 c.in-Opened.raw core c.fill.new.self.pool becomes (place-open core place) in
     let room = place-room core place in
     omega (arith, same, grown, room)
 
 pub overflow_add-opened : goal.overflow_add-opened
 overflow_add-opened g c =
-    let room = place-room c.places.self (sym c.places-test.ensures.answer) in
+    let room = place-room c.places.self.pool (sym c.places-test.ensures.answer) in
     let within = c.places.invariant.within in
     let is = c.places.invariant.max in
     omega (arith, room, within, is)
 
 pub places-preserved : goal.places-preserved
 places-preserved g c =
-    let core = c.places.self in
+    let core = c.places.self.pool in
     let place = sym c.places-test.ensures.answer in
-    let becomes = step c.args.now.0 (Opened c.in-Opened.raw) core c.minimum_place.new.self c.fill.new.self c.places-test.ensures.becomes c.fill.ensures.becomes in
-    let same = filled-options c.args.now.0 c.in-Opened.raw core c.fill.new.self becomes (place-open core place) in
-    let grown = filled-size c.args.now.0 c.in-Opened.raw core c.fill.new.self becomes (place-open core place) in
+    let becomes = step c.args.now.0 (Opened c.in-Opened.raw) core c.minimum_place.new.self.pool c.fill.new.self.pool c.places-test.ensures.becomes c.fill.ensures.becomes in
+    let same = filled-options c.args.now.0 c.in-Opened.raw core c.fill.new.self.pool becomes (place-open core place) in
+    let grown = filled-size c.args.now.0 c.in-Opened.raw core c.fill.new.self.pool becomes (place-open core place) in
     let within = c.places.invariant.within in
     record {
-      so_far = before-more g.X.Outside.does g.X.Outside.depth c.args.options.now c.args.now.0 c.args.self.now core c.args.out.now c.places.out c.places.opened c.places.invariant.so_far c.in-Opened.raw c.try_connect.new.out c.fill.new.self place
+      so_far = before-more g.X.Outside.does g.X.Outside.depth c.args.options.now c.args.now.0 c.args.self.now.pool core c.args.out.now c.places.out c.places.opened c.places.invariant.so_far c.in-Opened.raw c.try_connect.new.out c.fill.new.self.pool place
           (subst (λ (hook : Bool). Tries g.X.Outside.does g.X.Outside.depth hook c.args.options.now (Opened c.in-Opened.raw) c.places.out c.try_connect.new.out) c.places.invariant.hook c.in-Opened.ensures) becomes
-          (step-marked c.args.now.0 (Opened c.in-Opened.raw) core c.minimum_place.new.self c.fill.new.self c.places-test.ensures.becomes c.minimum_place.ensures.makes c.fill.ensures.makes);
+          (step-marked c.args.now.0 (Opened c.in-Opened.raw) core c.minimum_place.new.self.pool c.fill.new.self.pool c.places-test.ensures.becomes c.minimum_place.ensures.makes c.fill.ensures.makes);
       hook = c.places.invariant.hook ∙ ap (λ (o : PoolOptions). o.after_connect) (sym same);
       within = omega (arith, grown, within);
       max = c.places.invariant.max ∙ ap (λ (o : PoolOptions). o.max_connections) (sym same);
@@ -91,47 +91,47 @@ plus_none : (n : ℕ) → n ≡ n + 0
 plus_none n = omega arith
 
 -- the try of a place, by the pool's own options
-tried : (g : _) (c : goal.After-fill-in-Rejected g) (o : Opening _) → c.try_connect.result ≡ o → Tries g.X.Outside.does g.X.Outside.depth c.places.self.options.after_connect c.args.options.now o c.places.out c.try_connect.new.out
+tried : (g : _) (c : goal.After-fill-in-Rejected g) (o : Opening _) → c.try_connect.result ≡ o → Tries g.X.Outside.does g.X.Outside.depth c.places.self.pool.options.after_connect c.args.options.now o c.places.out c.try_connect.new.out
 tried g c o e =
-    subst (λ (o : Opening _). Tries g.X.Outside.does g.X.Outside.depth c.places.self.options.after_connect c.args.options.now o c.places.out c.try_connect.new.out) e
+    subst (λ (o : Opening _). Tries g.X.Outside.does g.X.Outside.depth c.places.self.pool.options.after_connect c.args.options.now o c.places.out c.try_connect.new.out) e
     (subst (λ (hook : Bool). Tries g.X.Outside.does g.X.Outside.depth hook c.args.options.now c.try_connect.result c.places.out c.try_connect.new.out) c.places.invariant.hook c.try_connect.ensures)
 
 -- what a place came to for which nothing was opened
-unfilled : (g : _) (c : goal.After-fill-in-Rejected g) (o : Opening _) → raw_of o ≡ None → (c.fill-in-Rejected.new.self ≡ filled c.args.now.0 o c.places.self) × Logs c.places.self [] c.fill-in-Rejected.new.self
+unfilled : (g : _) (c : goal.After-fill-in-Rejected g) (o : Opening _) → raw_of o ≡ None → (c.fill-in-Rejected.new.self.pool ≡ filled c.args.now.0 o c.places.self.pool) × Logs c.places.self.pool [] c.fill-in-Rejected.new.self.pool
 unfilled g c o none =
-    let core = c.places.self in
-    let next = c.fill-in-Rejected.new.self in
-    let by : next ≡ done c.minimum_place.new.self.shut (max c.minimum_place.new.self.last c.args.now.0) (raw_of o) c.minimum_place.new.self = c.fill-in-Rejected.ensures.becomes ∙ ap (λ (r : Option _). done c.minimum_place.new.self.shut (max c.minimum_place.new.self.last c.args.now.0) r c.minimum_place.new.self) (sym none) in (
-      step c.args.now.0 o core c.minimum_place.new.self next c.places-test.ensures.becomes by,
+    let core = c.places.self.pool in
+    let next = c.fill-in-Rejected.new.self.pool in
+    let by : next ≡ done c.minimum_place.new.self.pool.shut (max c.minimum_place.new.self.pool.last c.args.now.0) (raw_of o) c.minimum_place.new.self.pool = c.fill-in-Rejected.ensures.becomes ∙ ap (λ (r : Option _). done c.minimum_place.new.self.pool.shut (max c.minimum_place.new.self.pool.last c.args.now.0) r c.minimum_place.new.self.pool) (sym none) in (
+      step c.args.now.0 o core c.minimum_place.new.self.pool next c.places-test.ensures.becomes by,
       step-unmarked c.args.now.0 o core next none
-          (step-marked c.args.now.0 o core c.minimum_place.new.self next c.places-test.ensures.becomes c.minimum_place.ensures.makes
-          (logs-by c.minimum_place.new.self next _ _ (ap (λ (r : Option _). done_marks c.minimum_place.new.self.shut c.minimum_place.new.self.next_conn (max c.minimum_place.new.self.last c.args.now.0) r) none) c.fill-in-Rejected.ensures.makes)),
+          (step-marked c.args.now.0 o core c.minimum_place.new.self.pool next c.places-test.ensures.becomes c.minimum_place.ensures.makes
+          (logs-by c.minimum_place.new.self.pool next _ _ (ap (λ (r : Option _). done_marks c.minimum_place.new.self.pool.shut c.minimum_place.new.self.pool.next_conn (max c.minimum_place.new.self.pool.last c.args.now.0) r) none) c.fill-in-Rejected.ensures.makes)),
     )
 
 pub returns-in-Rejected-clause-keeps : goal.returns-in-Rejected-clause-keeps
 returns-in-Rejected-clause-keeps g c = elim c.in-Rejected.is [
   | inl e ↦ let u = unfilled g c Rejected refl in
-      keeps-ended g.X.Outside.does g.X.Outside.depth c.args.options.now c.args.now.0 c.args.self.now c.places.self c.args.out.now c.places.out c.places.opened c.places.invariant.so_far (Rejected ∷ []) c.fill-in-Rejected.new.self c.try_connect.new.out _
+      keeps-ended g.X.Outside.does g.X.Outside.depth c.args.options.now c.args.now.0 c.args.self.now.pool c.places.self.pool c.args.out.now c.places.out c.places.opened c.places.invariant.so_far (Rejected ∷ []) c.fill-in-Rejected.new.self.pool c.try_connect.new.out _
       (sym c.places-test.ensures.answer, tried g c Rejected e, u.0, u.1) (plus_none c.places.opened) refl
   | inr e ↦ let u = unfilled g c Transient refl in
-      keeps-ended g.X.Outside.does g.X.Outside.depth c.args.options.now c.args.now.0 c.args.self.now c.places.self c.args.out.now c.places.out c.places.opened c.places.invariant.so_far (Transient ∷ []) c.fill-in-Rejected.new.self c.try_connect.new.out _
+      keeps-ended g.X.Outside.does g.X.Outside.depth c.args.options.now c.args.now.0 c.args.self.now.pool c.places.self.pool c.args.out.now c.places.out c.places.opened c.places.invariant.so_far (Transient ∷ []) c.fill-in-Rejected.new.self.pool c.try_connect.new.out _
       (sym c.places-test.ensures.answer, tried g c Transient e, u.0, u.1) (plus_none c.places.opened) refl
 ]
 
 pub returns-in-Failed-clause-keeps : goal.returns-in-Failed-clause-keeps
 returns-in-Failed-clause-keeps g c =
-    let core = c.places.self in
-    keeps-ended g.X.Outside.does g.X.Outside.depth c.args.options.now c.args.now.0 c.args.self.now core c.args.out.now c.places.out c.places.opened c.places.invariant.so_far (Failed c.in-Failed.error ∷ []) c.fill-in-Failed.new.self c.try_connect.new.out _ (
+    let core = c.places.self.pool in
+    keeps-ended g.X.Outside.does g.X.Outside.depth c.args.options.now c.args.now.0 c.args.self.now.pool core c.args.out.now c.places.out c.places.opened c.places.invariant.so_far (Failed c.in-Failed.error ∷ []) c.fill-in-Failed.new.self.pool c.try_connect.new.out _ (
       sym c.places-test.ensures.answer,
       subst (λ (hook : Bool). Tries g.X.Outside.does g.X.Outside.depth hook c.args.options.now (Failed c.in-Failed.error) c.places.out c.try_connect.new.out) c.places.invariant.hook c.in-Failed.ensures,
-      step c.args.now.0 (Failed c.in-Failed.error) core c.minimum_place.new.self c.fill-in-Failed.new.self c.places-test.ensures.becomes c.fill-in-Failed.ensures.becomes,
-      step-unmarked c.args.now.0 (Failed c.in-Failed.error) core c.fill-in-Failed.new.self refl (step-marked c.args.now.0 (Failed c.in-Failed.error) core c.minimum_place.new.self c.fill-in-Failed.new.self c.places-test.ensures.becomes c.minimum_place.ensures.makes c.fill-in-Failed.ensures.makes),
+      step c.args.now.0 (Failed c.in-Failed.error) core c.minimum_place.new.self.pool c.fill-in-Failed.new.self.pool c.places-test.ensures.becomes c.fill-in-Failed.ensures.becomes,
+      step-unmarked c.args.now.0 (Failed c.in-Failed.error) core c.fill-in-Failed.new.self.pool refl (step-marked c.args.now.0 (Failed c.in-Failed.error) core c.minimum_place.new.self.pool c.fill-in-Failed.new.self.pool c.places-test.ensures.becomes c.minimum_place.ensures.makes c.fill-in-Failed.ensures.makes),
     )
     (plus_none c.places.opened) c.is_want-short.ensures
 
 pub returns-clause-keeps : goal.returns-clause-keeps
 returns-clause-keeps g c =
-    keeps-ended g.X.Outside.does g.X.Outside.depth c.args.options.now c.args.now.0 c.args.self.now c.places.self c.args.out.now c.places.out c.places.opened c.places.invariant.so_far [] c.minimum_place.new.self c.places.out _
+    keeps-ended g.X.Outside.does g.X.Outside.depth c.args.options.now c.args.now.0 c.args.self.now.pool c.places.self.pool c.args.out.now c.places.out c.places.opened c.places.invariant.so_far [] c.minimum_place.new.self.pool c.places.out _
     (sym c.places-test.ensures.answer, c.places-test.ensures.becomes, refl) (plus_none c.places.opened) refl
 
 pub returns-in-Rejected-clause-counts : goal.returns-in-Rejected-clause-counts
@@ -156,61 +156,61 @@ returns-clause-counts g c =
     )
 
 pub returns-in-Rejected-clause-makes : goal.returns-in-Rejected-clause-makes
-returns-in-Rejected-clause-makes g c = (kept-so g.X.Outside.does g.X.Outside.depth g.X.Outside.faults g.X.Outside.refusals g.X.Outside.IsShort g.met.X.Outside.facts c.args.options.now c.args.now.0 c.args.self.now _ _ _ _ (returns-in-Rejected-clause-keeps g c)).makes
+returns-in-Rejected-clause-makes g c = (kept-so g.X.Outside.does g.X.Outside.depth g.X.Outside.faults g.X.Outside.refusals g.X.Outside.IsShort g.met.X.Outside.facts c.args.options.now c.args.now.0 c.args.self.now.pool _ _ _ _ (returns-in-Rejected-clause-keeps g c)).makes
 
 pub returns-in-Rejected-clause-opens : goal.returns-in-Rejected-clause-opens
-returns-in-Rejected-clause-opens g c = (kept-so g.X.Outside.does g.X.Outside.depth g.X.Outside.faults g.X.Outside.refusals g.X.Outside.IsShort g.met.X.Outside.facts c.args.options.now c.args.now.0 c.args.self.now _ _ _ _ (returns-in-Rejected-clause-keeps g c)).opens
+returns-in-Rejected-clause-opens g c = (kept-so g.X.Outside.does g.X.Outside.depth g.X.Outside.faults g.X.Outside.refusals g.X.Outside.IsShort g.met.X.Outside.facts c.args.options.now c.args.now.0 c.args.self.now.pool _ _ _ _ (returns-in-Rejected-clause-keeps g c)).opens
 
 pub returns-in-Rejected-clause-most : goal.returns-in-Rejected-clause-most
-returns-in-Rejected-clause-most g c = (kept-so g.X.Outside.does g.X.Outside.depth g.X.Outside.faults g.X.Outside.refusals g.X.Outside.IsShort g.met.X.Outside.facts c.args.options.now c.args.now.0 c.args.self.now _ _ _ _ (returns-in-Rejected-clause-keeps g c)).most
+returns-in-Rejected-clause-most g c = (kept-so g.X.Outside.does g.X.Outside.depth g.X.Outside.faults g.X.Outside.refusals g.X.Outside.IsShort g.met.X.Outside.facts c.args.options.now c.args.now.0 c.args.self.now.pool _ _ _ _ (returns-in-Rejected-clause-keeps g c)).most
 
 pub returns-in-Rejected-clause-place : goal.returns-in-Rejected-clause-place
 returns-in-Rejected-clause-place g c =
-    kept-place g.X.Outside.does g.X.Outside.depth g.X.Outside.faults g.X.Outside.refusals g.X.Outside.IsShort g.met.X.Outside.facts c.args.options.now c.args.now.0 c.args.self.now _ _
-    (kept-so g.X.Outside.does g.X.Outside.depth g.X.Outside.faults g.X.Outside.refusals g.X.Outside.IsShort g.met.X.Outside.facts c.args.options.now c.args.now.0 c.args.self.now _ _ _ _ (returns-in-Rejected-clause-keeps g c))
+    kept-place g.X.Outside.does g.X.Outside.depth g.X.Outside.faults g.X.Outside.refusals g.X.Outside.IsShort g.met.X.Outside.facts c.args.options.now c.args.now.0 c.args.self.now.pool _ _
+    (kept-so g.X.Outside.does g.X.Outside.depth g.X.Outside.faults g.X.Outside.refusals g.X.Outside.IsShort g.met.X.Outside.facts c.args.options.now c.args.now.0 c.args.self.now.pool _ _ _ _ (returns-in-Rejected-clause-keeps g c))
 
 pub returns-in-Failed-clause-makes : goal.returns-in-Failed-clause-makes
-returns-in-Failed-clause-makes g c = (kept-so g.X.Outside.does g.X.Outside.depth g.X.Outside.faults g.X.Outside.refusals g.X.Outside.IsShort g.met.X.Outside.facts c.args.options.now c.args.now.0 c.args.self.now _ _ _ _ (returns-in-Failed-clause-keeps g c)).makes
+returns-in-Failed-clause-makes g c = (kept-so g.X.Outside.does g.X.Outside.depth g.X.Outside.faults g.X.Outside.refusals g.X.Outside.IsShort g.met.X.Outside.facts c.args.options.now c.args.now.0 c.args.self.now.pool _ _ _ _ (returns-in-Failed-clause-keeps g c)).makes
 
 pub returns-in-Failed-clause-opens : goal.returns-in-Failed-clause-opens
-returns-in-Failed-clause-opens g c = (kept-so g.X.Outside.does g.X.Outside.depth g.X.Outside.faults g.X.Outside.refusals g.X.Outside.IsShort g.met.X.Outside.facts c.args.options.now c.args.now.0 c.args.self.now _ _ _ _ (returns-in-Failed-clause-keeps g c)).opens
+returns-in-Failed-clause-opens g c = (kept-so g.X.Outside.does g.X.Outside.depth g.X.Outside.faults g.X.Outside.refusals g.X.Outside.IsShort g.met.X.Outside.facts c.args.options.now c.args.now.0 c.args.self.now.pool _ _ _ _ (returns-in-Failed-clause-keeps g c)).opens
 
 pub returns-in-Failed-clause-most : goal.returns-in-Failed-clause-most
-returns-in-Failed-clause-most g c = (kept-so g.X.Outside.does g.X.Outside.depth g.X.Outside.faults g.X.Outside.refusals g.X.Outside.IsShort g.met.X.Outside.facts c.args.options.now c.args.now.0 c.args.self.now _ _ _ _ (returns-in-Failed-clause-keeps g c)).most
+returns-in-Failed-clause-most g c = (kept-so g.X.Outside.does g.X.Outside.depth g.X.Outside.faults g.X.Outside.refusals g.X.Outside.IsShort g.met.X.Outside.facts c.args.options.now c.args.now.0 c.args.self.now.pool _ _ _ _ (returns-in-Failed-clause-keeps g c)).most
 
 pub returns-in-Failed-clause-place : goal.returns-in-Failed-clause-place
 returns-in-Failed-clause-place g c =
-    kept-place g.X.Outside.does g.X.Outside.depth g.X.Outside.faults g.X.Outside.refusals g.X.Outside.IsShort g.met.X.Outside.facts c.args.options.now c.args.now.0 c.args.self.now _ _
-    (kept-so g.X.Outside.does g.X.Outside.depth g.X.Outside.faults g.X.Outside.refusals g.X.Outside.IsShort g.met.X.Outside.facts c.args.options.now c.args.now.0 c.args.self.now _ _ _ _ (returns-in-Failed-clause-keeps g c))
+    kept-place g.X.Outside.does g.X.Outside.depth g.X.Outside.faults g.X.Outside.refusals g.X.Outside.IsShort g.met.X.Outside.facts c.args.options.now c.args.now.0 c.args.self.now.pool _ _
+    (kept-so g.X.Outside.does g.X.Outside.depth g.X.Outside.faults g.X.Outside.refusals g.X.Outside.IsShort g.met.X.Outside.facts c.args.options.now c.args.now.0 c.args.self.now.pool _ _ _ _ (returns-in-Failed-clause-keeps g c))
 
 pub returns-clause-makes : goal.returns-clause-makes
-returns-clause-makes g c = (kept-so g.X.Outside.does g.X.Outside.depth g.X.Outside.faults g.X.Outside.refusals g.X.Outside.IsShort g.met.X.Outside.facts c.args.options.now c.args.now.0 c.args.self.now _ _ _ _ (returns-clause-keeps g c)).makes
+returns-clause-makes g c = (kept-so g.X.Outside.does g.X.Outside.depth g.X.Outside.faults g.X.Outside.refusals g.X.Outside.IsShort g.met.X.Outside.facts c.args.options.now c.args.now.0 c.args.self.now.pool _ _ _ _ (returns-clause-keeps g c)).makes
 
 pub returns-clause-opens : goal.returns-clause-opens
-returns-clause-opens g c = (kept-so g.X.Outside.does g.X.Outside.depth g.X.Outside.faults g.X.Outside.refusals g.X.Outside.IsShort g.met.X.Outside.facts c.args.options.now c.args.now.0 c.args.self.now _ _ _ _ (returns-clause-keeps g c)).opens
+returns-clause-opens g c = (kept-so g.X.Outside.does g.X.Outside.depth g.X.Outside.faults g.X.Outside.refusals g.X.Outside.IsShort g.met.X.Outside.facts c.args.options.now c.args.now.0 c.args.self.now.pool _ _ _ _ (returns-clause-keeps g c)).opens
 
 pub returns-clause-most : goal.returns-clause-most
-returns-clause-most g c = (kept-so g.X.Outside.does g.X.Outside.depth g.X.Outside.faults g.X.Outside.refusals g.X.Outside.IsShort g.met.X.Outside.facts c.args.options.now c.args.now.0 c.args.self.now _ _ _ _ (returns-clause-keeps g c)).most
+returns-clause-most g c = (kept-so g.X.Outside.does g.X.Outside.depth g.X.Outside.faults g.X.Outside.refusals g.X.Outside.IsShort g.met.X.Outside.facts c.args.options.now c.args.now.0 c.args.self.now.pool _ _ _ _ (returns-clause-keeps g c)).most
 
 pub returns-clause-place : goal.returns-clause-place
 returns-clause-place g c =
-    kept-place g.X.Outside.does g.X.Outside.depth g.X.Outside.faults g.X.Outside.refusals g.X.Outside.IsShort g.met.X.Outside.facts c.args.options.now c.args.now.0 c.args.self.now _ _
-    (kept-so g.X.Outside.does g.X.Outside.depth g.X.Outside.faults g.X.Outside.refusals g.X.Outside.IsShort g.met.X.Outside.facts c.args.options.now c.args.now.0 c.args.self.now _ _ _ _ (returns-clause-keeps g c))
+    kept-place g.X.Outside.does g.X.Outside.depth g.X.Outside.faults g.X.Outside.refusals g.X.Outside.IsShort g.met.X.Outside.facts c.args.options.now c.args.now.0 c.args.self.now.pool _ _
+    (kept-so g.X.Outside.does g.X.Outside.depth g.X.Outside.faults g.X.Outside.refusals g.X.Outside.IsShort g.met.X.Outside.facts c.args.options.now c.args.now.0 c.args.self.now.pool _ _ _ _ (returns-clause-keeps g c))
 
 pub returns-in-Rejected-clause-ends : goal.returns-in-Rejected-clause-ends
-returns-in-Rejected-clause-ends g c = kept-ends g.X.Outside.does g.X.Outside.depth g.X.Outside.faults g.X.Outside.refusals g.X.Outside.IsShort g.met.X.Outside.facts c.args.options.now c.args.now.0 c.args.self.now _ _ _ _ (returns-in-Rejected-clause-keeps g c)
+returns-in-Rejected-clause-ends g c = kept-ends g.X.Outside.does g.X.Outside.depth g.X.Outside.faults g.X.Outside.refusals g.X.Outside.IsShort g.met.X.Outside.facts c.args.options.now c.args.now.0 c.args.self.now.pool _ _ _ _ (returns-in-Rejected-clause-keeps g c)
 
 pub returns-in-Rejected-clause-short : goal.returns-in-Rejected-clause-short
-returns-in-Rejected-clause-short g c = kept-short g.X.Outside.does g.X.Outside.depth g.X.Outside.faults g.X.Outside.refusals g.X.Outside.IsShort g.met.X.Outside.facts c.args.options.now c.args.now.0 c.args.self.now _ _ _ _ (returns-in-Rejected-clause-keeps g c)
+returns-in-Rejected-clause-short g c = kept-short g.X.Outside.does g.X.Outside.depth g.X.Outside.faults g.X.Outside.refusals g.X.Outside.IsShort g.met.X.Outside.facts c.args.options.now c.args.now.0 c.args.self.now.pool _ _ _ _ (returns-in-Rejected-clause-keeps g c)
 
 pub returns-in-Failed-clause-ends : goal.returns-in-Failed-clause-ends
-returns-in-Failed-clause-ends g c = kept-ends g.X.Outside.does g.X.Outside.depth g.X.Outside.faults g.X.Outside.refusals g.X.Outside.IsShort g.met.X.Outside.facts c.args.options.now c.args.now.0 c.args.self.now _ _ _ _ (returns-in-Failed-clause-keeps g c)
+returns-in-Failed-clause-ends g c = kept-ends g.X.Outside.does g.X.Outside.depth g.X.Outside.faults g.X.Outside.refusals g.X.Outside.IsShort g.met.X.Outside.facts c.args.options.now c.args.now.0 c.args.self.now.pool _ _ _ _ (returns-in-Failed-clause-keeps g c)
 
 pub returns-in-Failed-clause-short : goal.returns-in-Failed-clause-short
-returns-in-Failed-clause-short g c = kept-short g.X.Outside.does g.X.Outside.depth g.X.Outside.faults g.X.Outside.refusals g.X.Outside.IsShort g.met.X.Outside.facts c.args.options.now c.args.now.0 c.args.self.now _ _ _ _ (returns-in-Failed-clause-keeps g c)
+returns-in-Failed-clause-short g c = kept-short g.X.Outside.does g.X.Outside.depth g.X.Outside.faults g.X.Outside.refusals g.X.Outside.IsShort g.met.X.Outside.facts c.args.options.now c.args.now.0 c.args.self.now.pool _ _ _ _ (returns-in-Failed-clause-keeps g c)
 
 pub returns-clause-ends : goal.returns-clause-ends
-returns-clause-ends g c = kept-ends g.X.Outside.does g.X.Outside.depth g.X.Outside.faults g.X.Outside.refusals g.X.Outside.IsShort g.met.X.Outside.facts c.args.options.now c.args.now.0 c.args.self.now _ _ _ _ (returns-clause-keeps g c)
+returns-clause-ends g c = kept-ends g.X.Outside.does g.X.Outside.depth g.X.Outside.faults g.X.Outside.refusals g.X.Outside.IsShort g.met.X.Outside.facts c.args.options.now c.args.now.0 c.args.self.now.pool _ _ _ _ (returns-clause-keeps g c)
 
 pub returns-clause-short : goal.returns-clause-short
-returns-clause-short g c = kept-short g.X.Outside.does g.X.Outside.depth g.X.Outside.faults g.X.Outside.refusals g.X.Outside.IsShort g.met.X.Outside.facts c.args.options.now c.args.now.0 c.args.self.now _ _ _ _ (returns-clause-keeps g c)
+returns-clause-short g c = kept-short g.X.Outside.does g.X.Outside.depth g.X.Outside.faults g.X.Outside.refusals g.X.Outside.IsShort g.met.X.Outside.facts c.args.options.now c.args.now.0 c.args.self.now.pool _ _ _ _ (returns-clause-keeps g c)

@@ -5,11 +5,11 @@ use Rattle.sqlx_pool_core.proofs.pool_core.PoolCore.keep_minimum.Given as goal
 
 abbrev pub invariant-places : goal.invariant-places
 invariant-places g l = record {
-  so_far : Before g.X.Outside.does g.X.Outside.depth l.options l.now.0 l.fn.self l.self l.fn.out l.out l.opened;
-  hook : l.hook ≡ l.self.options.after_connect;
-  within : l.opened ≤ size l.self;
-  max : l._max ≡ l.self.options.max_connections;
+  so_far : Before g.X.Outside.does g.X.Outside.depth l.options l.now.0 l.fn.self.pool l.self.pool l.fn.out l.out l.opened;
+  hook : l.hook ≡ l.self.pool.options.after_connect;
+  within : l.opened ≤ size l.self.pool;
+  max : l._max ≡ l.self.pool.options.max_connections;
 }
 
 abbrev pub decreases-places : goal.decreases-places
-decreases-places g l = l.self.options.max_connections - size l.self
+decreases-places g l = l.self.pool.options.max_connections - size l.self.pool

@@ -5,19 +5,20 @@ use Rattle.sqlx_pool_lists.specs.MaintenanceSteps.{has_place}
 use Rattle.sqlx_pool_core.proofs.MaintenanceAtMarks.{place-at}
 use Rattle.sqlx_pool_core.proofs.pool_core.PoolCore.minimum_place.Goals as goal
 use Rattle.sqlx_pool_core.proofs.Alone.{alone-step}
+use Rattle.sqlx_pool_core.proofs.LonePools.{pool-is}
 use Rattle.sqlx_pool_core.proofs.LineSteps.{place-lined}
 
 pub returns-clause-makes : goal.returns-clause-makes
 returns-clause-makes g c =
-    plain-alone _ _ _ c.self.view_is (λ core. []) _ refl c.self.invariant.alone c.sound.ensures c.hold_place-held.ensures.stays c.hold_place-held.ensures.draws c.hold_place-held.ensures.makes
+    plain-alone _ _ _ (pool-is c.self.view_is) (λ core. []) _ refl c.self.invariant.alone c.sound.ensures c.hold_place-held.ensures.stays c.hold_place-held.ensures.draws c.hold_place-held.ensures.makes
 
 pub returns-clause-balance : goal.returns-clause-balance
-returns-clause-balance g c = moves-alone _ _ _ c.self.view_is (λ core. []) _ 0 (place_room c.hold_place-held.result) refl c.hold_place-held.ensures.balance
+returns-clause-balance g c = moves-alone _ _ _ (pool-is c.self.view_is) (λ core. []) _ 0 (place_room c.hold_place-held.result) refl c.hold_place-held.ensures.balance
 
 pub returns-clause-marks : goal.returns-clause-marks
 returns-clause-marks g c = λ marks s.
-    let answer : c.hold_place-held.result ≡ has_place c.args.self.now.options.min_connections c.args.self.now = search rules in
-    answer ∙ place-at c.args.self.now marks s c.args.self.now.options.min_connections
+    let answer : c.hold_place-held.result ≡ has_place c.args.self.now.pool.options.min_connections c.args.self.now.pool = search rules in
+    answer ∙ place-at c.args.self.now.pool marks s c.args.self.now.pool.options.min_connections
 
 pub invariant_of-self : goal.invariant_of-self
 invariant_of-self g c = record {

@@ -1,5 +1,5 @@
 use Rattle.std.proofs.Common.{◌≡◌, List, [], ◌∷◌, map, sym, ap, ◌∙◌, refl, arith}
-use Rattle.sqlx_line.specs.Line.{TicketLine, no_line}
+use Rattle.sqlx_pool_places.specs.Line.{TicketLine, no_line}
 use Rattle.sqlx_pool_lists.specs.Core.{Core, gone}
 use Rattle.sqlx_pool_core.specs.KeptLine.{IsLone, waiting_numbers}
 use Rattle.sqlx_pool_core.proofs.pool_core.PoolCore.new.Goals as goal

@@ -3,4 +3,4 @@ use Rattle.sqlx_pool_core.proofs.AnswersAtMarks.{tickets-at}
 use Rattle.sqlx_pool_core.proofs.pool_core.PoolCore.num_tickets.Goals as goal
 
 pub returns-clause-marks : goal.returns-clause-marks
-returns-clause-marks g c = λ marks s. (search rules) ∙ tickets-at c.args.self.now marks s
+returns-clause-marks g c = λ marks s. (search rules) ∙ tickets-at c.args.self.now.pool marks s

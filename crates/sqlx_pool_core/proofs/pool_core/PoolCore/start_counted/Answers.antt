@@ -6,6 +6,7 @@ use Rattle.sqlx_pool_lists.specs.PollSteps.{phase_for, start_marks}
 use Rattle.sqlx_pool_core.specs.KeptLine.{IsNearlyLined, taken_out}
 use Rattle.sqlx_pool_core.proofs.LineSteps.{told-first, start-told, start-nearly}
 use Rattle.sqlx_pool_core.proofs.Looks.{looks-without}
+use Rattle.sqlx_pool_core.proofs.LonePools.{pool-is}
 use Rattle.sqlx_pool_core.proofs.pool_core.PoolCore.start_counted.Goals as goal
 
 pub start-started-requires : goal.start-started-requires
@@ -27,20 +28,22 @@ serve-requires g c = record {
 
 pub returns-clause-makes : goal.returns-clause-makes
 returns-clause-makes g c =
-    start-alone _ _ _ c.self.view_is c.args.ticket c.is_entitled-entitled.result (λ core. start_marks c.args.ticket (phase_for c.args.client c.args.ticket core.tickets) c.start-started.result) _ refl c.self.invariant.alone c.sound-2.ensures c.start-started.ensures.stays
+    start-alone _ _ _ (pool-is c.self.view_is) c.args.ticket c.is_entitled-entitled.result (λ core. start_marks c.args.ticket (phase_for c.args.client c.args.ticket core.tickets) c.start-started.result) _ refl c.self.invariant.alone c.sound-2.ensures c.start-started.ensures.stays
     (told-first _ _ c.is_entitled-entitled.result c.args.client c.args.ticket c.sound.ensures c.self.invariant.lined c.is_entitled-entitled.ensures) c.start-started.ensures.draws c.start-started.ensures.makes
 
 pub returns-clause-balance : goal.returns-clause-balance
-returns-clause-balance g c = moves-alone _ _ _ c.self.view_is (λ core. start_marks c.args.ticket (phase_for c.args.client c.args.ticket core.tickets) c.start-started.result) _ 0 0 refl c.start-started.ensures.balance
+returns-clause-balance g c = moves-alone _ _ _ (pool-is c.self.view_is) (λ core. start_marks c.args.ticket (phase_for c.args.client c.args.ticket core.tickets) c.start-started.result) _ 0 0 refl c.start-started.ensures.balance
 
 pub returns-clause-own : goal.returns-clause-own
 returns-clause-own g c =
-    start-told _ _ _ c.is_entitled-entitled.result c.args.client c.args.ticket c.moment-moment.result.0 c.args.now.0 c.start-started.result c.self.view_is c.self.invariant.alone.closed c.sound.ensures c.self.invariant.lined c.is_entitled-entitled.ensures
+    start-told _ _ _ c.is_entitled-entitled.result c.args.client c.args.ticket c.moment-moment.result.0 c.args.now.0 c.start-started.result (pool-is c.self.view_is) c.self.invariant.alone.closed c.sound.ensures c.self.invariant.lined c.is_entitled-entitled.ensures
     c.moment-moment.ensures c.start-started.ensures.answer
 
 pub returns-clause-answer : goal.returns-clause-answer
-returns-clause-answer g c = turn-alone _ _ c.start-started.new.self c.self.view_is c.args.client c.args.ticket (max c.args.self.now.last c.args.now.0) c.start-started.result (returns-clause-own g c)
+returns-clause-answer g c = turn-alone _ _ c.start-started.new.self (pool-is c.self.view_is) c.args.client c.args.ticket (max c.args.self.now.pool.last c.args.now.0) c.start-started.result (returns-clause-own g c)
 
 pub returns-clause-cost : goal.returns-clause-cost
 returns-clause-cost g c =
-    looks-without _ _ _ _ _ _ c.args.ticket c.leaves-went.result _ _ _ c.self.view_is c.sound.ensures c.self.invariant.lined c.take_out.ensures.becomes c.serve.ensures.lined c.start-started.ensures.draws.more_tickets c.take_out.ensures.cost c.serve.ensures.cost c.serve.ensures.once c.serve.ensures.turns
+    looks-without c.self.inside.pool c.args.self.now c.start-started.new.self c.self.inside.line c.take_out.new.line c.serve.new.line c.args.ticket c.leaves-went.result _ _ _ c.self.view_is c.sound.ensures c.self.invariant.lined c.take_out.ensures.becomes
+    c.start-started.ensures.draws.more_tickets c.take_out.ensures.cost
+    (record { cost = c.serve.ensures.cost; once = c.serve.ensures.once; turns = c.serve.ensures.turns; moves = c.serve.ensures.moves; edge = c.serve.ensures.edge; lined = c.serve.ensures.lined; sound = c.serve.ensures.sound })

@@ -1,6 +1,8 @@
-use Rattle.std.proofs.Common.{arith, inr}
+use Rattle.std.proofs.Common.{◌≡◌, ◌+◌, arith, inr, ap, ◌∙◌}
 use Rattle.sqlx_pool_core.proofs.KeptLine.{nearly-moved}
 use Rattle.sqlx_pool_core.proofs.Looks.{entitles-passed}
+use Rattle.sqlx_pool_core.proofs.LonePools.{advanced-moved, moves-once}
+use Rattle.sqlx_pool_places.specs.Line.{TicketLine}
 use Rattle.sqlx_pool_core.proofs.pool_core.line.serve.Goals as goal
 
 pub returns-then-entitled-num_free-clause-lined : goal.returns-then-entitled-num_free-clause-lined
@@ -10,3 +12,11 @@ returns-then-entitled-num_free-clause-lined g c =
 pub returns-then-entitled-num_free-clause-turns : goal.returns-then-entitled-num_free-clause-turns
 returns-then-entitled-num_free-clause-turns g c =
     inr (entitles-passed c.args.pool.now c.args.line.now c.advance.new.self c.sound.ensures (returns-then-entitled-num_free-clause-lined g c) c.advance.ensures.becomes (omega (arith, c.if-beyond-gt0.true, c.beyond.ensures)))
+
+pub returns-then-entitled-num_free-clause-moves : goal.returns-then-entitled-num_free-clause-moves
+returns-then-entitled-num_free-clause-moves g c =
+    let one : c.advance.new.self.moves ≡ c.args.line.now.moves + 1 = ap (λ (l : TicketLine). l.moves) c.advance.ensures.becomes ∙ advanced-moved c.args.line.now (omega (arith, c.if-beyond-gt0.true, c.beyond.ensures)) in
+    omega (arith, one, c.advance.ensures.cost)
+
+pub returns-then-entitled-num_free-clause-edge : goal.returns-then-entitled-num_free-clause-edge
+returns-then-entitled-num_free-clause-edge g c = moves-once c.args.line.now c.advance.new.self (omega (arith, c.if-beyond-gt0.true, c.beyond.ensures)) c.advance.ensures.becomes c.advance.ensures.forward

@@ -1,5 +1,5 @@
 use Rattle.std.proofs.Common.{◌∷◌, [], ◌++◌, codes}
-use Rattle.sqlx_query_parts.specs.Builder.{Text, tuples_of}
+use Rattle.sqlx_query_drafts.specs.Builder.{Text, tuples_of}
 use Rattle.sqlx_query.proofs.OpenLemmas.{gains_open}
 use Rattle.sqlx_query.proofs.builder.QueryBuilder.push_tuples.Goals as goal
 

@@ -1,5 +1,5 @@
 use Rattle.std.proofs.Common.{◌∷◌, [], ◌++◌, sym}
-use Rattle.sqlx_query_parts.specs.Builder.{Extends, Gains, Text, tuples_of}
+use Rattle.sqlx_query_drafts.specs.Builder.{Extends, Gains, Text, tuples_of}
 use Rattle.sqlx_query.proofs.DraftLemmas.{gains_then, extends_itself, extends_then, extends_by_text}
 use Rattle.sqlx_query.proofs.builder.QueryBuilder.write_framed.Goals as goal
 

@@ -1,5 +1,5 @@
 use Rattle.std.proofs.Common.{◌∷◌, [], ◌++◌, codes, sym}
-use Rattle.sqlx_query_parts.specs.Builder.{Extends, Gains, Text, opening}
+use Rattle.sqlx_query_drafts.specs.Builder.{Extends, Gains, Text, opening}
 use Rattle.sqlx_query.proofs.DraftLemmas.{gains_then, extends_itself, extends_then, extends_by_text, extends_by_pieces, entry_adds_none, gains_extend}
 use Rattle.sqlx_query.proofs.builder.QueryBuilder.write_tuple.Goals as goal
 

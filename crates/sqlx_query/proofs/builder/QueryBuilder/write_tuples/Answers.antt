@@ -1,5 +1,5 @@
 use Rattle.sqlx_query.proofs.DraftLemmas.{extends_then, so_far_none, so_far_more, so_far_extends}
-use Rattle.sqlx_query_parts.specs.Tuples.{Wrote}
+use Rattle.sqlx_query_drafts.specs.Tuples.{Wrote}
 use Rattle.sqlx_query.proofs.builder.QueryBuilder.write_tuples.Goals as goal
 use Rattle.std.proofs.Common.{rules}
 

@@ -1,5 +1,5 @@
 use Rattle.sqlx_query.proofs.DraftLemmas.{SoFar}
-use Rattle.sqlx_query_parts.specs.Tuples.{Wrote}
+use Rattle.sqlx_query_drafts.specs.Tuples.{Wrote}
 use Rattle.sqlx_query.proofs.builder.QueryBuilder.write_tuples.Given as goal
 
 abbrev pub invariant-loop-item : goal.invariant-loop-item

@@ -1,6 +1,6 @@
 use Rattle.std.proofs.Common.{◌∙◌, codes}
-use Rattle.sqlx_query_parts.specs.Builder.{Text}
-use Rattle.sqlx_query_parts.specs.Tuples.{behind, comma}
+use Rattle.sqlx_query_drafts.specs.Builder.{Text}
+use Rattle.sqlx_query_drafts.specs.Tuples.{behind, comma}
 use Rattle.sqlx_query.proofs.RowLemmas.{appends_none, appends_some, moved_entry}
 use Rattle.sqlx_query.proofs.tuple_row.TupleRow.push.Goals as goal
 

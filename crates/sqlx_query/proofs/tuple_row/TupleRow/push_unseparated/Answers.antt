@@ -1,4 +1,4 @@
-use Rattle.sqlx_query_parts.specs.Tuples.{behind}
+use Rattle.sqlx_query_drafts.specs.Tuples.{behind}
 use Rattle.sqlx_query.proofs.RowLemmas.{moved_text}
 use Rattle.sqlx_query.proofs.tuple_row.TupleRow.push_unseparated.Goals as goal
 

@@ -1,4 +1,4 @@
-use Rattle.sqlx_query_parts.specs.Mapping.{RefusedBy, made_by}
+use Rattle.sqlx_query_rows.specs.Mapping.{RefusedBy, made_by}
 use Rattle.sqlx_query.proofs.CauseLemmas.{cause_of_one}
 use Rattle.sqlx_query.proofs.UnencodedLemmas.{unencoded_one}
 use Rattle.sqlx_query.proofs.types.map.Map.fetch_one.Goals as goal

@@ -1,4 +1,4 @@
-use Rattle.sqlx_query_parts.specs.Mapping.{made_by}
+use Rattle.sqlx_query_rows.specs.Mapping.{made_by}
 use Rattle.sqlx_query.proofs.UnencodedLemmas.{unencoded_optional}
 use Rattle.sqlx_query.proofs.types.map.Map.fetch_optional.Goals as goal
 

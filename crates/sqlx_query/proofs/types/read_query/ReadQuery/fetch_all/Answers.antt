@@ -1,5 +1,5 @@
 use Rattle.std.specs.Prelude.{⊤}
-use Rattle.sqlx_query_parts.specs.Mapping.{alike}
+use Rattle.sqlx_query_rows.specs.Mapping.{alike}
 use Rattle.sqlx_query.proofs.CauseLemmas.{cause_of_reads}
 use Rattle.sqlx_query.proofs.UnencodedLemmas.{unencoded_all}
 use Rattle.sqlx_query.proofs.types.read_query.ReadQuery.fetch_all.Goals as goal

@@ -1,4 +1,4 @@
-use Rattle.sqlx_query_parts.specs.Mapping.{Refused}
+use Rattle.sqlx_query_rows.specs.Mapping.{Refused}
 use Rattle.sqlx_query.proofs.CauseLemmas.{cause_of_one}
 use Rattle.sqlx_query.proofs.UnencodedLemmas.{unencoded_one}
 use Rattle.sqlx_query.proofs.types.read_query.ReadQuery.fetch_one.Goals as goal

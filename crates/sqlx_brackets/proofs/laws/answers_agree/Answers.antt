@@ -1,5 +1,0 @@
-use Rattle.sqlx_brackets.proofs.Answering.{answers_read_alike}
-use Rattle.sqlx_brackets.proofs.laws.answers_agree.Goals as goal
-
-pub returns : goal.returns
-returns c = answers_read_alike

@@ -1,5 +1,0 @@
-use Rattle.sqlx_brackets.proofs.Readers.{levels_read_alike}
-use Rattle.sqlx_brackets.proofs.laws.brackets_are_levels.Goals as goal
-
-pub returns : goal.returns
-returns c = levels_read_alike

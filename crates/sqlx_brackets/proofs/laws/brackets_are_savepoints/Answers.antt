@@ -1,5 +1,0 @@
-use Rattle.sqlx_brackets.proofs.Linking.{savepoints_read_alike}
-use Rattle.sqlx_brackets.proofs.laws.brackets_are_savepoints.Goals as goal
-
-pub returns : goal.returns
-returns c = savepoints_read_alike

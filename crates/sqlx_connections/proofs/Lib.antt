@@ -1,2 +1,0 @@
-pub mod IdleQueues
-pub mod HeldLists

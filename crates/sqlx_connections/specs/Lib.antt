@@ -1,2 +1,0 @@
-pub mod HeldList
-pub mod IdleList

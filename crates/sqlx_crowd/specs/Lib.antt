@@ -1,2 +1,0 @@
-pub use Rattle.sqlx_workers.specs.LogText
-pub use Rattle.sqlx_workers.specs.Crowd

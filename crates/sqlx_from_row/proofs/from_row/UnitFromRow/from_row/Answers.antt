@@ -1,5 +1,0 @@
-use Rattle.std.proofs.Common.{refl}
-use Rattle.sqlx_from_row.proofs.from_row.UnitFromRow.from_row.Goals as goal
-
-pub returns : goal.returns
-returns g c = refl

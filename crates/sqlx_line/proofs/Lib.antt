@@ -1,4 +1,0 @@
-pub mod Rising
-pub mod Edge
-pub mod Places
-pub mod Served

@@ -1,5 +1,0 @@
-use Rattle.sqlx_line.proofs.Served.{leaves_with}
-use Rattle.sqlx_line.proofs.laws.leaves_with_a_permit.Goals as goal
-
-pub returns : goal.returns
-returns c = leaves_with

@@ -1,5 +1,0 @@
-use Rattle.sqlx_line.proofs.Served.{one_move}
-use Rattle.sqlx_line.proofs.laws.one_move_a_permit.Goals as goal
-
-pub returns : goal.returns
-returns c = one_move

@@ -1,0 +1,9 @@
+pub mod Rows
+pub mod Cuts
+pub mod Digits
+pub mod FirstLines
+pub mod Fronts
+pub mod Values
+pub mod LeadingDigits
+pub mod ToldLines
+pub mod Readings

@@ -1,5 +1,0 @@
-use Rattle.sqlx_log.proofs.FairLaws.{says-the-same}
-use Rattle.sqlx_log.proofs.laws.one_view_says_the_same.Goals as goal
-
-pub returns : goal.returns
-returns c = says-the-same

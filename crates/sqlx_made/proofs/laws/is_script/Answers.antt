@@ -1,5 +1,0 @@
-use Rattle.sqlx_made.proofs.Valid.{made_is_script}
-use Rattle.sqlx_made.proofs.laws.is_script.Goals as goal
-
-pub returns : goal.returns
-returns c = made_is_script

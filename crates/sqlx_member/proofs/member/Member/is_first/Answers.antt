@@ -1,5 +1,0 @@
-use Rattle.std.proofs.Common.{rules}
-use Rattle.sqlx_member.proofs.member.Member.is_first.Goals as goal
-
-pub returns : goal.returns
-returns g c = search rules

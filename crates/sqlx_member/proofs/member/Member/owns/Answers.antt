@@ -1,5 +1,0 @@
-use Rattle.std.proofs.Common.{arith}
-use Rattle.sqlx_member.proofs.member.Member.owns.Goals as goal
-
-pub loan_for-requires : goal.loan_for-requires
-loan_for-requires g c = let once = c.self.invariant.0.once c.args.id in omega (arith, once)

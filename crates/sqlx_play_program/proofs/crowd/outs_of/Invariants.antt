@@ -1,0 +1,6 @@
+use Rattle.std.proofs.Common.{◌≡◌, ◌≤◌, vec_len, vec_capacity}
+use Rattle.sqlx_play_program.proofs.crowd.outs_of.Given as goal
+
+-- an outside a round
+abbrev pub invariant-loop-at : goal.invariant-loop-at
+invariant-loop-at g l = (vec_len l.outs ≡ l._at) × (l.workers ≤ vec_capacity l.outs)

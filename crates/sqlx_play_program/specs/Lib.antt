@@ -1,0 +1,4 @@
+pub mod Commands
+pub mod MadeRuns
+pub mod CrowdRuns
+pub mod Program

@@ -1,0 +1,4 @@
+pub mod Cuts
+pub mod Fails
+pub mod Pieces
+pub mod scripts

@@ -1,0 +1,11 @@
+pub mod Faults
+pub mod Status
+pub mod Pieces
+pub mod Calls
+pub mod Memory
+pub mod Standard
+pub mod Language
+pub mod Output
+pub mod Causes
+pub mod Responds
+pub mod Plays

@@ -1,0 +1,11 @@
+use Rattle.std.proofs.Common.{◌∙◌}
+use Rattle.sqlx_pool_history.proofs.Showing.{showed_value}
+use Rattle.sqlx_pool.proofs.KeptLemmas.{goes_on}
+use Rattle.sqlx_pool.proofs.SeenLemmas.{back-filled}
+use Rattle.sqlx_pool.proofs.kept.Kept.minimum_done.Goals as goal
+
+pub add-requires : goal.add-requires
+add-requires g c = goes_on c.show.new.self c.self.inside.locked c.minimum_done-back.new.self _ c.show.ensures.last c.minimum_done-back.ensures.marks
+
+pub returns-clause-saw : goal.returns-clause-saw
+returns-clause-saw g c = λ some. showed_value _ c.show.new.me _ c.show.new.self c.self.inside.locked c.minimum_done-back.new.self _ c.show.ensures.all c.show.ensures.later c.show.ensures.ends (c.front.ensures ∙ c.add.ensures.added) (c.facts.ensures, back-filled c.self.inside.locked c.args.raw c.minimum_done-back.result c.minimum_done-back.ensures.answer some)

@@ -1,0 +1,5 @@
+use Rattle.sqlx_pool.proofs.KeptLemmas.{goes_on}
+use Rattle.sqlx_pool.proofs.kept.Kept.start.Goals as goal
+
+pub add-requires : goal.add-requires
+add-requires g c = goes_on c.self.inside.history c.self.inside.locked c.start-start.new.self _ c.self.invariant c.start-start.ensures.marks

@@ -1,0 +1,35 @@
+-- What a pool has to reap and to open, and when a call that opens for the minimum ends.
+use Rattle.std.specs.Prelude.{◌≡◌, ◌⊎◌, ℕ, ⊤, Bool, true, false, Option}
+use Rattle.sqlx_text.specs.declared.Moment.{Moment}
+use Rattle.sqlx_pool_marks.specs.EventTable.{reaped_at, has_place_at}
+use Rattle.sqlx_pool_lists.specs.declared.options.PoolOptions.{PoolOptions}
+use Rattle.sqlx_pool_lists.specs.declared.steps.Openings.{Openings}
+use Rattle.sqlx_pool_lists.specs.Limits.{limits_of}
+use Rattle.sqlx_pool_core.specs.Logs.{moment_of}
+use Rattle.sqlx_pool.specs.Places.{holds_place}
+use Rattle.sqlx_pool_parts.specs.State.{PoolState}
+use Rattle.sqlx_pool_parts.specs.declared.filled.Filled.{Filled}
+use Rattle.sqlx_pool_parts.specs.declared.filled.Filled.TheVariants as filled
+
+module _ {C O : Type 0} where
+  -- the idle connection that is reaped first at this moment, if one is
+  abbrev pub to_reap : Moment → PoolState C O → Option ℕ
+  to_reap now state = reaped_at (limits_of state.core.options) state.core.places state.marks (moment_of state.core now)
+
+  -- a connection may be opened for the minimum
+  abbrev pub has_room : PoolState C O → Bool
+  has_room state = has_place_at (limits_of state.core.options) state.core.places state.marks state.core.options.min_connections
+
+  -- no connection may be opened for the minimum, or no place is held for one
+  abbrev pub IsFilled : PoolState C O → Type 0
+  IsFilled state = (has_room state ≡ false) ⊎ (holds_place state.core ≡ false)
+
+-- why a try for the minimum opened nothing, but for want of memory: the pool had no place, or a refusal was counted
+abbrev pub IfUnfilled : Filled → Type 0 → Type 0 → Type 0
+IfUnfilled filled.Full saw counted = saw
+IfUnfilled filled.Refused saw counted = counted
+IfUnfilled other saw counted = ⊤
+
+-- keeping the minimum ends where as many were opened as the pool may have, for want of memory, where the pool had no place, or where a refusal was counted
+abbrev pub EndsKeeping : PoolOptions → Type 0 → Type 0 → Openings → Type 0
+EndsKeeping options saw counted openings = (openings.opened ≡ options.max_connections) ⊎ (openings.short ≡ true) ⊎ saw ⊎ counted

@@ -1,0 +1,151 @@
+//! A connection that was asked for and isn't there yet.
+
+ghost use Rattle.std.specs.Prelude.{◌≡◌, ℕ, ◌+◌, ◌<◌, ◌≤◌, false};
+ghost use Rattle.sqlx_pool_lists.specs.Balance.{one_if};
+ghost use Rattle.sqlx_pool_parts.specs.Booked.{CountsIf};
+ghost use Rattle.sqlx_pool.specs.Polling.{is_ready, IfReady, IfFailed, IfPending};
+ghost use Rattle.sqlx_pool.specs.Refusals.{IsEnd, IsPollRefusal};
+ghost use Rattle.sqlx_pool.specs.Seen.{SeesStep};
+ghost use Rattle.sqlx_pool.specs.Stage.{has_lent, IfLent, IfEnded};
+ghost use Rattle.sqlx_pool.specs.Steps.{Cancels};
+
+mod waits;
+
+use crate::stage::{Stage, Why};
+use crate::stood::FrontOf;
+use crate::{Held, Loans, PoolConnectionOf, PoolOf, Tally};
+use sqlx_pool_core::Outside;
+use sqlx_pool_parts::checks::close_left;
+use sqlx_text::{Depth, Error, Moment};
+use std::alloc::Global;
+use std::sync::Wait;
+use std::sync::ledger::Ledger;
+
+/// What a poll came to.
+pub enum Polling<T, P> {
+    /// The connection is lent.
+    Ready(T),
+    /// Poll again later.
+    Pending(P, Why),
+    /// The ticket ended.
+    Failed(Error),
+}
+
+/// What a poll of a pool came to.
+pub type PoolPollOf<C, O, H, L> = Polling<PoolConnectionOf<C, O, H, L>, AcquiringOf<C, O, H, L>>;
+
+/// A ticket of a client. It ends by a poll that answers a connection or an error, or by `cancel`; it can't be let go
+/// otherwise.
+pub struct AcquiringOf<C: Depth, O, H: Ledger, L: Loans> {
+    pool: PoolOf<C, O, H, L>,
+    pub(crate) client: u32,
+    pub(crate) ticket: u64,
+}
+
+impl<C: Depth + Drop, O: Drop, H: Ledger, L: Loans> AcquiringOf<C, O, H, L> {
+    pub(crate) fn new(pool: PoolOf<C, O, H, L>, client: u32, ticket: u64) -> Self
+        ensures { (result.client ≡ client) × (result.ticket ≡ ticket) }
+    {
+        AcquiringOf {
+            pool,
+            client,
+            ticket,
+        }
+    }
+
+    /// The number of the ticket.
+    pub fn ticket(&self) -> u64
+        ensures { result ≡ self.now.ticket }
+    {
+        self.ticket
+    }
+
+    /// Polls the ticket: idle connections are tested by ping and hook where they are set, at most `idle_tries` of them up
+    /// to the first that passes; then, or where none is idle, a connection is opened. What isn't lent is closed. The lock isn't held meanwhile. The tally
+    /// counts a loan.
+    pub fn poll<R: Wait, X: Outside<C, O>>(
+        self,
+        rt: &R,
+        alloc: Global,
+        now: Moment,
+        out: &mut X,
+        tally: &mut Tally<L>,
+    ) -> PoolPollOf<C, O, H, L>
+        ensures tally { CountsIf (is_ready result) tally.old tally.new }
+        ensures flat { IfReady result (λ conn. C.levels conn.raw ≡ 0) }
+        ensures again { IfPending result (λ waits. (waits.client ≡ self.client) × (waits.ticket ≡ self.ticket)) }
+        ensures causes { IfFailed result (IsPollRefusal (X.faults out.old) (X.faults out.new)) }
+        ensures counts { (X.faults out.old ≤ X.faults out.new) × (X.refusals out.old ≤ X.refusals out.new) }
+    {
+        let begun = self
+            .pool
+            .lock(rt)
+            .begin(rt, self.client, self.ticket, now, tally);
+        self.go_on::<R, X>(rt, alloc, now, begun, out, tally)
+    }
+
+    // Goes on with a poll that was begun. Where the ticket ends without a loan, those that wait are told.
+    fn go_on<R: Wait, X: Outside<C, O>>(
+        self,
+        rt: &R,
+        alloc: Global,
+        now: Moment,
+        begun: Stage<C, Held<H>>,
+        out: &mut X,
+        tally: &mut Tally<L>,
+    ) -> PoolPollOf<C, O, H, L>
+        requires flat { IfLent begun (λ lent. C.levels lent.raw ≡ 0) }
+        requires causes { IfEnded begun IsEnd }
+        ensures parts { tally.new.parts ≡ tally.old.parts }
+        ensures loans { tally.new.loans + one_if (has_lent begun) ≡ tally.old.loans + one_if (is_ready result) }
+        ensures flat { IfReady result (λ conn. C.levels conn.raw ≡ 0) }
+        ensures again { IfPending result (λ waits. (waits.client ≡ self.client) × (waits.ticket ≡ self.ticket)) }
+        ensures causes { IfFailed result (IsPollRefusal (X.faults out.old) (X.faults out.new)) }
+        ensures counts { (X.faults out.old ≤ X.faults out.new) × (X.refusals out.old ≤ X.refusals out.new) }
+    {
+        let AcquiringOf {
+            pool,
+            client,
+            ticket,
+        } = self;
+        let tries = pool.shared.options.get_idle_tries();
+        let tested = pool.test::<R, X>(rt, client, ticket, begun, tries, out, tally);
+        let stage = pool.open_wanted::<R, X>(rt, alloc, client, ticket, now, tested, out, tally);
+        match stage {
+            Stage::Lent(lent, held) => {
+                Polling::Ready(PoolConnectionOf::new(pool, client, lent, held))
+            }
+            Stage::Pending(why) => Polling::Pending(AcquiringOf::new(pool, client, ticket), why),
+            Stage::Failed(error) => {
+                pool.notify();
+                drop(pool);
+                Polling::Failed(error)
+            }
+            Stage::Left { raw, hard, error } => {
+                pool.notify();
+                drop(pool);
+                close_left::<C, O, X>(raw, hard, out);
+                Polling::Failed(error)
+            }
+            Stage::Test(_, _) | Stage::Connect => unreachable!(),
+        }
+    }
+
+    /// Gives the ticket up. It ends, and frees what it held: true.
+    pub fn cancel<R: Wait>(self, rt: &R) -> bool {
+        let mut me = self.pool.front();
+        self.cancel_seen(rt, &mut me)
+    }
+
+    /// As `cancel`. The front of the caller then ends with the step.
+    pub fn cancel_seen<R: Wait>(self, rt: &R, me: &mut FrontOf<C, O, L>) -> bool
+        ensures { SeesStep C.levels L.max L.cuts me.old me.new (Cancels self.client self.ticket result) }
+    {
+        let AcquiringOf {
+            pool,
+            client,
+            ticket,
+        } = self;
+        pool.cancel(rt, client, ticket, me)
+    }
+}

@@ -1,0 +1,237 @@
+//! Waiting for a connection: polls of a ticket, between which the thread sleeps until a step may have freed something.
+
+ghost use Rattle.std.specs.Prelude.{◌≡◌, ℕ, ◌+◌, ◌<◌, ◌≤◌, ◌⊎◌, true, is_some, IfSome, IfOk, IfErr, OnOk, OnErr};
+ghost use Rattle.sqlx_text.specs.declared.error.Error.{Error};
+ghost use Rattle.sqlx_pool_parts.specs.Answers.{lent_alone};
+ghost use Rattle.sqlx_pool_parts.specs.Booked.{CountsIf};
+ghost use Rattle.sqlx_pool.specs.Polling.{is_ready, IfReady, IfFailed};
+ghost use Rattle.sqlx_pool.specs.Refusals.{IsEnd, IsPollRefusal};
+ghost use Rattle.sqlx_pool.specs.Stage.{has_lent, IfLent, IfEnded};
+
+use super::AcquiringOf;
+use crate::kept::Kept;
+use crate::pool::Guard;
+use crate::stage::{Stage, Why};
+use crate::{Clock, Held, Loans, Polling, PoolConnectionOf, PoolOf, PoolPollOf, Tally};
+use sqlx_pool_core::{Lent, Outside, PoolOptions};
+use sqlx_pool_parts::checks;
+use sqlx_text::{Depth, Error, Moment};
+use std::alloc::Global;
+use std::sync::Wait;
+use std::sync::ledger::Ledger;
+
+// Where no more tickets than these haven't ended, one that waits looks for its call before it sleeps: its turn comes
+// soon, and the threads that bring it have processors.
+const LOOKERS: usize = 3;
+
+// When a ticket that is asked for at this moment has no time left.
+fn deadline(options: &PoolOptions, moment: Moment) -> u128 {
+    u128::from(moment.0) + u128::from(options.get_acquire_timeout())
+}
+
+impl<C: Depth, O, H: Ledger, L: Loans> Kept<C, O, H, L> {
+    // Asks, and begins the first poll.
+    fn ask_and_begin<R: Wait>(
+        &mut self,
+        rt: &R,
+        alloc: Global,
+        client: u32,
+        now: Moment,
+        tally: &mut Tally<L>,
+    ) -> Result<(u64, Stage<C, Held<H>>), Error>
+        ensures tally { IfOk result (λ asked. CountsIf (has_lent asked.1) tally.old tally.new) }
+        ensures flat { IfOk result (λ asked. IfLent asked.1 (λ lent. C.levels lent.raw ≡ 0)) }
+        ensures ended { IfOk result (λ asked. IfEnded asked.1 IsEnd) }
+        ensures causes { IfErr result (λ e. (e ≡ Error.PoolClosed) ⊎ ((e ≡ Error.Exhausted) ⊎ (e ≡ Error.OutOfMemory))) }
+        ensures err { OnErr result (tally.new ≡ tally.old) }
+    {
+        let mut me = self.front();
+        match self.ask(rt, alloc, now, client, &mut me) {
+            Ok(ticket) => Ok((ticket, self.begin(rt, client, ticket, now, tally))),
+            Err(error) => Err(error),
+        }
+    }
+
+    // Serves an ask at once, where it would be served so and the test of an idle connection asks nothing of the outside.
+    fn serve_untested<R: Wait>(
+        &mut self,
+        rt: &R,
+        alloc: Global,
+        client: u32,
+        now: Moment,
+        tally: &mut Tally<L>,
+    ) -> Option<(Lent<C>, Held<H>)>
+        ensures tally { CountsIf (is_some result) tally.old tally.new }
+        ensures flat { IfSome (lent_alone result) (λ l. C.levels l.raw ≡ 0) }
+    {
+        if checks::tests_nothing(self.locked().options()) {
+            self.serve_new(rt, alloc, now, client, tally)
+        } else {
+            None
+        }
+    }
+}
+
+impl<C: Depth + Drop, O: Drop, H: Ledger, L: Loans> PoolOf<C, O, H, L> {
+    // Lets the lock go. Where the ticket waits, it then sleeps until it is called, or has no time left; in backoff it
+    // sleeps until the next try, unless it is called.
+    //
+    // No call is missed. The lock was held since the step that said `Waiting`, so the ticket isn't entitled yet, and the
+    // calls of its place are counted as they are now. A step that entitles it moves the edge past it under a later
+    // holding, and then its maker calls its place (`unlock`), or all places (`notify`), as after a close: that raises the
+    // count, and a sleep on another count ends, or doesn't begin. The step of a client that entitles its own ticket
+    // calls nobody, for it is awake.
+    fn sleep_if_waiting<R: Wait>(
+        &self,
+        rt: &R,
+        guard: Guard<'_, C, O, H, L>,
+        ticket: u64,
+        now: Moment,
+        deadline: u128,
+        begun: &Stage<C, Held<H>>,
+    ) {
+        let mut guard = guard;
+        let place = self.shared.sleepers.place(ticket);
+        let calls = place.calls();
+        let looks = guard.locked().num_tickets() <= LOOKERS;
+        let entitled = guard.entitled();
+        drop(guard);
+        if let Some(other) = entitled {
+            if other != ticket {
+                self.shared.sleepers.call(other);
+            }
+        }
+        match begun {
+            Stage::Pending(Why::Waiting) => place.sleep(rt, calls, looks, now, deadline),
+            Stage::Pending(Why::Backoff(until)) => place.sleep(rt, calls, false, now, *until),
+            _ => {}
+        }
+    }
+
+    // Asks, and begins the first poll; sleeps where the ticket waits.
+    fn ask_or_sleep<R: Wait>(
+        &self,
+        rt: &R,
+        guard: Guard<'_, C, O, H, L>,
+        alloc: Global,
+        client: u32,
+        now: Moment,
+        deadline: u128,
+        tally: &mut Tally<L>,
+    ) -> Result<(u64, Stage<C, Held<H>>), Error>
+        ensures tally { IfOk result (λ asked. CountsIf (has_lent asked.1) tally.old tally.new) }
+        ensures flat { IfOk result (λ asked. IfLent asked.1 (λ lent. C.levels lent.raw ≡ 0)) }
+        ensures ended { IfOk result (λ asked. IfEnded asked.1 IsEnd) }
+        ensures causes { IfErr result (λ e. (e ≡ Error.PoolClosed) ⊎ ((e ≡ Error.Exhausted) ⊎ (e ≡ Error.OutOfMemory))) }
+        ensures err { OnErr result (tally.new ≡ tally.old) }
+    {
+        let mut guard = guard;
+        match guard.ask_and_begin(rt, alloc, client, now, tally) {
+            Ok((ticket, begun)) => {
+                self.sleep_if_waiting(rt, guard, ticket, now, deadline, &begun);
+                Ok((ticket, begun))
+            }
+            Err(error) => Err(error),
+        }
+    }
+
+    /// Asks for a connection and waits for it. While its ticket waits in the line, the thread sleeps until a step frees
+    /// something or closes the pool, or the ticket has no time left; in backoff it sleeps until the next try. Then it
+    /// reads the clock again and polls. It may never return: a ticket whose time is over by the clock ends only when it is
+    /// polled.
+    pub fn acquire_wait<R: Wait, K: Clock, X: Outside<C, O>>(
+        &self,
+        rt: &R,
+        alloc: Global,
+        clock: &mut K,
+        client: u32,
+        out: &mut X,
+        tally: &mut Tally<L>,
+    ) -> Result<PoolConnectionOf<C, O, H, L>, Error>
+        ensures lent { OnOk result (CountsIf true tally.old tally.new) }
+        ensures refused { OnErr result (tally.new ≡ tally.old) }
+        ensures flat { IfOk result (λ conn. C.levels conn.raw ≡ 0) }
+        ensures causes { IfErr result (IsPollRefusal (X.faults out.old) (X.faults out.new)) }
+        ensures counts { (X.faults out.old ≤ X.faults out.new) × (X.refusals out.old ≤ X.refusals out.new) }
+    {
+        let Ok(pool) = self.try_clone() else {
+            return Err(Error::OutOfMemory);
+        };
+        let now = clock.now();
+        let mut guard = self.lock_and_cut(rt);
+        if let Some((lent, held)) = guard.serve_untested(rt, alloc, client, now, tally) {
+            drop(guard);
+            return Ok(PoolConnectionOf::new(pool, client, lent, held));
+        }
+        let deadline = deadline(&self.shared.options, guard.locked().moment(now));
+        match self.ask_or_sleep(rt, guard, alloc, client, now, deadline, tally) {
+            Ok((ticket, begun)) => {
+                let asked = AcquiringOf::new(pool, client, ticket);
+                match asked.go_on::<R, X>(rt, alloc, now, begun, out, tally) {
+                    Polling::Ready(conn) => Ok(conn),
+                    Polling::Failed(error) => Err(error),
+                    Polling::Pending(asked, _) => {
+                        asked.wait::<R, K, X>(rt, alloc, clock, deadline, out, tally)
+                    }
+                }
+            }
+            Err(error) => {
+                drop(pool);
+                Err(error)
+            }
+        }
+    }
+}
+
+impl<C: Depth + Drop, O: Drop, H: Ledger, L: Loans> AcquiringOf<C, O, H, L> {
+    // Polls until the ticket ends.
+    #[tactic(auto, using(crate::proofs::RefusalLemmas::refusal_sooner))]
+    fn wait<R: Wait, K: Clock, X: Outside<C, O>>(
+        self,
+        rt: &R,
+        alloc: Global,
+        clock: &mut K,
+        deadline: u128,
+        out: &mut X,
+        tally: &mut Tally<L>,
+    ) -> Result<PoolConnectionOf<C, O, H, L>, Error>
+        ensures lent { OnOk result (CountsIf true tally.old tally.new) }
+        ensures refused { OnErr result (tally.new ≡ tally.old) }
+        ensures flat { IfOk result (λ conn. C.levels conn.raw ≡ 0) }
+        ensures causes { IfErr result (IsPollRefusal (X.faults out.old) (X.faults out.new)) }
+        ensures counts { (X.faults out.old ≤ X.faults out.new) × (X.refusals out.old ≤ X.refusals out.new) }
+    {
+        let mut asked = self;
+        for _round in rt.forever() {
+            match asked.poll_or_sleep::<R, K, X>(rt, alloc, clock, deadline, out, tally) {
+                Polling::Ready(conn) => return Ok(conn),
+                Polling::Failed(error) => return Err(error),
+                Polling::Pending(again, _) => asked = again,
+            }
+        }
+        unreachable!()
+    }
+
+    // Polls, and sleeps where the ticket waits or is in backoff.
+    fn poll_or_sleep<R: Wait, K: Clock, X: Outside<C, O>>(
+        self,
+        rt: &R,
+        alloc: Global,
+        clock: &mut K,
+        deadline: u128,
+        out: &mut X,
+        tally: &mut Tally<L>,
+    ) -> PoolPollOf<C, O, H, L>
+        ensures tally { CountsIf (is_ready result) tally.old tally.new }
+        ensures flat { IfReady result (λ conn. C.levels conn.raw ≡ 0) }
+        ensures causes { IfFailed result (IsPollRefusal (X.faults out.old) (X.faults out.new)) }
+        ensures counts { (X.faults out.old ≤ X.faults out.new) × (X.refusals out.old ≤ X.refusals out.new) }
+    {
+        let now = clock.now();
+        let mut guard = self.pool.lock(rt);
+        let begun = guard.begin(rt, self.client, self.ticket, now, tally);
+        self.pool
+            .sleep_if_waiting(rt, guard, self.ticket, now, deadline, &begun);
+        self.go_on::<R, X>(rt, alloc, now, begun, out, tally)
+    }
+}

@@ -1,4 +1,0 @@
-use Rattle.sqlx_pool_base.proofs.pool.PoolOf.+test.Given as goal
-
-abbrev pub decreases-test : goal.decreases-test
-decreases-test g l = l.left

@@ -1,0 +1,5 @@
+use Rattle.sqlx_pool_core.proofs.Soundness.{sound-ended}
+use Rattle.sqlx_pool_core.proofs.member.Member.end_ticket.Goals as goal
+
+pub invariant_of-self : goal.invariant_of-self
+invariant_of-self g c = (rw c.end.ensures (sound-ended c.args.number c.self.inside.last.0 _ c.self.invariant.0), c.self.invariant.1)

@@ -1,0 +1,4 @@
+pub mod TicketPlaces
+pub mod Counting
+pub mod IdleQueues
+pub mod HeldLists

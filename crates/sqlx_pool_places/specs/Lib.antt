@@ -1,0 +1,5 @@
+pub mod Numbered
+pub mod Notes
+pub mod Rising
+pub mod Line
+pub mod Laws

@@ -1,0 +1,5 @@
+pub mod Query
+pub mod Binding
+pub mod Growing
+pub mod Builder
+pub mod Tuples

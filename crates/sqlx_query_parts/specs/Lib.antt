@@ -1,6 +1,0 @@
-pub mod Query
-pub mod Binding
-pub mod Mapping
-pub mod Growing
-pub mod Builder
-pub mod Tuples

@@ -1,0 +1,3 @@
+pub mod FromRow
+pub mod Tuples
+pub mod Mapping

@@ -1,5 +1,0 @@
-use Rattle.sqlx_rules.proofs.Holds.{line-script}
-use Rattle.sqlx_rules.proofs.laws.in_turn.Goals as goal
-
-pub returns : goal.returns
-returns c = line-script

@@ -1,5 +1,0 @@
-use Rattle.sqlx_rules.proofs.Holds.{lends_once-script}
-use Rattle.sqlx_rules.proofs.laws.no_two_owners.Goals as goal
-
-pub returns : goal.returns
-returns c = lends_once-script

@@ -1,5 +1,0 @@
-use Rattle.sqlx_rules.proofs.InTurn.{stops-in-turn}
-use Rattle.sqlx_rules.proofs.laws.stops_waiting_in_turn.Goals as goal
-
-pub returns : goal.returns
-returns c = stops-in-turn

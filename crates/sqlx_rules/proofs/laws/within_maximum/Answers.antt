@@ -1,5 +1,0 @@
-use Rattle.sqlx_rules.proofs.Holds.{within-script}
-use Rattle.sqlx_rules.proofs.laws.within_maximum.Goals as goal
-
-pub returns : goal.returns
-returns c = within-script

@@ -1,7 +1,0 @@
-use Rattle.sqlx_rules.specs.Answer.{answer}
-use Rattle.sqlx_stage.proofs.upkeep.Minimum.{plays-min}
-use Rattle.sqlx_stage.proofs.stage.upkeep.min.min.Goals as goal
-
-pub returns-clause-ok : goal.returns-clause-ok
-unfolding answer
-returns-clause-ok c pairs s = plays-min c.args.stage.now _ pairs c.args.moment c.args.opens _ s c.in_ok-opened.ensures.ok

@@ -1,4 +1,0 @@
-pub mod ScriptRuns
-pub mod outside
-pub mod stage
-pub mod events

@@ -1,4 +1,0 @@
-mod ByTexts
-mod Examples
-mod Inserted
-mod Summaries

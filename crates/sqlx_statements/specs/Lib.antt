@@ -1,5 +1,0 @@
-pub mod Cache
-pub mod CacheLends
-pub mod Summary
-pub mod Logging
-pub mod Logger

@@ -1,0 +1,9 @@
+pub mod Counting
+pub mod TextLemmas
+pub mod StepLemmas
+pub mod Keeping
+pub mod Standing
+pub mod Driving
+pub mod Commanding
+pub mod Defining
+pub mod Answering

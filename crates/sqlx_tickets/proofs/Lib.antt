@@ -1,2 +1,0 @@
-pub mod TicketPlaces
-pub mod Counting

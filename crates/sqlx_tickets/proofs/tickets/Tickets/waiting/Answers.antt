@@ -1,7 +1,0 @@
-use Rattle.std.proofs.Common.{arith}
-use Rattle.sqlx_numbered.specs.Rising.{things_at}
-use Rattle.sqlx_tickets.proofs.TicketPlaces.{all-counted}
-use Rattle.sqlx_tickets.proofs.tickets.Tickets.waiting.Goals as goal
-
-pub returns : goal.returns
-returns c = rw (← c.self.view_is) (omega (arith, all-counted (things_at c.self.inside.places.items), c.self.invariant.counted_right, c.self.invariant.out_right))

@@ -1,0 +1,13 @@
+pub mod Acts
+pub mod MoveLemmas
+pub mod Pools
+pub mod Depths
+pub mod Clients
+pub mod EventSteps
+pub mod Connections
+pub mod Bankings
+pub mod AtPlace
+pub mod Taking
+pub mod Shows
+pub mod OpeningLemmas
+pub mod Worked

@@ -1,0 +1,10 @@
+use Rattle.std.proofs.Common.{max, Some, ap, ◌∙◌}
+use Rattle.sqlx_pool_lists.specs.Core.{Core}
+use Rattle.sqlx_pool_lists.specs.MaintenanceSteps.{done}
+use Rattle.sqlx_transfer.proofs.Pools.{opens_one}
+use Rattle.sqlx_transfer.proofs.pool.opened.Goals as goal
+
+pub returns : goal.returns
+returns g c = λ n idle pool room.
+    opens_one n c.args.pool.now.pool c.minimum_done.new.self.pool idle c.args.raw pool room
+    (c.minimum_done.ensures.becomes ∙ ap (λ (d : Core g.row.C.Denot). done d.shut (max d.last 0) (Some c.args.raw) d) c.if-not-minimum_place.ensures.becomes)
