@@ -72,6 +72,15 @@ nearly-still core line near still = record {
     by (inl none) = omega (arith, none, few-entitled line, near.enough)
     by (inr full) = omega (arith, full, few-entitled line, near.enough)
 
+pub nearly-lined : {C : Type 0} (core : Core C) (line : TicketLine) → IsLined core line → IsNearlyLined core line
+nearly-lined core line l = record {
+  numbers = l.numbers;
+  enough = omega (arith, l.served);
+  near = omega (arith, l.served);
+  edge = l.edge;
+  few_moves = l.few_moves;
+}
+
 -- ---- what steps leave
 
 -- a step that leaves the waiting tickets, and frees one permit at most
@@ -153,15 +162,14 @@ nearly-ended old new t line s l same frees next = by f.either
     }
 
 -- a ticket left the line with a permit, where it waited
-pub nearly-left : {C : Type 0} (old new : Core C) (t : ℕ) (line : TicketLine) → IsSound old → IsLined old line → waiting_numbers new.tickets ≡ left_out t (waiting_numbers old.tickets) → free new + one_if_waiting t line ≡ free old
-    → (is_waiting t line ≡ true → is_below_edge t line ≡ true) → old.next_ticket ≤ new.next_ticket → IsNearlyLined new (without t line)
-nearly-left old new t line s l same takes entitled next =
+pub lined-left : {C : Type 0} (old new : Core C) (t : ℕ) (line : TicketLine) → IsSound old → IsLined old line → waiting_numbers new.tickets ≡ left_out t (waiting_numbers old.tickets) → free new + one_if_waiting t line ≡ free old
+    → (is_waiting t line ≡ true → is_below_edge t line ≡ true) → old.next_ticket ≤ new.next_ticket → IsLined new (without t line)
+lined-left old new t line s l same takes entitled next =
     let f : Fewer t line = fewer t 1 old.next_ticket line (line-rises old line s l) in
     let too : f.left ≡ f.one = f.all entitled in
     record {
       numbers = ap (left_out t) l.numbers ∙ sym same;
-      enough = omega (arith, takes, f.is_one, f.entitled_too, l.served, too);
-      near = omega (arith, takes, f.is_one, f.waiting, f.entitled_too, l.served, too);
+      served = omega (arith, takes, f.is_one, f.waiting, f.entitled_too, l.served, too);
       edge = omega (arith, l.edge, next);
       few_moves = omega (arith, l.few_moves, next, f.waiting, f.entitled_too, too);
     }
@@ -200,6 +208,17 @@ lined-past old new line l few same takes next =
     record {
       numbers = l.numbers ∙ sym same;
       served = omega (arith, l.served, takes, n, few);
+      edge = omega (arith, l.edge, next);
+      few_moves = omega (arith, l.few_moves, next);
+    }
+
+-- permits are freed, where as many are free as tickets wait
+pub lined-all : {C : Type 0} (old new : Core C) (line : TicketLine) → IsLined old line → waiting old.tickets ≤ free old → waiting_numbers new.tickets ≡ waiting_numbers old.tickets → free old ≤ free new → old.next_ticket ≤ new.next_ticket → IsLined new line
+lined-all old new line l all same more next =
+    let n : length line.waiting ≡ waiting old.tickets = ap length l.numbers ∙ length-numbers old.tickets in
+    record {
+      numbers = l.numbers ∙ sym same;
+      served = omega (arith, l.served, more, n, all);
       edge = omega (arith, l.edge, next);
       few_moves = omega (arith, l.few_moves, next);
     }

@@ -26,6 +26,8 @@ use Rattle.sqlx_pool_lists.specs.declared.steps.Given.{Given}
 use Rattle.sqlx_pool_lists.specs.declared.steps.Given.TheVariants as given
 use Rattle.sqlx_pool_lists.specs.declared.steps.Tried.{Tried}
 use Rattle.sqlx_pool_lists.specs.declared.steps.Verdict.{Verdict}
+use Rattle.sqlx_pool_lists.specs.declared.steps.Verdict.TheVariants as verdict
+use Rattle.sqlx_text.specs.declared.Moment.{Moment}
 use Rattle.sqlx_pool_lists.specs.declared.steps.AfterTest.{AfterTest}
 use Rattle.sqlx_pool_lists.specs.declared.steps.AfterTest.TheVariants as tested
 use Rattle.sqlx_pool_lists.specs.declared.steps.AfterConnect.{AfterConnect}
@@ -44,7 +46,8 @@ use Rattle.sqlx_pool_core.specs.KeptLine.{waiting_numbers, IsLined, IsNearlyLine
 use Rattle.sqlx_pool_lists.proofs.TicketPlaces.{all-counted}
 use Rattle.sqlx_pool_core.proofs.PollCode.{among}
 use Rattle.sqlx_pool_core.proofs.WaitingNumbers.{length-numbers, numbers-asked, numbers-ended, numbers-left, numbers-without, numbers-with, before-numbers}
-use Rattle.sqlx_pool_core.proofs.KeptLine.{nearly-beside, nearly-ended, nearly-left, nearly-asked, lined-beside, lined-past, one_if_waiting, Fewer, fewer, line-rises}
+use Rattle.sqlx_pool_core.specs.LonePool.{IfGoesOn}
+use Rattle.sqlx_pool_core.proofs.KeptLine.{nearly-beside, nearly-ended, nearly-lined, nearly-asked, lined-beside, lined-past, lined-left, lined-all, one_if_waiting, Fewer, fewer, line-rises}
 
 -- ---- a step that leaves the waiting tickets
 
@@ -68,6 +71,12 @@ beside-by old new s same permits less least next =
       most = omega (arith, w, permits, least, all-counted old.tickets, all-counted new.tickets, s.paid);
       next = next;
     }
+
+-- a step that leaves as many of what holds permits, and the waiting tickets
+lined-by : {C : Type 0} (old new : Core C) (line : TicketLine) → IsLined old line → waiting_numbers new.tickets ≡ waiting_numbers old.tickets → new.permits ≡ old.permits → held_or_asked new ≡ held_or_asked old → old.next_ticket ≤ new.next_ticket → IsLined new line
+lined-by old new line l same permits as_many next =
+    let w : waiting new.tickets ≡ waiting old.tickets = sym (length-numbers new.tickets) ∙ ap length same ∙ length-numbers old.tickets in
+    lined-beside old new line l same (omega (arith, w, permits, as_many, all-counted old.tickets, all-counted new.tickets)) next
 
 pub beside-self : {C : Type 0} (core : Core C) → Beside core core
 beside-self core = record { numbers = refl; more = omega arith; most = omega arith; next = omega arith }
@@ -115,6 +124,10 @@ done-beside {C} core new closed m raw s some is = subst (Beside core) (sym is) (
     by false (Some raw) = beside-by core (done false m (Some raw) core) s refl refl (omega (arith, some)) (omega (arith, some)) (omega arith)
     by false None = beside-by core (done false m None core) s refl refl (omega (arith, some)) (omega (arith, some)) (omega arith)
     by true raw = beside-by core (done true m raw core) s refl refl (omega (arith, some)) (omega (arith, some)) (omega arith)
+
+-- a place is given back where as many permits are free as tickets wait
+pub done-lined : {C : Type 0} (core new : Core C) (line : TicketLine) (closed : Bool) (m : ℕ) (raw : Option C) → IsSound core → IsLined core line → 1 ≤ core.places → new ≡ done closed m raw core → waiting core.tickets ≤ free core → IsLined new line
+done-lined core new line closed m raw s l some is all = let b = done-beside core new closed m raw s some is in lined-all core new line l all b.numbers b.more b.next
 
 -- ---- no permit is freed
 
@@ -202,6 +215,14 @@ module _ {C : Type 0} (core : Core C) (s : IsSound core) (k t : ℕ) (g : IsGone
       beside-by core (after_connect k t n (connected.Backoff until) core) s (changed_so (λ (x : Ticket). to_back_off (wait_of x) until x) refl) refl (omega (arith, m.tickets, m.held)) (omega (arith, m.tickets, m.held)) (omega arith)
   connect_at n connected.Ended m = beside-by core (after_connect k t n connected.Ended core) s ended_so refl (omega (arith, m.tickets, m.held)) (omega (arith, m.tickets, m.held)) (omega arith)
 
+  -- a test in an open pool frees no permit
+  test_kept : (line : TicketLine) (l : IsLined core line) (c : ℕ) (r : AfterTest C) → Balance core (after_test k t r core) (test_marks k t c r) 0 0 → ((raw : Option C) → r ≡ tested.Closed raw → ⊥) → IsLined (after_test k t r core) line
+  test_kept line l c (tested.NotHeld v) m none = l
+  test_kept line l c (tested.Closed raw) m none = absurd (none raw refl)
+  test_kept line l c (tested.Ready lent) m none = lined-by core (after_test k t (tested.Ready lent) core) line l ended_so refl (omega (arith, m.tickets, m.held)) (omega arith)
+  test_kept line l c (tested.Test i) m none = lined-by core (after_test k t (tested.Test i) core) line l (changed_so (to_next i) refl) refl (omega (arith, m.tickets, m.held)) (omega arith)
+  test_kept line l c tested.Connect m none = lined-by core (after_test k t tested.Connect core) line l (changed_so to_connect refl) refl (omega (arith, m.tickets, m.held)) (omega arith)
+
 out_in : (x : Ticket) (p : Phase) → x.phase ≡ p → is_out p ≡ true → waits x ≡ false
 out_in x p is out = ap (λ (q : Phase). not (is_out q)) is ∙ ap not out
 
@@ -225,6 +246,24 @@ module _ {C : Type 0} (core new : Core C) (s : IsSound core) (k t : ℕ) where
       by : (r ≡ tested.NotHeld v) ⊎ IsGone k t core.tickets → Beside core new
       by (inl none) = subst (Beside core) (sym (is ∙ ap (λ (a : AfterTest C). after_test k t a core) none)) (beside-self core)
       by (inr g) = subst (Beside core) (sym is) (test_at core s k t g (judged v) r (subst (λ (n : Core C). Balance core n (test_marks k t (judged v) r) 0 0) is moves))
+
+  open_test : (o : Option Moment) (next : Bool) (idle : List (Idle C)) (v : Verdict C) (raw : Option C) → tested.Closed raw ≡ test_answer o false next idle v → ⊥
+  open_test None next idle v raw e = cc
+  open_test (Some created) next idle (verdict.Accepted lent) raw e = cc
+  open_test (Some created) true (i ∷ rest) (verdict.Refused n) raw e = cc
+  open_test (Some created) true [] (verdict.Refused n) raw e = cc
+  open_test (Some created) false idle (verdict.Refused n) raw e = cc
+
+  pub test-lined : (line : TicketLine) (v : Verdict C) (shut next : Bool) (r : AfterTest C) → IsLined core line → r ≡ test_answer (tested_at (judged v) (phase_for k t core.tickets)) shut next core.idle v → new ≡ after_test k t r core
+      → Balance core new (test_marks k t (judged v) r) 0 0 → shut ≡ false → IsLined new line
+  test-lined line v shut next r l answer is moves open_is = subst (λ (n : Core C). IsLined n line) (sym is) (by (test_answered v shut next r answer))
+    where
+      none : (raw : Option C) → r ≡ tested.Closed raw → ⊥
+      none raw e = open_test (tested_at (judged v) (phase_for k t core.tickets)) next core.idle v raw (sym e ∙ answer ∙ ap (λ (b : Bool). test_answer (tested_at (judged v) (phase_for k t core.tickets)) b next core.idle v) open_is)
+
+      by : (r ≡ tested.NotHeld v) ⊎ IsGone k t core.tickets → IsLined (after_test k t r core) line
+      by (inl same) = subst (λ (a : AfterTest C). IsLined (after_test k t a core) line) (sym same) l
+      by (inr g) = test_kept core s k t g line l (judged v) r (subst (λ (n : Core C). Balance core n (test_marks k t (judged v) r) 0 0) is moves) none
 
   connect_answered : (shut : Bool) (n m : ℕ) (a : Tried C) (r : AfterConnect C) → r ≡ connect_answer (ticket_of k t core.tickets) shut n m a → (r ≡ connected.NotHeld a) ⊎ IsGone k t core.tickets
   connect_answered shut n m a r is = by (ticket_of k t core.tickets) refl is
@@ -263,9 +302,9 @@ module _ {C : Type 0} (core new : Core C) (line : TicketLine) (t : ℕ) (s : IsS
   goes-ended less next =
       nearly-ended core new t line s l same (omega (arith, permits, less, were, are, gone_by.waiting, gone_by.is_one, gone_by.small, all-counted core.tickets, all-counted new.tickets, s.paid)) next
 
-  goes-left : IsSound new → held_or_asked new ≡ held_or_asked core → (is_waiting t line ≡ true → is_below_edge t line ≡ true) → core.next_ticket ≤ new.next_ticket → IsNearlyLined new (without t line)
+  goes-left : IsSound new → held_or_asked new ≡ held_or_asked core → (is_waiting t line ≡ true → is_below_edge t line ≡ true) → core.next_ticket ≤ new.next_ticket → IsLined new (without t line)
   goes-left n as_many entitled next =
-      nearly-left core new t line s l same (omega (arith, permits, as_many, were, are, gone_by.waiting, gone_by.is_one, gone_by.small, all-counted core.tickets, all-counted new.tickets, s.paid, n.paid)) entitled next
+      lined-left core new t line s l same (omega (arith, permits, as_many, were, are, gone_by.waiting, gone_by.is_one, gone_by.small, all-counted core.tickets, all-counted new.tickets, s.paid, n.paid)) entitled next
 
 -- a cancel
 pub cancel-nearly : {C : Type 0} (core new : Core C) (line : TicketLine) (t : ℕ) (r : Bool) → IsSound core → IsLined core line → new ≡ cancelled t r core → Balance core new (cancel_marks t r) 0 0 → IsNearlyLined new (taken_out r t line)
@@ -339,6 +378,44 @@ entitled_below : (waits below q : Bool) → q ≡ (waits && below) → q ≡ tru
 entitled_below true below q is e = sym is ∙ e
 entitled_below false below q is e = absurd (let no : false ≡ true = sym is ∙ e in cc)
 
+module _ {C : Type 0} (core : Core C) (line : TicketLine) (q : Bool) (k t m : ℕ) (s : IsSound core) (l : IsLined core line) (told : q ≡ (is_in_line (phase_for k t core.tickets) && is_below_edge t line)) where
+  below_edge : GoesOn q k t core.tickets → is_waiting t line ≡ true → is_below_edge t line ≡ true
+  below_edge g w = elim g.why [
+    | inl e ↦ entitled_below (is_in_line (phase_for k t core.tickets)) (is_below_edge t line) q told e
+    | inr gone ↦ gone_not_waiting core line k t s l gone w
+  ]
+
+  starts_test : (i : Idle C) → start.Test i ≡ start_answer (turn_of q core.closed m core (ticket_of k t core.tickets)) core.idle → IsSound (started t m (start.Test i) core)
+      → Balance core (started t m (start.Test i) core) (start_marks t (phase_for k t core.tickets) (start.Test i)) 0 0 → IsLined (started t m (start.Test i) core) (without t line)
+  starts_test i a n v =
+      goes-left core (started t m (start.Test i) core) line t s l (numbers-left t (to_test m i) core.tickets (λ x. refl)) refl n (omega (arith, v.tickets, v.held)) (below_edge (by_turn core q k t m (turn_of q core.closed m core (ticket_of k t core.tickets)) refl (start.Test i) a refl)) (omega arith)
+
+  starts_connect : start.Connect ≡ start_answer (turn_of q core.closed m core (ticket_of k t core.tickets)) core.idle → IsSound (started t m start.Connect core)
+      → Balance core (started t m start.Connect core) (start_marks {C = C} t (phase_for k t core.tickets) start.Connect) 0 0 → IsLined (started t m start.Connect core) (without t line)
+  starts_connect a n v =
+      let asks_none : asks (leaving t (phase_for k t core.tickets) []) ≡ 0 = leaving_counts is_asked t refl (phase_for k t core.tickets) [] in
+      let ends_none : ends (leaving t (phase_for k t core.tickets) []) ≡ 0 = leaving_counts is_ended t refl (phase_for k t core.tickets) [] in
+      let lends_none : lents (leaving t (phase_for k t core.tickets) []) ≡ 0 = leaving_counts is_lent t refl (phase_for k t core.tickets) [] in
+      goes-left core (started t m start.Connect core) line t s l (numbers-left t (to_try m) core.tickets (tries_out m)) refl n (omega (arith, v.tickets, v.held, asks_none, ends_none, lends_none)) (below_edge (by_turn core q k t m (turn_of q core.closed m core (ticket_of k t core.tickets)) refl start.Connect a refl)) (omega arith)
+
+-- a ticket that goes on leaves the line with a permit
+pub start-lined : {C : Type 0} (core new : Core C) (line : TicketLine) (q : Bool) (k t m : ℕ) (r : Start C) → IsSound core → IsSound new → IsLined core line → q ≡ (is_in_line (phase_for k t core.tickets) && is_below_edge t line)
+    → r ≡ start_answer (turn_of q core.closed m core (ticket_of k t core.tickets)) core.idle → new ≡ started t m r core → Balance core new (start_marks t (phase_for k t core.tickets) r) 0 0 → IfGoesOn r (IsLined new (taken_out (leaves r) t line))
+start-lined {C} core new line q k t m r s n l told answer is moves =
+    subst (λ (n : Core C). IfGoesOn r (IsLined n (taken_out (leaves r) t line))) (sym is)
+    (by r answer (subst IsSound is n) (subst (λ (n : Core C). Balance core n (start_marks t (phase_for k t core.tickets) r) 0 0) is moves))
+  where
+    by : (r : Start C) → r ≡ start_answer (turn_of q core.closed m core (ticket_of k t core.tickets)) core.idle → IsSound (started t m r core) → Balance core (started t m r core) (start_marks t (phase_for k t core.tickets) r) 0 0
+        → IfGoesOn r (IsLined (started t m r core) (taken_out (leaves r) t line))
+    by start.NotHeld a n v = tt
+    by start.Waiting a n v = tt
+    by (start.Backoff until) a n v = tt
+    by start.Closed a n v = tt
+    by start.TimedOut a n v = tt
+    by start.Exhausted a n v = tt
+    by (start.Test i) a n v = starts_test core line q k t m s l told i a n v
+    by start.Connect a n v = starts_connect core line q k t m s l told a n v
+
 pub start-nearly : {C : Type 0} (core new : Core C) (line : TicketLine) (q : Bool) (k t m : ℕ) (r : Start C) → IsSound core → IsSound new → IsLined core line → q ≡ (is_in_line (phase_for k t core.tickets) && is_below_edge t line)
     → r ≡ start_answer (turn_of q core.closed m core (ticket_of k t core.tickets)) core.idle → new ≡ started t m r core → Balance core new (start_marks t (phase_for k t core.tickets) r) 0 0 → IsNearlyLined new (taken_out (leaves r) t line)
 start-nearly {C} core new line q k t m r s n l told answer is moves =
@@ -347,12 +424,6 @@ start-nearly {C} core new line q k t m r s n l told answer is moves =
   where
     p : Option Phase
     p = phase_for k t core.tickets
-
-    below : GoesOn q k t core.tickets → is_waiting t line ≡ true → is_below_edge t line ≡ true
-    below g w = elim g.why [
-      | inl e ↦ entitled_below (is_in_line p) (is_below_edge t line) q told e
-      | inr gone ↦ gone_not_waiting core line k t s l gone w
-    ]
 
     by : (r : Start C) → r ≡ start_answer (turn_of q core.closed m core (ticket_of k t core.tickets)) core.idle → IsSound (started t m r core) → Balance core (started t m r core) (start_marks t p r) 0 0 → IsNearlyLined (started t m r core) (taken_out (leaves r) t line)
     by start.NotHeld a n v = nearly-from core core line l (beside-self core)
@@ -365,13 +436,8 @@ start-nearly {C} core new line q k t m r s n l told answer is moves =
         let ends_one : ends (leaving t p (Ended t ∷ [])) ≡ 1 = leaving_counts is_ended t refl p (Ended t ∷ []) in
         let lends_none : lents (leaving t p (Ended t ∷ [])) ≡ 0 = leaving_counts is_lent t refl p (Ended t ∷ []) in
         goes-ended core (started t m start.Exhausted core) line t s l (numbers-ended t core.tickets) refl (omega (arith, v.tickets, v.held, asks_none, ends_one, lends_none)) (omega arith)
-    by (start.Test i) a n v =
-        goes-left core (started t m (start.Test i) core) line t s l (numbers-left t (to_test m i) core.tickets (λ x. refl)) refl n (omega (arith, v.tickets, v.held)) (below (by_turn core q k t m (turn_of q core.closed m core (ticket_of k t core.tickets)) refl (start.Test i) a refl)) (omega arith)
-    by start.Connect a n v =
-        let asks_none : asks (leaving t p []) ≡ 0 = leaving_counts is_asked t refl p [] in
-        let ends_none : ends (leaving t p []) ≡ 0 = leaving_counts is_ended t refl p [] in
-        let lends_none : lents (leaving t p []) ≡ 0 = leaving_counts is_lent t refl p [] in
-        goes-left core (started t m start.Connect core) line t s l (numbers-left t (to_try m) core.tickets (tries_out m)) refl n (omega (arith, v.tickets, v.held, asks_none, ends_none, lends_none)) (below (by_turn core q k t m (turn_of q core.closed m core (ticket_of k t core.tickets)) refl start.Connect a refl)) (omega arith)
+    by (start.Test i) a n v = nearly-lined _ _ (starts_test core line q k t m s l told i a n v)
+    by start.Connect a n v = nearly-lined _ _ (starts_connect core line q k t m s l told a n v)
 
 -- ---- who is entitled
 

@@ -16,7 +16,7 @@ use Rattle.sqlx_pool_core.specs.KeptLine.{waiting_numbers, IsLined, Looks, Entit
 use Rattle.sqlx_pool_core.specs.LonePool.{LonePool, lone_of, is_entitled, MovesOnce}
 use Rattle.sqlx_pool_core.proofs.KeptLine.{Fewer, fewer, line-rises, beyond-counts}
 use Rattle.sqlx_pool_core.proofs.LineSteps.{edge-first}
-use Rattle.sqlx_pool_core.proofs.LonePools.{keeps-entitled, keeps-same}
+use Rattle.sqlx_pool_core.proofs.LonePools.{keeps-entitled, keeps-same, view-tells}
 
 -- ---- who is found beyond the edge
 
@@ -163,13 +163,13 @@ fewer-beyond core line t true s l = by f.either
     by (inl too) = omega (arith, too, f.waiting, f.entitled_too)
     by (inr other) = omega (arith, other.0, other.1, f.waiting, f.entitled_too)
 
-same_edge : (t : ℕ) (b : Bool) (line : TicketLine) → (taken_out b t line).edge ≡ line.edge
-same_edge t true line = refl
-same_edge t false line = refl
+pub same-edge : (t : ℕ) (b : Bool) (line : TicketLine) → (taken_out b t line).edge ≡ line.edge
+same-edge t true line = refl
+same-edge t false line = refl
 
-same_moves : (t : ℕ) (b : Bool) (line : TicketLine) → (taken_out b t line).moves ≡ line.moves
-same_moves t true line = refl
-same_moves t false line = refl
+pub same-moves : (t : ℕ) (b : Bool) (line : TicketLine) → (taken_out b t line).moves ≡ line.moves
+same-moves t true line = refl
+same-moves t false line = refl
 
 -- a step that takes a ticket out
 pub looks-without : {C : Type 0} (core : Core C) (now : LonePool C) (new : Core C) (line mid next : TicketLine) (t : ℕ) (b : Bool) (before first after : ℕ) → lone_of core line ≡ now → IsSound core → IsLined core line → mid ≡ taken_out b t line
@@ -177,7 +177,7 @@ pub looks-without : {C : Type 0} (core : Core C) (now : LonePool C) (new : Core 
 looks-without {C} core now new line mid next t b before first after view s l is more once v =
     let less : beyond mid ≤ beyond line = subst (λ (x : TicketLine). beyond x ≤ beyond line) (sym is) (fewer-beyond core line t b s l) in
     subst (λ (c : LonePool C). Looks c (lone_of new next) before after) view
-    (looks core new line mid next before first after s l once (omega (arith, more, less)) (ap (λ (x : TicketLine). x.edge) is ∙ same_edge t b line) (ap (λ (x : TicketLine). x.moves) is ∙ same_moves t b line) v)
+    (looks core new line mid next before first after s l once (omega (arith, more, less)) (ap (λ (x : TicketLine). x.edge) is ∙ same-edge t b line) (ap (λ (x : TicketLine). x.moves) is ∙ same-moves t b line) v)
 
 -- an ask
 pub looks-asked : {C : Type 0} (core : Core C) (now : LonePool C) (new : Core C) (line mid next : TicketLine) (k d m before first after : ℕ) → lone_of core line ≡ now → IsSound core → IsLined core line → new ≡ at_moment m (asked k d core)
@@ -191,6 +191,6 @@ looks-asked {C} core now new line mid next k d m before first after view s l is 
     (looks core new line mid next before first after s l (omega (arith, once)) (omega (arith, more, beyond_more)) (ap (λ (x : TicketLine). x.edge) joins) (ap (λ (x : TicketLine). x.moves) joins) v)
 
 -- a step that changes nothing, and looks once at most
-pub looks-nothing : {C : Type 0} (now new : LonePool C) (before after : ℕ) → new ≡ now → after ≤ before + 1 → Looks now new before after
-looks-nothing {C} now new before after is once =
-    subst (λ (c : LonePool C). Looks now c before after) (sym is) (record { moves = omega (arith, once); few = omega (arith, once); let_in = omega (arith, once); turns = inl (omega (arith, once)); keeps = keeps-same now })
+pub looks-nothing : {C : Type 0} (core : Core C) (line : TicketLine) (now new : LonePool C) (before after : ℕ) → lone_of core line ≡ now → IsSound core → IsLined core line → new ≡ now → after ≤ before + 1 → Looks now new before after
+looks-nothing {C} core line now new before after view s l is once =
+    subst (λ (c : LonePool C). Looks now c before after) (sym is) (record { moves = omega (arith, once); few = omega (arith, once); let_in = omega (arith, once); turns = inl (omega (arith, once)); keeps = keeps-same now (view-tells core line now view s l) })

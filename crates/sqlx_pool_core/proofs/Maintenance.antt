@@ -3,7 +3,7 @@ use Rattle.std.proofs.Common.{◌≡◌, ℕ, ◌+◌, ◌<◌, min, Bool, true,
 use Rattle.sqlx_pool_lists.specs.declared.steps.Openings.{Openings}
 use Rattle.sqlx_pool_lists.specs.Edits.{at_moment}
 use Rattle.std.proofs.lemmas.Bool.{ltb-true}
-use Rattle.sqlx_pool_lists.specs.Core.{Core, size}
+use Rattle.sqlx_pool_lists.specs.Core.{Core, free, size, waiting}
 use Rattle.sqlx_pool_lists.specs.MaintenanceSteps.{has_place, placed, placed_back, done_at, done_marks}
 use Rattle.sqlx_pool_core.specs.declared.idle_check.Opening.{Opening}
 use Rattle.sqlx_pool_core.specs.declared.idle_check.Opening.TheVariants.{Opened}
@@ -64,6 +64,15 @@ open_of false a b c e = refl
 -- a place is held in an open pool alone
 pub place-open : {C : Type 0} (core : Core C) → has_place core.options.min_connections core ≡ true → core.shut ≡ false
 place-open core e = open_of core.shut _ _ _ e
+
+first_of : (s a b c : Bool) → (not s && a && b && c) ≡ true → a ≡ true
+first_of false true b c e = refl
+first_of false false b c e = absurd cc
+first_of true a b c e = absurd cc
+
+-- a place is held where fewer tickets wait than permits are free
+pub place-passes : {C : Type 0} (core : Core C) → has_place core.options.min_connections core ≡ true → waiting core.tickets < free core
+place-passes core e = ltb-true _ _ (first_of core.shut _ _ _ e)
 
 pub filled-size : {C : Type 0} (now : ℕ) (raw : C) (core next : Core C) → next ≡ filled now (Opened raw) core → core.shut ≡ false → size next ≡ size core + 1
 filled-size {C} now raw core next is open_is =

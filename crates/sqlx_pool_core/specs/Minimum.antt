@@ -1,5 +1,5 @@
 -- The keeping of the minimum: one try after another, while a place may be held, up to the first that opens nothing.
-use Rattle.std.specs.Prelude.{zero, suc, length, All, ◌≡◌, ℕ, ◌+◌, Bool, true, false, max, List, [], ◌∷◌, ◌++◌, Option, Some, None}
+use Rattle.std.specs.Prelude.{zero, suc, length, All, ◌≡◌, ◌⊎◌, ℕ, ◌+◌, Bool, true, false, max, List, [], ◌∷◌, ◌++◌, Option, Some, None}
 use Rattle.sqlx_pool_lists.specs.declared.steps.Openings.{Openings}
 use Rattle.sqlx_pool_lists.specs.declared.steps.Idle.{Idle}
 use Rattle.sqlx_pool_marks.specs.declared.mark.Mark.{Mark}
@@ -9,7 +9,7 @@ use Rattle.sqlx_pool_lists.specs.Core.{Core}
 use Rattle.sqlx_pool_lists.specs.MaintenanceSteps.{has_place, placed, done, done_marks}
 use Rattle.sqlx_pool_core.specs.declared.idle_check.Opening.{Opening}
 use Rattle.sqlx_pool_core.specs.declared.idle_check.Opening.TheVariants.{Opened, Failed}
-use Rattle.sqlx_pool_core.specs.Outside.{is_want}
+use Rattle.sqlx_pool_core.specs.Outside.{HasRisen, is_want}
 use Rattle.sqlx_pool_core.specs.Calls.{Call}
 use Rattle.sqlx_pool_core.specs.Chain.{Tries}
 
@@ -37,6 +37,10 @@ is_short (other ∷ later) = is_short later
 -- the marks that the pool's two steps for one place make
 abbrev pub filled_marks : {C : Type 0} → ℕ → Opening C → Core C → List Mark
 filled_marks now opening core = done_marks core.shut core.next_conn (max core.last now) (raw_of opening)
+
+-- why a keeping of the minimum ends: no place is left, a refusal was counted, or memory was wanting
+abbrev pub EndsFor : {C : Type 0} → ℕ → Core C → ℕ → ℕ → ℕ → ℕ → Bool → Type 0
+EndsFor minimum new faults faults_now refusals refusals_now short = (has_place minimum new ≡ false) ⊎ ((HasRisen faults faults_now ⊎ HasRisen refusals refusals_now) ⊎ (short ≡ true))
 
 -- the marks of so many openings, whose first number is n
 abbrev pub openings_made : ℕ → ℕ → ℕ → List Mark

@@ -10,6 +10,7 @@ use Rattle.sqlx_pool_lists.specs.declared.steps.Tried.TheVariants as tried
 use Rattle.sqlx_pool_lists.specs.declared.steps.AfterConnect.{AfterConnect}
 use Rattle.sqlx_pool_lists.specs.declared.steps.AfterConnect.TheVariants as connected
 use Rattle.sqlx_pool_lists.specs.declared.ticket.Ticket.{Ticket}
+use Rattle.sqlx_pool_marks.specs.declared.mark.Mark.{Mark}
 use Rattle.sqlx_pool_marks.specs.declared.turn.Turn.{Turn}
 use Rattle.sqlx_pool_marks.specs.declared.turn.Turn.TheVariants as turned
 use Rattle.sqlx_pool_core.specs.Outside.{HasRisen}
@@ -17,6 +18,12 @@ use Rattle.sqlx_pool_core.specs.Calls.{Call, ping, close, close_hard}
 use Rattle.sqlx_pool_lists.specs.Core.{Core}
 use Rattle.sqlx_pool_lists.specs.Edits.{with_ticket, to_connect}
 use Rattle.sqlx_pool_lists.specs.PollSteps.{wait_of}
+use Rattle.sqlx_pool_lists.specs.CoreTurn.{core_turn, turn_at_marks}
+use Rattle.sqlx_pool_lists.specs.StandsFor.{StandsFor}
+
+-- the turn of a client's ticket at m is the poll table's, by whatever marks the core stands for
+abbrev pub TurnsByTable : {C : Type 0} → Core C → ℕ → ℕ → ℕ → Type 0
+TurnsByTable core k t m = (marks : List Mark) → StandsFor core marks → core_turn core k t m ≡ turn_at_marks core marks k t m
 
 -- P of the connection, if the poll lent one
 abbrev pub IfReady : {C : Type 0} → Polled C → (Lent C → Type 0) → Type 0

@@ -1,6 +1,6 @@
 //! The steps that end a poll: what a test and what a connect came to.
 
-ghost use Rattle.std.specs.Prelude.{◌≡◌, ◌<◌, ℕ, max, List, Option};
+ghost use Rattle.std.specs.Prelude.{◌≡◌, ◌<◌, ℕ, false, max, List, Option};
 ghost use Rattle.std.specs.List.{list_any};
 ghost use Rattle.sqlx_pool_marks.specs.declared.mark.Mark.{Mark};
 ghost use Rattle.sqlx_pool_marks.specs.Marks.{is_shut, next_conn};
@@ -10,7 +10,7 @@ ghost use Rattle.sqlx_pool_lists.specs.Balance.{Balance};
 ghost use Rattle.sqlx_pool_lists.specs.StandsFor.{StandsFor};
 ghost use Rattle.sqlx_pool_lists.specs.PollSteps.{judged, verdict_answer, test_marks, after_test, connect_answer, connect_marks, after_connect};
 ghost use Rattle.sqlx_pool_core.specs.KeptLine.{Looks};
-ghost use Rattle.sqlx_pool_core.specs.LonePool.{KeepsEntitled};
+ghost use Rattle.sqlx_pool_core.specs.LonePool.{KeepsEntitled, LeavesEdge};
 
 use super::{PoolCore, line};
 use sqlx_pool_lists::{AfterConnect, AfterTest, Tried, Verdict};
@@ -30,6 +30,8 @@ impl<C> PoolCore<C> {
         ensures balance { Balance self.old.pool self.new.pool (test_marks client ticket (judged verdict) result) 0 0 }
         ensures becomes { self.new.pool ≡ after_test client ticket result self.old.pool }
         ensures edge { KeepsEntitled self.old self.new }
+        // In an open pool no permit is freed: the edge stays.
+        ensures open { self.old.pool.shut ≡ false → LeavesEdge self.old self.new }
     {
         self.uncounted_finish_test::<Brand>(client, ticket, verdict, Blank::new(1))
     }
@@ -51,6 +53,7 @@ impl<C> PoolCore<C> {
         ensures balance { Balance self.old.pool self.new.pool (test_marks client ticket (judged verdict) result) 0 0 }
         ensures becomes { self.new.pool ≡ after_test client ticket result self.old.pool }
         ensures edge { KeepsEntitled self.old self.new }
+        ensures open { self.old.pool.shut ≡ false → LeavesEdge self.old self.new }
     {
         let mut steps = Steps::<L>::new(blank);
         self.finish_test_counted(client, ticket, verdict, &mut steps)
@@ -70,6 +73,7 @@ impl<C> PoolCore<C> {
         ensures balance { Balance self.old.pool self.new.pool (test_marks client ticket (judged verdict) result) 0 0 }
         ensures becomes { self.new.pool ≡ after_test client ticket result self.old.pool }
         ensures cost { Looks self.old self.new steps.old steps.new }
+        ensures open { self.old.pool.shut ≡ false → LeavesEdge self.old self.new }
     {
         self.pool.sound();
         let after = self.pool.finish_test(client, ticket, verdict);

@@ -15,7 +15,7 @@ ghost use Rattle.sqlx_pool_lists.specs.Sound.{IsSound};
 ghost use Rattle.sqlx_pool_lists.specs.StandsFor.{StandsFor};
 ghost use Rattle.sqlx_pool_core.specs.ReturnSteps.{give_answer, give_marks, core_after_give, end_marks, detach_marks, leak_marks, released, leaked};
 ghost use Rattle.sqlx_pool_core.specs.KeptLine.{Looks};
-ghost use Rattle.sqlx_pool_core.specs.LonePool.{KeepsEntitled, LeavesEdge};
+ghost use Rattle.sqlx_pool_core.specs.LonePool.{EdgeTells, KeepsEntitled, LeavesEdge};
 
 use super::{PoolCore, line};
 use sqlx_pool_lists::{Given, Lent, OwnedConn};
@@ -39,6 +39,7 @@ impl<C> PoolCore<C> {
     pub(super) fn loan(&self, client: u32, conn: u64) -> Option<OwnedConn>
         ensures found { result ≡ loan_of client conn self.now.pool.held }
         ensures sound { IsSound self.now.pool }
+        ensures tells { EdgeTells self.now }
     {
         self.pool.sound();
         self.pool.loan(client, conn)

@@ -4,6 +4,7 @@ ghost use Rattle.std.specs.Prelude.{◌≡◌, ℕ, max};
 ghost use Rattle.sqlx_pool_lists.specs.Core.{loan_of};
 ghost use Rattle.sqlx_pool_core.specs.Giving.{Ends, TestsIf, GivesBack, returned_by};
 ghost use Rattle.sqlx_pool_core.specs.Logs.{moment_of};
+ghost use Rattle.sqlx_pool_core.specs.LonePool.{KeepsEntitled};
 
 use super::PoolCore;
 use crate::idle_check::{self, Check};
@@ -59,7 +60,9 @@ impl<C> PoolCore<C> {
         now: Moment,
         out: &mut X,
     ) -> Returned<C>
-        ensures { GivesBack X.does X.depth (loan_of client lent.id self.old.pool.held) (moment_of self.old.pool now) lent self.old.pool self.new.pool out.old out.new result }
+        ensures gives { GivesBack X.does X.depth (loan_of client lent.id self.old.pool.held) (moment_of self.old.pool now) lent self.old.pool self.new.pool out.old out.new result }
+        // The edge stays, or moves once for the permit that is freed, and who was entitled stays so while it waits.
+        ensures edge { KeepsEntitled self.old self.new }
     {
         let Some(loan) = self.loan(client, lent.id) else {
             return Returned::NotHeld(lent.raw);

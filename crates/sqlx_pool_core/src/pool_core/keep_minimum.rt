@@ -1,14 +1,16 @@
 //! Keeping the minimum, with the outside asked for each connection.
 
-ghost use Rattle.std.specs.Prelude.{◌≡◌, ℕ, ◌≤◌, ◌⊎◌, nat_lt, max, true, false, List, Option, Some, None};
+ghost use Rattle.std.specs.Prelude.{◌≡◌, ◌≤◌, nat_lt, true, false, List};
 ghost use Rattle.sqlx_pool_marks.specs.declared.mark.Mark.{Mark};
 ghost use Rattle.sqlx_pool_marks.specs.EventTable.{lacking_at};
 ghost use Rattle.sqlx_pool_lists.specs.Limits.{limits_of};
 ghost use Rattle.sqlx_pool_lists.specs.StandsFor.{StandsFor};
 ghost use Rattle.sqlx_pool_core.specs.Logs.{Logs, moment_of};
+ghost use Rattle.sqlx_pool_core.specs.LonePool.{LeavesEdge};
+ghost use Rattle.sqlx_pool_lists.specs.Core.{free, waiting};
 ghost use Rattle.sqlx_pool_lists.specs.MaintenanceSteps.{done, done_marks, has_place, lacks};
-ghost use Rattle.sqlx_pool_core.specs.Minimum.{KeepsMinimum, Opens, openings_made};
-ghost use Rattle.sqlx_pool_core.specs.Outside.{HasRisen, is_want};
+ghost use Rattle.sqlx_pool_core.specs.Minimum.{EndsFor, KeepsMinimum, Opens, openings_made};
+ghost use Rattle.sqlx_pool_core.specs.Outside.{is_want};
 
 use super::PoolCore;
 use crate::Outside;
@@ -29,6 +31,8 @@ impl<C> PoolCore<C> {
     fn fill(&mut self, now: Moment, raw: Option<C>)
         requires place { 1 ≤ self.old.pool.places }
         requires open { self.old.pool.shut ≡ false }
+        requires all { waiting self.old.pool.tickets ≤ free self.old.pool }
+        ensures edge { LeavesEdge self.old self.new }
         ensures becomes { self.new.pool ≡ done self.old.pool.shut (moment_of self.old.pool now) raw self.old.pool }
         ensures makes { Logs self.old.pool (done_marks self.old.pool.shut self.old.pool.next_conn (moment_of self.old.pool now) raw) self.new.pool }
     {
@@ -59,7 +63,9 @@ impl<C> PoolCore<C> {
         // Want of memory leaves a place.
         ensures short { result.short ≡ true → (has_place self.old.pool.options.min_connections self.new.pool ≡ true) × X.IsShort out.new }
         // It ends where no place is left, where a refusal was counted, or for want of memory.
-        ensures ends { (has_place self.old.pool.options.min_connections self.new.pool ≡ false) ⊎ ((HasRisen (X.faults out.old) (X.faults out.new) ⊎ HasRisen (X.refusals out.old) (X.refusals out.new)) ⊎ (result.short ≡ true)) }
+        ensures ends { EndsFor self.old.pool.options.min_connections self.new.pool (X.faults out.old) (X.faults out.new) (X.refusals out.old) (X.refusals out.new) result.short }
+        // It opens past the line: who waits is entitled anyway, and the edge stays.
+        ensures edge { LeavesEdge self.old self.new }
         // The counts never fall.
         ensures counts { (X.faults out.old ≤ X.faults out.new) × (X.refusals out.old ≤ X.refusals out.new) }
     {

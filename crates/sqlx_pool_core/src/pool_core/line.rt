@@ -59,6 +59,7 @@ pub fn take_out<L: Ledger>(line: &mut Line, ticket: u64, went: bool, steps: &mut
 pub fn serve<C, L: Ledger>(pool: &Member<C>, line: &mut Line, steps: &mut Steps<L>)
     requires near { IsNearlyLined pool.now line.old }
     ensures lined { IsLined pool.now line.new }
+    ensures still { IsLined pool.now line.old → line.new ≡ line.old }
     ensures cost { steps.new + beyond line.new ≡ steps.old + beyond line.old }
     ensures once { steps.new ≤ steps.old + 1 }
     ensures turns { (steps.new ≤ steps.old) ⊎ EntitlesBeyond pool.now line.old }

@@ -86,6 +86,8 @@ impl<C> PoolCore<C> {
         ensures becomes { self.new.pool ≡ done self.old.pool.shut (moment_of self.old.pool now) raw self.old.pool }
         ensures balance { Balance self.old.pool self.new.pool (done_marks self.old.pool.shut self.old.pool.next_conn (moment_of self.old.pool now) raw) 0 0 }
         ensures edge { KeepsEntitled self.old self.new }
+        // Where all that wait are entitled, the edge stays.
+        ensures all { waiting self.old.pool.tickets ≤ free self.old.pool → LeavesEdge self.old self.new }
     {
         self.uncounted_minimum_done::<Brand>(now, raw, Blank::new(1))
     }
@@ -107,6 +109,7 @@ impl<C> PoolCore<C> {
         ensures becomes { self.new.pool ≡ done self.old.pool.shut (moment_of self.old.pool now) raw self.old.pool }
         ensures balance { Balance self.old.pool self.new.pool (done_marks self.old.pool.shut self.old.pool.next_conn (moment_of self.old.pool now) raw) 0 0 }
         ensures edge { KeepsEntitled self.old self.new }
+        ensures all { waiting self.old.pool.tickets ≤ free self.old.pool → LeavesEdge self.old self.new }
     {
         let mut steps = Steps::<L>::new(blank);
         self.minimum_done_counted(now, raw, &mut steps)
@@ -126,6 +129,7 @@ impl<C> PoolCore<C> {
         ensures becomes { self.new.pool ≡ done self.old.pool.shut (moment_of self.old.pool now) raw self.old.pool }
         ensures balance { Balance self.old.pool self.new.pool (done_marks self.old.pool.shut self.old.pool.next_conn (moment_of self.old.pool now) raw) 0 0 }
         ensures cost { Looks self.old self.new steps.old steps.new }
+        ensures all { waiting self.old.pool.tickets ≤ free self.old.pool → LeavesEdge self.old self.new }
     {
         let moment = self.pool.moment(now);
         self.pool.sound();

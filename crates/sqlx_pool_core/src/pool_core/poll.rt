@@ -8,7 +8,7 @@ ghost use Rattle.sqlx_pool_lists.specs.PollSteps.{start_answer, start_marks, sta
 ghost use Rattle.sqlx_pool_lists.specs.Balance.{Balance};
 ghost use Rattle.sqlx_pool_lists.specs.StandsFor.{StandsFor};
 ghost use Rattle.sqlx_pool_core.specs.KeptLine.{Looks};
-ghost use Rattle.sqlx_pool_core.specs.LonePool.{KeepsEntitled};
+ghost use Rattle.sqlx_pool_core.specs.LonePool.{IfGoesOn, KeepsEntitled, LeavesEdge};
 
 use super::{PoolCore, line};
 use sqlx_pool_lists::Start;
@@ -27,6 +27,8 @@ impl<C> PoolCore<C> {
         ensures own { result ≡ start_answer (core_turn self.old.pool client ticket (moment_of self.old.pool now)) self.old.pool.idle }
         ensures becomes { self.new.pool ≡ started ticket (moment_of self.old.pool now) result self.old.pool }
         ensures edge { KeepsEntitled self.old self.new }
+        // A ticket that goes on to a test or a connect leaves the line with a permit: the edge stays.
+        ensures begun { IfGoesOn result (LeavesEdge self.old self.new) }
     {
         self.uncounted_start::<Brand>(client, ticket, now, Blank::new(1))
     }
@@ -48,6 +50,7 @@ impl<C> PoolCore<C> {
         ensures own { result ≡ start_answer (core_turn self.old.pool client ticket (moment_of self.old.pool now)) self.old.pool.idle }
         ensures becomes { self.new.pool ≡ started ticket (moment_of self.old.pool now) result self.old.pool }
         ensures edge { KeepsEntitled self.old self.new }
+        ensures begun { IfGoesOn result (LeavesEdge self.old self.new) }
     {
         let mut steps = Steps::<L>::new(blank);
         self.start_counted(client, ticket, now, &mut steps)
@@ -67,6 +70,7 @@ impl<C> PoolCore<C> {
         ensures own { result ≡ start_answer (core_turn self.old.pool client ticket (moment_of self.old.pool now)) self.old.pool.idle }
         ensures becomes { self.new.pool ≡ started ticket (moment_of self.old.pool now) result self.old.pool }
         ensures cost { Looks self.old self.new steps.old steps.new }
+        ensures begun { IfGoesOn result (LeavesEdge self.old self.new) }
     {
         self.pool.sound();
         let moment = self.pool.moment(now);

@@ -1,14 +1,13 @@
 //! A whole poll: its steps, with the outside asked between them.
 
-ghost use Rattle.std.specs.Prelude.{◌≡◌, ◌<◌, ◌≤◌, drop, ℕ, max, false, List, Some};
-ghost use Rattle.sqlx_pool_marks.specs.declared.mark.Mark.{Mark};
+ghost use Rattle.std.specs.Prelude.{◌≡◌, ◌≤◌, false, Some};
 ghost use Rattle.sqlx_pool_lists.specs.declared.ticket.Phase.TheVariants.{Connecting};
 ghost use Rattle.sqlx_pool_lists.specs.Core.{ticket_of};
 ghost use Rattle.sqlx_pool_core.specs.Logs.{Logs, moment_of};
-ghost use Rattle.sqlx_pool_lists.specs.StandsFor.{StandsFor};
-ghost use Rattle.sqlx_pool_lists.specs.CoreTurn.{core_turn, turn_at_marks};
+ghost use Rattle.sqlx_pool_lists.specs.CoreTurn.{core_turn};
 ghost use Rattle.sqlx_pool_core.specs.CameTo.{IsForGood};
-ghost use Rattle.sqlx_pool_core.specs.PollParts.{BacksOff, IfBackoff, IfReady, IfRefused, WhereIdleRests, first_depth, tried_answer, next_try_at};
+ghost use Rattle.sqlx_pool_core.specs.LonePool.{KeepsEntitled, LeavesEdge};
+ghost use Rattle.sqlx_pool_core.specs.PollParts.{BacksOff, IfBackoff, IfReady, IfRefused, TurnsByTable, WhereIdleRests, tried_answer, next_try_at};
 ghost use Rattle.sqlx_pool_lists.specs.PollSteps.{phase_for, start_answer, judged, tested_at, may_test_next, test_answer, test_marks, after_test, connect_answer, connect_marks, after_connect};
 ghost use Rattle.sqlx_pool_core.specs.Walk.{GoesOn, IfAnswer, Polls, Test, Connect, first, last, tried_of};
 
@@ -33,6 +32,8 @@ impl<C> PoolCore<C> {
         ensures answer { result ≡ test_answer (Some _created) false (may_test_next self.old.pool.options.idle_tries (phase_for client ticket self.old.pool.tickets)) self.old.pool.idle verdict }
         ensures makes { Logs self.old.pool (test_marks client ticket (judged verdict) result) self.new.pool }
         ensures becomes { self.new.pool ≡ after_test client ticket result self.old.pool }
+        ensures edge { KeepsEntitled self.old self.new }
+        ensures still { LeavesEdge self.old self.new }
     {
         self.finish_test(client, ticket, verdict)
     }
@@ -52,6 +53,7 @@ impl<C> PoolCore<C> {
         ensures answer { result ≡ tried_answer self.old.pool.next_conn moment.0 (next_try_at moment.0 (ticket_of client ticket self.old.pool.tickets)) tried }
         ensures makes { Logs self.old.pool (connect_marks client ticket moment.0 result) self.new.pool }
         ensures becomes { self.new.pool ≡ after_connect client ticket moment.0 result self.old.pool }
+        ensures edge { KeepsEntitled self.old self.new }
     {
         self.finish_connect(client, ticket, moment, tried)
     }
@@ -66,6 +68,7 @@ impl<C> PoolCore<C> {
             (connect_answer (ticket_of client ticket self.old.pool.tickets) self.old.pool.shut self.old.pool.next_conn moment.0 (tried_of opening)) self.old.pool }
         ensures makes { Logs self.old.pool
             (connect_marks client ticket moment.0 (connect_answer (ticket_of client ticket self.old.pool.tickets) self.old.pool.shut self.old.pool.next_conn moment.0 (tried_of opening))) self.new.pool }
+        ensures edge { KeepsEntitled self.old self.new }
     {
         match opening {
             Opening::Opened(raw) => match self.connect_ended(
@@ -115,7 +118,8 @@ impl<C> PoolCore<C> {
         requires connecting { phase_for client ticket self.old.pool.tickets ≡ Some Connecting }
         requires open { self.old.pool.shut ≡ false }
         requires at { moment.0 ≡ self.old.pool.last }
-        ensures { GoesOn X.does X.depth options.now client ticket moment.0 Connect self.old.pool self.new.pool out.old out.new result }
+        ensures goes { GoesOn X.does X.depth options.now client ticket moment.0 Connect self.old.pool self.new.pool out.old out.new result }
+        ensures edge { KeepsEntitled self.old self.new }
     {
         let hook = self.options().get_after_connect();
         let opening = idle_check::try_connect::<C, O, X>(alloc, hook, options, out);
@@ -136,7 +140,8 @@ impl<C> PoolCore<C> {
         requires tested { tested_at idle.lent.id (phase_for client ticket self.old.pool.tickets) ≡ Some idle.lent.created }
         requires open { self.old.pool.shut ≡ false }
         requires at { moment.0 ≡ self.old.pool.last }
-        ensures { GoesOn X.does X.depth options.now client ticket moment.0 (Test idle) self.old.pool self.new.pool out.old out.new result }
+        ensures goes { GoesOn X.does X.depth options.now client ticket moment.0 (Test idle) self.old.pool self.new.pool out.old out.new result }
+        ensures edge { KeepsEntitled self.old self.new }
     {
         let set = *self.options();
         let created = idle.lent.created;
@@ -165,7 +170,7 @@ impl<C> PoolCore<C> {
     ) -> Polled<C>
         ensures polls { Polls X.does X.depth options.now client ticket (moment_of self.old.pool now) self.old.pool self.new.pool out.old out.new result }
         // The turn is the poll table's, by the marks that the core stands for.
-        ensures turn { (marks : List Mark) → StandsFor self.old.pool marks → core_turn self.old.pool client ticket (moment_of self.old.pool now) ≡ turn_at_marks self.old.pool marks client ticket (moment_of self.old.pool now) }
+        ensures turn { TurnsByTable self.old.pool client ticket (moment_of self.old.pool now) }
         // A connect is refused for good for want of memory, or a fault was counted; it isn't a refusal that may pass.
         ensures cause { IfRefused result (λ e. IsForGood (X.faults out.old) (X.faults out.new) e) }
         // What the turn answers at once is the answer.
@@ -176,6 +181,8 @@ impl<C> PoolCore<C> {
         ensures counts { (X.faults out.old ≤ X.faults out.new) × (X.refusals out.old ≤ X.refusals out.new) }
         // What is lent has no level open, where a hook looks at it, or else where the idle connections have none and no ping and no close opens one.
         ensures rests { WhereIdleRests X.does X.depth self.old.pool out.old (IfReady result (λ lent. X.depth out.new lent.raw ≡ 0)) }
+        // The edge stays or moves once, however many steps the poll has, and who was entitled stays so while it waits.
+        ensures edge { KeepsEntitled self.old self.new }
     {
         let moment = self.moment(now);
         match self.start(client, ticket, now) {

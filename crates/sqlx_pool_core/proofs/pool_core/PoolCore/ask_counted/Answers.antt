@@ -28,8 +28,12 @@ returns-then-not-join-clause-err g c =
     let line = unjoined c.self.inside.line c.join.new.line c.in-Ok.ticket c.join.result c.join.ensures.becomes c.if-not-join.true in
     (λ i. lone_of (pool i) (line i)) ∙ c.self.view_is
 
+pub returns-in-Err-clause-cost : goal.returns-in-Err-clause-cost
+returns-in-Err-clause-cost g c =
+    looks-nothing c.self.inside.pool c.self.inside.line _ _ _ _ c.self.view_is c.sound.ensures c.self.invariant.lined ((λ i. lone_of (c.in-Err.ensures.err i) c.self.inside.line) ∙ c.self.view_is) (omega arith)
+
 pub returns-then-not-join-clause-cost : goal.returns-then-not-join-clause-cost
-returns-then-not-join-clause-cost g c = looks-nothing _ _ _ _ (returns-then-not-join-clause-err g c) (omega (arith, c.join.ensures.cost))
+returns-then-not-join-clause-cost g c = looks-nothing c.self.inside.pool c.self.inside.line _ _ _ _ c.self.view_is c.sound.ensures c.self.invariant.lined (returns-then-not-join-clause-err g c) (omega (arith, c.join.ensures.cost))
 
 pub serve-requires : goal.serve-requires
 serve-requires g c = record {

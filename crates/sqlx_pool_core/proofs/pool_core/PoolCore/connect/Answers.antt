@@ -7,8 +7,8 @@ use Rattle.sqlx_pool_core.specs.Walk.{last, tells}
 use Rattle.sqlx_pool_core.proofs.Polling.{is-connecting, tells-is, logs-by}
 use Rattle.sqlx_pool_core.proofs.pool_core.PoolCore.connect.Goals as goal
 
-pub returns : goal.returns
-returns g c =
+pub returns-clause-goes : goal.returns-clause-goes
+returns-clause-goes g c =
     let core = c.args.self.now.pool in
     let opening = c.try_connect-opening.result in
     let m = c.args.moment.0 in

@@ -1,5 +1,5 @@
 use Rattle.std.proofs.Common.{◌≡◌, ◌+◌, ◌≤◌, max, ℕ, Bool, true, false, [], ◌∷◌, None, Option, refl, sym, ap, ◌∙◌, subst, arith, inl, inr}
-use Rattle.sqlx_pool_lists.specs.Core.{Core}
+use Rattle.sqlx_pool_lists.specs.Core.{Core, free, waiting}
 use Rattle.sqlx_pool_lists.specs.MaintenanceSteps.{done, done_marks, placed, has_place}
 use Rattle.sqlx_pool_lists.specs.declared.options.PoolOptions.{PoolOptions}
 use Rattle.sqlx_pool_core.specs.declared.idle_check.Opening.{Opening}
@@ -11,8 +11,9 @@ use Rattle.sqlx_pool_core.proofs.Polling.{logs-by}
 use Rattle.sqlx_pool_core.proofs.CallsKeep.{minimum-more}
 use Rattle.sqlx_pool_core.proofs.KeepRuns.{kept-so, kept-place}
 use Rattle.sqlx_pool_core.proofs.KeepEnds.{kept-ends, kept-short}
-use Rattle.sqlx_pool_core.proofs.Maintenance.{step-marked, step-unmarked, before-more, keeps-ended, place-open, place-room, filled-size, filled-options}
+use Rattle.sqlx_pool_core.proofs.Maintenance.{step-marked, step-unmarked, before-more, keeps-ended, place-open, place-passes, place-room, filled-size, filled-options}
 use Rattle.sqlx_pool_core.proofs.MaintenanceAtMarks.{lacks-at}
+use Rattle.sqlx_pool_core.proofs.LonePools.{leaves-then}
 use Rattle.sqlx_pool_core.proofs.pool_core.PoolCore.keep_minimum.Goals as goal
 
 -- a place that was held, and what became of it
@@ -43,6 +44,28 @@ fill-requires-in-Failed-clause-place g c = held_place c.places.self.pool c.minim
 
 pub fill-requires-in-Failed-clause-open : goal.fill-requires-in-Failed-clause-open
 fill-requires-in-Failed-clause-open g c = still_open c.places.self.pool c.minimum_place.new.self.pool c.places-test.ensures.becomes (sym c.places-test.ensures.answer)
+
+-- a place is held past the line, so all that wait are entitled
+held_past : {C : Type 0} (core mid : Core C) → mid ≡ placed true core → has_place core.options.min_connections core ≡ true → waiting mid.tickets ≤ free mid
+held_past {C} core mid held place = let few = place-passes core place in subst (λ (n : Core C). waiting n.tickets ≤ free n) (sym held) (omega (arith, few))
+
+pub fill-requires-clause-all : goal.fill-requires-clause-all
+fill-requires-clause-all g c = held_past c.places.self.pool c.minimum_place.new.self.pool c.places-test.ensures.becomes (sym c.places-test.ensures.answer)
+
+pub fill-requires-in-Rejected-clause-all : goal.fill-requires-in-Rejected-clause-all
+fill-requires-in-Rejected-clause-all g c = held_past c.places.self.pool c.minimum_place.new.self.pool c.places-test.ensures.becomes (sym c.places-test.ensures.answer)
+
+pub fill-requires-in-Failed-clause-all : goal.fill-requires-in-Failed-clause-all
+fill-requires-in-Failed-clause-all g c = held_past c.places.self.pool c.minimum_place.new.self.pool c.places-test.ensures.becomes (sym c.places-test.ensures.answer)
+
+pub returns-in-Rejected-clause-edge : goal.returns-in-Rejected-clause-edge
+returns-in-Rejected-clause-edge g c = leaves-then c.args.self.now c.places.self c.fill-in-Rejected.new.self c.places.invariant.edge (leaves-then c.places.self c.minimum_place.new.self c.fill-in-Rejected.new.self c.places-test.ensures.edge c.fill-in-Rejected.ensures.edge)
+
+pub returns-in-Failed-clause-edge : goal.returns-in-Failed-clause-edge
+returns-in-Failed-clause-edge g c = leaves-then c.args.self.now c.places.self c.fill-in-Failed.new.self c.places.invariant.edge (leaves-then c.places.self c.minimum_place.new.self c.fill-in-Failed.new.self c.places-test.ensures.edge c.fill-in-Failed.ensures.edge)
+
+pub returns-clause-edge : goal.returns-clause-edge
+returns-clause-edge g c = leaves-then c.args.self.now c.places.self c.minimum_place.new.self c.places.invariant.edge c.places-test.ensures.edge
 
 pub returns-in-Rejected-clause-lacks : goal.returns-in-Rejected-clause-lacks
 returns-in-Rejected-clause-lacks g c = λ marks s. lacks-at c.args.self.now.pool marks s
@@ -85,6 +108,7 @@ places-preserved g c =
       hook = c.places.invariant.hook ∙ ap (λ (o : PoolOptions). o.after_connect) (sym same);
       within = omega (arith, grown, within);
       max = c.places.invariant.max ∙ ap (λ (o : PoolOptions). o.max_connections) (sym same);
+      edge = leaves-then c.args.self.now c.places.self c.fill.new.self c.places.invariant.edge (leaves-then c.places.self c.minimum_place.new.self c.fill.new.self c.places-test.ensures.edge c.fill.ensures.edge);
     }
 
 plus_none : (n : ℕ) → n ≡ n + 0

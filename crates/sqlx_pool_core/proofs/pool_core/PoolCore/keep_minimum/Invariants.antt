@@ -1,5 +1,6 @@
 use Rattle.std.proofs.Common.{◌≡◌, ◌-◌, ◌≤◌}
 use Rattle.sqlx_pool_lists.specs.Core.{size}
+use Rattle.sqlx_pool_core.specs.LonePool.{LeavesEdge}
 use Rattle.sqlx_pool_core.proofs.Maintenance.{Before}
 use Rattle.sqlx_pool_core.proofs.pool_core.PoolCore.keep_minimum.Given as goal
 
@@ -9,6 +10,7 @@ invariant-places g l = record {
   hook : l.hook ≡ l.self.pool.options.after_connect;
   within : l.opened ≤ size l.self.pool;
   max : l._max ≡ l.self.pool.options.max_connections;
+  edge : LeavesEdge l.fn.self l.self;
 }
 
 abbrev pub decreases-places : goal.decreases-places

@@ -7,6 +7,7 @@ use Rattle.sqlx_pool_core.proofs.WholePoll.{takes, tries, taken-phase, trying-ph
 use Rattle.sqlx_pool_core.proofs.Polling.{tested-found, plain-polls, begun-polls}
 use Rattle.sqlx_pool_core.proofs.CallsKeep.{polls-more}
 use Rattle.sqlx_pool_core.proofs.PollEnds.{polls-cause, polls-counted, polls-at_once, polls-rest}
+use Rattle.sqlx_pool_core.proofs.LonePools.{keeps-then}
 use Rattle.sqlx_pool_core.proofs.pool_core.PoolCore.poll_with.Goals as goal
 
 pub test_taken-requires-clause-tested : goal.test_taken-requires-clause-tested
@@ -42,13 +43,13 @@ pub returns-in-Test-clause-polls : goal.returns-in-Test-clause-polls
 returns-in-Test-clause-polls g c =
     begun-polls g.X.Outside.does g.X.Outside.depth c.args.options.now c.args.client c.args.ticket (max c.args.self.now.pool.last c.args.now.0) c.args.self.now.pool c.start.new.self.pool c.test_taken.new.self.pool _ _ (start.Test c.in-Test.idle) _
     c.in-Test.ensures.own c.in-Test.ensures.becomes (ap (λ (n : Core _). n.options) c.in-Test.ensures.becomes) c.in-Test.ensures.makes
-    (subst (λ (m : ℕ). GoesOn g.X.Outside.does g.X.Outside.depth c.args.options.now c.args.client c.args.ticket m (Test c.in-Test.idle) c.start.new.self.pool c.test_taken.new.self.pool c.args.out.now c.test_taken.new.out c.test_taken.result) c.moment-moment.ensures.moment c.test_taken.ensures)
+    (subst (λ (m : ℕ). GoesOn g.X.Outside.does g.X.Outside.depth c.args.options.now c.args.client c.args.ticket m (Test c.in-Test.idle) c.start.new.self.pool c.test_taken.new.self.pool c.args.out.now c.test_taken.new.out c.test_taken.result) c.moment-moment.ensures.moment c.test_taken.ensures.goes)
 
 pub returns-in-Connect-clause-polls : goal.returns-in-Connect-clause-polls
 returns-in-Connect-clause-polls g c =
     begun-polls g.X.Outside.does g.X.Outside.depth c.args.options.now c.args.client c.args.ticket (max c.args.self.now.pool.last c.args.now.0) c.args.self.now.pool c.start.new.self.pool c.connect.new.self.pool _ _ start.Connect _
     c.in-Connect.ensures.own c.in-Connect.ensures.becomes (ap (λ (n : Core _). n.options) c.in-Connect.ensures.becomes) c.in-Connect.ensures.makes
-    (subst (λ (m : ℕ). GoesOn g.X.Outside.does g.X.Outside.depth c.args.options.now c.args.client c.args.ticket m Connect c.start.new.self.pool c.connect.new.self.pool c.args.out.now c.connect.new.out c.connect.result) c.moment-moment.ensures.moment c.connect.ensures)
+    (subst (λ (m : ℕ). GoesOn g.X.Outside.does g.X.Outside.depth c.args.options.now c.args.client c.args.ticket m Connect c.start.new.self.pool c.connect.new.self.pool c.args.out.now c.connect.new.out c.connect.result) c.moment-moment.ensures.moment c.connect.ensures.goes)
 
 pub returns-in-Test-clause-rests : goal.returns-in-Test-clause-rests
 returns-in-Test-clause-rests g c = λ rest others. polls-rest g.X.Outside.does g.X.Outside.depth g.X.Outside.faults g.X.Outside.refusals g.X.Outside.IsShort g.met.X.Outside.facts _ _ _ _ _ _ _ _ _ rest others (returns-in-Test-clause-polls g c)
@@ -132,3 +133,9 @@ returns-in-Test-clause-at_once g c = polls-at_once g.X.Outside.does g.X.Outside.
 
 pub returns-in-Connect-clause-at_once : goal.returns-in-Connect-clause-at_once
 returns-in-Connect-clause-at_once g c = polls-at_once g.X.Outside.does g.X.Outside.depth g.X.Outside.faults g.X.Outside.refusals g.X.Outside.IsShort g.met.X.Outside.facts _ _ _ _ _ _ _ _ _ (returns-in-Connect-clause-polls g c)
+
+pub returns-in-Test-clause-edge : goal.returns-in-Test-clause-edge
+returns-in-Test-clause-edge g c = keeps-then c.args.self.now c.start.new.self c.test_taken.new.self c.in-Test.ensures.begun c.in-Test.ensures.edge c.test_taken.ensures.edge
+
+pub returns-in-Connect-clause-edge : goal.returns-in-Connect-clause-edge
+returns-in-Connect-clause-edge g c = keeps-then c.args.self.now c.start.new.self c.connect.new.self c.in-Connect.ensures.begun c.in-Connect.ensures.edge c.connect.ensures.edge

@@ -5,6 +5,9 @@ use Rattle.sqlx_pool_core.proofs.LonePools.{advanced-moved, moves-once}
 use Rattle.sqlx_pool_places.specs.Line.{TicketLine}
 use Rattle.sqlx_pool_core.proofs.pool_core.line.serve.Goals as goal
 
+pub returns-then-entitled-num_free-clause-still : goal.returns-then-entitled-num_free-clause-still
+returns-then-entitled-num_free-clause-still g c = λ lined. absurd (let served = lined.served in omega (arith, served, c.if-beyond-gt0.true, c.beyond.ensures, c.if-entitled-num_free.true, c.entitled.ensures, c.num_free.ensures))
+
 pub returns-then-entitled-num_free-clause-lined : goal.returns-then-entitled-num_free-clause-lined
 returns-then-entitled-num_free-clause-lined g c =
     nearly-moved c.args.pool.now c.args.line.now c.advance.new.self c.sound.ensures c.requires.near c.advance.ensures.becomes c.advance.ensures.one (omega (arith, c.if-beyond-gt0.true, c.beyond.ensures)) (omega (arith, c.if-entitled-num_free.true, c.entitled.ensures, c.num_free.ensures))

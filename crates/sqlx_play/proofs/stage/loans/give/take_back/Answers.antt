@@ -26,7 +26,7 @@ returns-in-Kept-clause-ok c = λ marks past at.
     let old = (scene_of c.args.stage.now) in
     let l = c.in-Some.lent in
     let m = max old.core.last c.args.moment.0 in
-    let w = came c.args.client m c.args.answers l old.core c.give_with.new.self.pool c.begin_give.new.self c.give_with.new.out c.give_with.result c.begin_give.ensures.letters c.begin_give.ensures.left (loan_of c.args.client l.id old.core.held) refl c.give_with.ensures in
+    let w = came c.args.client m c.args.answers l old.core c.give_with.new.self.pool c.begin_give.new.self c.give_with.new.out c.give_with.result c.begin_give.ensures.letters c.begin_give.ensures.left (loan_of c.args.client l.id old.core.held) refl c.give_with.ensures.gives in
     let made : w.made ≡ given.Kept = was-kept w.made (sym c.in-Kept.is ∙ w.word) in
     returns-kept old c.args.answers c.args.moment.0 c.args.client c.args.conn c.bounds.ensures.numbered c.give_with.new.self.pool l c.requires.in_order (sym c.take.ensures.found ∙ c.in-Some.is)
     _ m (max-eq_right c.requires.in_order) refl refl (w.store ∙ ap (λ (g : Given Link). given_store g c.begin_give.new.self.store) made ∙ c.begin_give.ensures.store) c.take.ensures.rest
@@ -39,7 +39,7 @@ returns-in-Closed-clause-ok c = λ marks past at.
     let old = (scene_of c.args.stage.now) in
     let l = c.in-Some.lent in
     let m = max old.core.last c.args.moment.0 in
-    let w = came c.args.client m c.args.answers l old.core c.give_with.new.self.pool c.begin_give.new.self c.give_with.new.out c.give_with.result c.begin_give.ensures.letters c.begin_give.ensures.left (loan_of c.args.client l.id old.core.held) refl c.give_with.ensures in
+    let w = came c.args.client m c.args.answers l old.core c.give_with.new.self.pool c.begin_give.new.self c.give_with.new.out c.give_with.result c.begin_give.ensures.letters c.begin_give.ensures.left (loan_of c.args.client l.id old.core.held) refl c.give_with.ensures.gives in
     let was = was-closed w.made (sym c.in-Closed.is ∙ w.word) in
     let raw = was.0 in
     let made : w.made ≡ given.Closed raw = was.1 in
@@ -55,7 +55,7 @@ unreachable-requires c =
     let l = c.in-Some.lent in
     let m = max old.core.last c.args.moment.0 in
     let raw = c.in-NotHeld.field-0 in
-    let w = came c.args.client m c.args.answers l old.core c.give_with.new.self.pool c.begin_give.new.self c.give_with.new.out c.give_with.result c.begin_give.ensures.letters c.begin_give.ensures.left (loan_of c.args.client l.id old.core.held) refl c.give_with.ensures in
+    let w = came c.args.client m c.args.answers l old.core c.give_with.new.self.pool c.begin_give.new.self c.give_with.new.out c.give_with.result c.begin_give.ensures.letters c.begin_give.ensures.left (loan_of c.args.client l.id old.core.held) refl c.give_with.ensures.gives in
     let made : w.made ≡ given.NotHeld raw = was-not_held raw w.made (sym c.in-NotHeld.is ∙ w.word) in
     returns-owned old c.args.answers c.args.moment.0 c.args.client c.args.conn c.bounds.ensures.numbered c.give_with.new.self.pool l c.requires.in_order (sym c.take.ensures.found ∙ c.in-Some.is)
     m (may_rest old.core.options.after_release c.args.answers l.raw.depth) raw (sym c.owns.ensures.owns ∙ c.if-not-owns.false) (sym made ∙ w.answer)
