@@ -195,7 +195,8 @@ impl ScriptOutside {
 
     // The link of this number is closed, and so its test is over, if it was tested.
     fn end_test(&mut self, number: u64)
-        ensures { self.new ≡ record self.old { left_open = beside number self.old.left_open; tests = self.old.tests - 1 } }
+        ensures becomes { self.new ≡ record self.old { left_open = beside number self.old.left_open; tests = self.old.tests - 1 } }
+        ensures none { (any : Link) → depth_of self.old any ≡ 0 → depth_of self.new any ≡ 0 }
     {
         self.forget(number);
         self.tests = self.tests.saturating_sub(1);

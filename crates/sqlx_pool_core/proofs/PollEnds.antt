@@ -2,7 +2,7 @@
 use Rattle.std.proofs.Common.{◌≡◌, ℕ, ◌≤◌, ◌<◌, inl, inr, Bool, true, false, Option, Some, None, List, [], ◌∷◌, ◌++◌, ◌+◌, drop, All, refl, sym, ap, subst, ◌∙◌, arith}
 use Rattle.std.proofs.lemmas.Bool.{ltb-true}
 use Rattle.std.proofs.lemmas.List.{append_assoc}
-use Rattle.std.proofs.lemmas.List.Elements.{All-head, All-tail}
+use Rattle.std.proofs.lemmas.List.Elements.{All-head, All-tail, All-weaker}
 use Rattle.sqlx_text.specs.declared.Moment.{Moment}
 use Rattle.sqlx_text.specs.declared.error.Error.{Error}
 use Rattle.sqlx_pool_marks.specs.declared.mark.Mark.{Mark}
@@ -26,7 +26,7 @@ use Rattle.sqlx_pool_core.specs.Calls.{Call, Facts, ping, close, close_hard}
 use Rattle.sqlx_pool_lists.specs.Core.{Core}
 use Rattle.sqlx_pool_lists.specs.CoreTurn.{core_turn}
 use Rattle.sqlx_pool_core.specs.CameTo.{IfAccepted, IfOpened, IfFailed, IsForGood}
-use Rattle.sqlx_pool_core.specs.PollParts.{BacksOff, IfBackoff, IfReady, IfRefused, IsQuiet, StayAtRest, first_depth}
+use Rattle.sqlx_pool_core.specs.PollParts.{BacksOff, IfBackoff, IfReady, IfRefused, first_depth}
 use Rattle.sqlx_pool_lists.specs.PollSteps.{phase_for, start_answer, started, tested_at, may_test_next, test_answer, after_test}
 use Rattle.sqlx_pool_core.specs.Walk.{Next, Test, Connect, Answer, IfAnswer, first, then_by, last, judges, tells, Connects, Goes, Polls}
 use Rattle.sqlx_pool_core.proofs.CheckKeeps.{quiet-keeps, tests-more}
@@ -296,23 +296,23 @@ module _ {C O X : Type 0} (does : Call C O → X → X → Type 0) (depth : X �
           }
 
   -- no ping and no close opens a level of these
-  abbrev StayQuiet : List (Idle C) → Bool → ℕ → Type 0
-  StayQuiet others hook tries = hook ≡ false → 1 < tries → (c : Call C O) (x y : X) → IsQuiet c → does c x y → All (at_rest x) others → All (at_rest y) others
+  still_rest : (others : List (Idle C)) (x y : X) → ((any : C) → depth x any ≡ 0 → depth y any ≡ 0) → All (at_rest x) others → All (at_rest y) others
+  still_rest others x y none h = All-weaker (at_rest x) (at_rest y) (λ i. none i.lent.raw) others h
 
-  goes-rest : (others : List (Idle C)) (hook : Bool) (tries : ℕ) → StayQuiet others hook tries → (verdicts : List (Verdict C)) (next : Next C) (core new : Core C) (old now : X) (r : Polled C) (made : List Mark) → Is others hook tries next core old → StillRest others hook tries old
+  goes-rest : (others : List (Idle C)) (hook : Bool) (tries : ℕ) (verdicts : List (Verdict C)) (next : Next C) (core new : Core C) (old now : X) (r : Polled C) (made : List Mark) → Is others hook tries next core old → StillRest others hook tries old
       → Goes does depth options k t m verdicts next core new old now r made → IfReady r (λ lent. depth now lent.raw ≡ 0)
-  goes-rest others hook tries later [] (Answer a) core new old now r made is rests g =
+  goes-rest others hook tries [] (Answer a) core new old now r made is rests g =
       subst (λ (p : Polled C). IfReady p (λ lent. depth now lent.raw ≡ 0)) (sym g.0) (subst (λ (x : X). IfReady a (λ lent. depth x lent.raw ≡ 0)) (sym g.3) is.rest)
-  goes-rest others hook tries later [] Connect core new old now r made is rests g = connects-rest core new old now r made g
-  goes-rest others hook tries later [] (Test i) core new old now r made is rests g = absurd g
-  goes-rest others hook tries later (v ∷ vs) (Test i) core new old now r made is rests g =
+  goes-rest others hook tries [] Connect core new old now r made is rests g = connects-rest core new old now r made g
+  goes-rest others hook tries [] (Test i) core new old now r made is rests g = absurd g
+  goes-rest others hook tries (v ∷ vs) (Test i) core new old now r made is rests g =
       let rests_now : StillRest others hook tries g.0 = λ off more.
-      quiet-keeps does depth (λ x. All (at_rest x) others) (λ conn answer now x y d. later off more (ping conn answer now) x y tt d) (λ conn x y d. later off more (close conn) x y tt d) (λ conn x y d. later off more (close_hard conn) x y tt d)
+      quiet-keeps does depth (λ x. All (at_rest x) others) (λ conn answer now x y d. still_rest others x y (facts (ping conn answer now) x y d).none) (λ conn x y d. still_rest others x y (facts (close conn) x y d).none) (λ conn x y d. still_rest others x y (facts (close_hard conn) x y d).none)
       core.options m i v old g.0 (is.hook_is ∙ off) (rests off more) g.1.1.0 in
-      goes-rest others hook tries later vs (then_by (judges k t core i v)) _ new g.0 now r g.1.0
+      goes-rest others hook tries vs (then_by (judges k t core i v)) _ new g.0 now r g.1.0
       (then_is others hook tries i v core old g.0 is (tests-rest does depth (λ c a b d. (facts c a b d).levels) core.options m i v old g.0 (λ off. is.rest (sym is.hook_is ∙ off)) g.1.1.0) rests_now) rests_now g.1.1.2
-  goes-rest others hook tries later (v ∷ vs) (Answer a) core new old now r made is rests g = absurd g
-  goes-rest others hook tries later (v ∷ vs) Connect core new old now r made is rests g = absurd g
+  goes-rest others hook tries (v ∷ vs) (Answer a) core new old now r made is rests g = absurd g
+  goes-rest others hook tries (v ∷ vs) Connect core new old now r made is rests g = absurd g
 
   begun-is : (core : Core C) (begun : Start C) (old : X) → begun ≡ start_answer (core_turn core k t m) core.idle → (core.options.before_acquire ≡ false → first_depth (depth old) core.idle ≡ 0)
       → Is (drop 1 core.idle) core.options.before_acquire core.options.idle_tries (first begun) (started t m begun core) old
@@ -336,9 +336,8 @@ module _ {C O X : Type 0} (does : Call C O → X → X → Type 0) (depth : X �
         tries_is = refl;
       }
 
-  -- what is lent has no level open, where a hook looks at it, or the idle connections have none and no ping and no close opens one
+  -- what is lent has no level open, where a hook looks at it, or the idle connections have none
   pub polls-rest : (core new : Core C) (old now : X) (r : Polled C) → (core.options.before_acquire ≡ false → first_depth (depth old) core.idle ≡ 0)
-      → (core.options.before_acquire ≡ false → 1 < core.options.idle_tries → StayAtRest does depth (drop 1 core.idle) old) → Polls does depth options k t m core new old now r → IfReady r (λ lent. depth now lent.raw ≡ 0)
+      → (core.options.before_acquire ≡ false → 1 < core.options.idle_tries → All (λ i. depth old i.lent.raw ≡ 0) (drop 1 core.idle)) → Polls does depth options k t m core new old now r → IfReady r (λ lent. depth now lent.raw ≡ 0)
   polls-rest core new old now r rests others p =
-      goes-rest (drop 1 core.idle) core.options.before_acquire core.options.idle_tries (λ off more. (others off more).later) p.verdicts (first p.begun) _ new old now r p.later (begun-is core p.begun old p.step rests)
-      (λ off more. (others off more).now) p.goes
+      goes-rest (drop 1 core.idle) core.options.before_acquire core.options.idle_tries p.verdicts (first p.begun) _ new old now r p.later (begun-is core p.begun old p.step rests) others p.goes

@@ -39,9 +39,17 @@ abbrev pub Wants : {C O X : Type 0} → (X → Type 0) → Call C O → X → Ty
 Wants IsShort (connect options answer) new = answer ≡ Err OutOfMemory → IsShort new
 Wants IsShort other new = ⊤
 
+-- no ping and no close opens a level, on whatever connection
+abbrev pub OpensNone : {C O X : Type 0} → (X → C → ℕ) → Call C O → X → X → Type 0
+OpensNone {C} depth (ping conn answer now) old new = (any : C) → depth old any ≡ 0 → depth new any ≡ 0
+OpensNone {C} depth (close conn) old new = (any : C) → depth old any ≡ 0 → depth new any ≡ 0
+OpensNone {C} depth (close_hard conn) old new = (any : C) → depth old any ≡ 0 → depth new any ≡ 0
+OpensNone depth hook old new = ⊤
+
 -- What a pool takes for granted of a call.
 pub record Facts {C O X : Type 0} (faults refusals : X → ℕ) (depth : X → C → ℕ) (IsShort : X → Type 0) (c : Call C O) (old new : X) : Type 0 where
   pub levels : Levels depth c old new
+  pub none : OpensNone depth c old new
   pub causes : Causes faults refusals depth c old new
   pub want : Wants IsShort c new
   pub more_faults : faults old ≤ faults new

@@ -14,7 +14,6 @@ use Rattle.sqlx_pool_marks.specs.declared.mark.Mark.{Mark}
 use Rattle.sqlx_pool_marks.specs.declared.turn.Turn.{Turn}
 use Rattle.sqlx_pool_marks.specs.declared.turn.Turn.TheVariants as turned
 use Rattle.sqlx_pool_core.specs.Outside.{HasRisen}
-use Rattle.sqlx_pool_core.specs.Calls.{Call, ping, close, close_hard}
 use Rattle.sqlx_pool_lists.specs.Core.{Core}
 use Rattle.sqlx_pool_lists.specs.Edits.{with_ticket, to_connect}
 use Rattle.sqlx_pool_lists.specs.PollSteps.{wait_of}
@@ -49,22 +48,9 @@ abbrev pub first_depth : {C : Type 0} → (C → ℕ) → List (Idle C) → ℕ
 first_depth depth [] = 0
 first_depth depth (i ∷ rest) = depth i.lent.raw
 
--- the call is a ping or a close, which a test without a hook makes
-abbrev pub IsQuiet : {C O : Type 0} → Call C O → Type 0
-IsQuiet (ping conn answer now) = ⊤
-IsQuiet (close conn) = ⊤
-IsQuiet (close_hard conn) = ⊤
-IsQuiet other = ⊥
-
--- No level of these connections is open, and no ping and no close opens one.
-pub record StayAtRest {C O X : Type 0} (does : Call C O → X → X → Type 0) (depth : X → C → ℕ) (idle : List (Idle C)) (out : X) : Type 0 where
-  pub now : All (λ i. depth out i.lent.raw ≡ 0) idle
-  pub later : (c : Call C O) (old new : X) → IsQuiet c → does c old new → All (λ i. depth old i.lent.raw ≡ 0) idle → All (λ i. depth new i.lent.raw ≡ 0) idle
-
--- This holds where a hook looks at a connection before it is lent; else where the first idle connection has no level open and, if a poll tests more of them, the others stay at rest.
-abbrev pub WhereIdleRests : {C O X : Type 0} → (Call C O → X → X → Type 0) → (X → C → ℕ) → Core C → X → Type 0 → Type 0
-WhereIdleRests does depth core out This =
-    (core.options.before_acquire ≡ false → first_depth (depth out) core.idle ≡ 0) → (core.options.before_acquire ≡ false → 1 < core.options.idle_tries → StayAtRest does depth (drop 1 core.idle) out) → This
+-- This holds where a hook looks at a connection before it is lent; else where the first idle connection has no level open, and the others have none either if a poll tests more of them.
+abbrev pub WhereIdleRests : {C X : Type 0} → (X → C → ℕ) → Core C → X → Type 0 → Type 0
+WhereIdleRests depth core out This = (core.options.before_acquire ≡ false → first_depth (depth out) core.idle ≡ 0) → (core.options.before_acquire ≡ false → 1 < core.options.idle_tries → All (λ i. depth out i.lent.raw ≡ 0) (drop 1 core.idle)) → This
 
 -- the connection under test is gone: its ticket connects
 abbrev pub untested : {C : Type 0} → ℕ → Core C → Core C

@@ -40,7 +40,7 @@ pub trait Outside<C, O> {
     fn connect(&mut self, alloc: Global, options: &O) -> Result<C, Error>
         ensures { does (call.connect options.now result) self.old self.new };
 
-    /// Asks a connection for a sign of life. It leaves the depth.
+    /// Asks a connection for a sign of life. It leaves the depth, and opens no level of another connection.
     fn ping(&mut self, conn: &mut C) -> Result<(), Error>
         ensures { does (call.ping conn.old result conn.new) self.old self.new };
 
@@ -60,11 +60,11 @@ pub trait Outside<C, O> {
     fn depth(&self, conn: &C) -> usize
         ensures { result ≡ depth self.now conn.now };
 
-    /// Closes a connection.
+    /// Closes a connection. It opens no level of another.
     fn close(&mut self, conn: C)
         ensures { does (call.close conn) self.old self.new };
 
-    /// Closes a connection without a farewell.
+    /// Closes a connection without a farewell. It opens no level of another.
     fn close_hard(&mut self, conn: C)
         ensures { does (call.close_hard conn) self.old self.new };
 

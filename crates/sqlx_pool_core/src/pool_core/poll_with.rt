@@ -179,8 +179,8 @@ impl<C> PoolCore<C> {
         ensures backs_off { IfBackoff result (BacksOff (core_turn self.old.pool client ticket (moment_of self.old.pool now)) (X.faults out.old) (X.faults out.new) (X.refusals out.old) (X.refusals out.new)) }
         // The counts never fall.
         ensures counts { (X.faults out.old ≤ X.faults out.new) × (X.refusals out.old ≤ X.refusals out.new) }
-        // What is lent has no level open, where a hook looks at it, or else where the idle connections have none and no ping and no close opens one.
-        ensures rests { WhereIdleRests X.does X.depth self.old.pool out.old (IfReady result (λ lent. X.depth out.new lent.raw ≡ 0)) }
+        // What is lent has no level open, where a hook looks at it, or else where the idle connections have none.
+        ensures rests { WhereIdleRests X.depth self.old.pool out.old (IfReady result (λ lent. X.depth out.new lent.raw ≡ 0)) }
         // The edge stays or moves once, however many steps the poll has, and who was entitled stays so while it waits.
         ensures edge { KeepsEntitled self.old self.new }
     {
