@@ -1,5 +1,5 @@
 -- The value under the lock stands where the log of one pool was cut, or got a limit.
-use Rattle.std.proofs.Common.{◌≡◌, ◌≢◌, ℕ, ◌+◌, ◌^◌, ◌<◌, ◌≤◌, inl, inr, Bool, true, false, max, Option, Some, None, IfSome, List, [], map, length, get_or, sum_by, take, drop, cond, refl, sym, ap, ◌∙◌, subst, arith}
+use Rattle.std.proofs.Common.{◌≡◌, ◌≢◌, ℕ, ◌+◌, ◌^◌, ◌<◌, ◌≤◌, inl, inr, Bool, true, false, max, Option, Some, None, IfSome, List, [], map, length, get_or, take, drop, cond, refl, sym, ap, ◌∙◌, subst, arith}
 use Rattle.std.specs.Prelude.{slice_set}
 use Rattle.std.proofs.Math.Seq.{drop-length}
 use Rattle.std.proofs.lemmas.Bool.{ne_eqb}
@@ -19,7 +19,7 @@ use Rattle.sqlx_pool_parts.specs.State.{no_start}
 use Rattle.sqlx_family.specs.Pools.{Pools, pool_in}
 use Rattle.sqlx_family.specs.IsFamily.{IsFamily}
 use Rattle.sqlx_family_steps.specs.FamilyCut.{FamilyCuts, cut_in, start_cut, with_cut}
-use Rattle.sqlx_family_pool.specs.FamilyState.{FamilyState, IsWithinLimitIn, cut_at, limited_at, since_start_in, family_state, forgotten, start_at, log_of, IsNamed, IsStanding, IsKept}
+use Rattle.sqlx_family_pool.specs.FamilyState.{FamilyState, IsWithinLimitIn, cut_at, limited_at, since_start_in, family_state, forgotten, start_at, log_of, IsStanding, IsKept}
 use Rattle.sqlx_family_pool.proofs.StepLemmas.{items-at, capacity-at, in-logs}
 
 module _ {C O : Type 0} {levels : C → ℕ} {max : ℕ} {cuts : Bool} {f : Pools C} {starts : List LogStart} {connect : O} {booked : Booked} (logs : List (PackedRow)) (kept : IsKept levels max cuts (family_state f (map marks_of logs) starts connect booked) (map room_of logs))

@@ -1,4 +1,4 @@
-use Rattle.std.proofs.Common.{◌<◌, length, sym, ◌∙◌, ap, arith}
+use Rattle.std.proofs.Common.{◌<◌, length, arith}
 use Rattle.sqlx_family_pool.proofs.CutLemmas.{few-loans, cut-kept, cut-is}
 use Rattle.sqlx_family_pool.proofs.locked.LockedFamily.cut.Goals as goal
 
