@@ -2,3 +2,4 @@ pub mod Replaces
 pub mod StepLemmas
 pub mod PoolLemmas
 pub mod SeenLemmas
+pub mod CutLemmas

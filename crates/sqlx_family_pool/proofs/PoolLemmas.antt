@@ -1,5 +1,5 @@
 -- A new family, a new child, and a pool that only heard of its family or whose log only got room.
-use Rattle.std.proofs.Common.{◌≡◌, ◌⊎◌, ℕ, zero, suc, Result, Ok, Err, OnErr, ◌+◌, ◌<◌, ◌≤◌, ◌||◌, inl, inr, Bool, false, List, [], ◌∷◌, ◌++◌, map, length, get_or, refl, sym, ap, ◌∙◌, subst, arith}
+use Rattle.std.proofs.Common.{◌≡◌, ◌⊎◌, ℕ, zero, suc, Result, Ok, Err, OnErr, ◌+◌, ◌<◌, ◌≤◌, ◌||◌, inl, inr, Bool, false, List, [], ◌∷◌, ◌++◌, map, length, get_or, take, drop, refl, sym, ap, ◌∙◌, subst, arith}
 use Rattle.std.specs.Prelude.{slice_set}
 use Rattle.std.proofs.lemmas.Bool.Decides.{eqb_tells}
 use Rattle.std.proofs.lemmas.List.{get_or-set_same, get_or-set_other, get_or_append_left, get_or_push, map-set, length-map, length-append, append-nil, get_or-map, map-append}
@@ -22,8 +22,9 @@ use Rattle.sqlx_family.specs.IsFamily.{IsFamily}
 use Rattle.sqlx_family.specs.FamilyLogs.{FamilyLogs}
 use Rattle.sqlx_family.proofs.LogLemmas.{stand-stepped}
 use Rattle.sqlx_pool_parts.specs.Booked.{Booked}
-use Rattle.sqlx_pool_parts.specs.State.{RestFlat}
-use Rattle.sqlx_family_pool.specs.FamilyState.{family_state, held_in, tickets_in, IsKept}
+use Rattle.sqlx_pool_parts.specs.declared.log_start.LogStart.{LogStart}
+use Rattle.sqlx_pool_parts.specs.State.{RestFlat, no_start}
+use Rattle.sqlx_family_pool.specs.FamilyState.{family_state, forgotten, held_in, tickets_in, IsKept}
 use Rattle.sqlx_pool.proofs.StepLemmas.{kept-books}
 use Rattle.sqlx_family_pool.proofs.Replaces.{Replaces, replaces-with}
 use Rattle.sqlx_family_pool.proofs.StepLemmas.{in-logs, room-there, written}
@@ -46,17 +47,20 @@ new-stands options n closed h tickets conns = record {
 }
 
 -- a family of one root
-module _ {C O : Type 0} (levels : C → ℕ) (max : ℕ) (connect : O) (booked : Booked) where
+module _ {C O : Type 0} (levels : C → ℕ) (max : ℕ) (cuts : Bool) (connect : O) (booked : Booked) where
   begun-so : (options : PoolOptions) → options.max_connections ≡ max → booked ≡ record { owned = 0; made = 0 } → (room : ℕ) → marks_due (pool_in 0 (new_family {C = C} options)) ≤ room
-      → IsKept levels max (family_state (new_family {C = C} options) ([] ∷ []) connect booked) (room ∷ [])
+      → IsKept levels max cuts (family_state (new_family {C = C} options) ([] ∷ []) (no_start ∷ []) connect booked) (room ∷ [])
   begun-so options most empty room enough =
       let owned : booked.owned ≡ 0 = ap (λ (b : Booked). b.owned) empty in
       let made : booked.made ≡ 0 = ap (λ (b : Booked). b.made) empty in
       record {
         standing = record {
           each = refl;
+          each_start = refl;
           stand = λ q below. stands q below;
           safe = λ q below. safe q below;
+          begins = λ q below. begins q below;
+          uncut = λ never q below. uncut q below;
           rest = λ q below. rest q below;
           most = most;
           owned = owned;
@@ -71,9 +75,17 @@ module _ {C O : Type 0} (levels : C → ℕ) (max : ℕ) (connect : O) (booked :
       stands zero below = new-stands options options.max_connections (counts_as_closed 0 (new_family {C = C} options)) (new_family {C = C} options).shared (omega arith) (omega arith)
       stands (suc q) below = absurd (omega (arith, below))
 
-      safe : (q : ℕ) → q < 1 → IsSafe (pool_in q (new_family {C = C} options)).options.max_connections [] (get_or ([] ∷ []) q [])
+      safe : (q : ℕ) → q < 1 → IsSafe (pool_in q (new_family {C = C} options)).options.max_connections (take (get_or (no_start ∷ []) q no_start).len (get_or ([] ∷ []) q [])) (drop (get_or (no_start ∷ []) q no_start).len (get_or ([] ∷ []) q []))
       safe zero below = tt
       safe (suc q) below = absurd (omega (arith, below))
+
+      begins : (q : ℕ) → q < 1 → (get_or (no_start ∷ []) q no_start).len ≤ length (get_or {A = List Mark} ([] ∷ []) q [])
+      begins zero below = omega arith
+      begins (suc q) below = absurd (omega (arith, below))
+
+      uncut : (q : ℕ) → q < 1 → get_or (no_start ∷ []) q no_start ≡ no_start
+      uncut zero below = refl
+      uncut (suc q) below = absurd (omega (arith, below))
 
       rest : (q : ℕ) → q < 1 → RestFlat levels (pool_in q (new_family {C = C} options)).idle
       rest zero below = All-nil _
@@ -83,16 +95,17 @@ module _ {C O : Type 0} (levels : C → ℕ) (max : ℕ) (connect : O) (booked :
       at zero below = omega (arith, enough)
       at (suc q) below = absurd (omega (arith, below))
 
-module _ {C O : Type 0} (levels : C → ℕ) (max : ℕ) (connect : O) (booked : Booked) where
-  pub begun : (f : Pools C) (options : PoolOptions) → f ≡ new_family options → options.max_connections ≡ max → booked ≡ record { owned = 0; made = 0 } → (logs : List (PackedRow)) (log : PackedRow) → logs ≡ log ∷ [] → marks_of log ≡ []
-      → marks_due (pool_in 0 f) ≤ room_of log → IsKept levels max (family_state f (map marks_of logs) connect booked) (map room_of logs)
-  begun f options new most empty logs log one none enough =
-      subst (λ (f : Pools C). marks_due (pool_in 0 f) ≤ room_of log → IsKept levels max (family_state f (map marks_of logs) connect booked) (map room_of logs)) (sym new)
-      (λ due. subst (λ (l : List (PackedRow)). IsKept levels max (family_state (new_family options) (map marks_of l) connect booked) (map room_of l)) (sym one)
-      (subst (λ (l : List Mark). IsKept levels max (family_state (new_family options) (l ∷ []) connect booked) (room_of log ∷ [])) (sym none) (begun-so levels max connect booked options most empty (room_of log) due))) enough
+module _ {C O : Type 0} (levels : C → ℕ) (max : ℕ) (cuts : Bool) (connect : O) (booked : Booked) where
+  pub begun : (f : Pools C) (options : PoolOptions) → f ≡ new_family options → options.max_connections ≡ max → booked ≡ record { owned = 0; made = 0 } → (logs : List (PackedRow)) (log : PackedRow) → logs ≡ log ∷ [] → marks_of log ≡ [] → (starts : List LogStart) → starts ≡ no_start ∷ []
+      → marks_due (pool_in 0 f) ≤ room_of log → IsKept levels max cuts (family_state f (map marks_of logs) starts connect booked) (map room_of logs)
+  begun f options new most empty logs log one none starts first enough =
+      subst (λ (f : Pools C). marks_due (pool_in 0 f) ≤ room_of log → IsKept levels max cuts (family_state f (map marks_of logs) starts connect booked) (map room_of logs)) (sym new)
+      (λ due. subst (λ (l : List LogStart). IsKept levels max cuts (family_state (new_family options) (map marks_of logs) l connect booked) (map room_of logs)) (sym first)
+      (subst (λ (l : List (PackedRow)). IsKept levels max cuts (family_state (new_family options) (map marks_of l) (no_start ∷ []) connect booked) (map room_of l)) (sym one)
+      (subst (λ (l : List Mark). IsKept levels max cuts (family_state (new_family options) (l ∷ []) (no_start ∷ []) connect booked) (room_of log ∷ [])) (sym none) (begun-so levels max cuts connect booked options most empty (room_of log) due)))) enough
 
   -- a family with one child more
-  module _ (f : Pools C) (logs : List (PackedRow)) (kept : IsKept levels max (family_state f (map marks_of logs) connect booked) (map room_of logs)) (bounds : IsFamily f) (options : PoolOptions) (log : PackedRow) (none : marks_of log ≡ []) (some : 1 ≤ room_of log) where
+  module _ (f : Pools C) (logs : List (PackedRow)) {starts : List LogStart} (kept : IsKept levels max cuts (family_state f (map marks_of logs) starts connect booked) (map room_of logs)) (bounds : IsFamily f) (options : PoolOptions) (log : PackedRow) (none : marks_of log ≡ []) (some : 1 ≤ room_of log) where
     entry-old : (p : ℕ) → p < length f.pools → entry_of p (with_child options f) ≡ entry_of p f
     entry-old p lt = get_or_append_left f.pools (new_pool options 0 ∷ []) no_pool p lt
 
@@ -101,49 +114,56 @@ module _ {C O : Type 0} (levels : C → ℕ) (max : ℕ) (connect : O) (booked :
         ap (λ (e : FamilyPool C). told (e.core.shut || (root_of (with_child options f)).shut) f.shared e.core) (entry-old p lt)
         ∙ ap (λ (e : FamilyPool C). told ((entry_of p f).core.shut || e.core.shut) f.shared (entry_of p f).core) (entry-old 0 (let s = bounds.some in omega (arith, s)))
 
-    -- what is said of each pool, its log and its room
-    each-pool : (P : Core C → List Mark → ℕ → Type 0) → ((p : ℕ) → p < length f.pools → P (pool_in p f) (get_or (map marks_of logs) p []) (get_or (map room_of logs) p 0)) → ((c : Bool) → P (told c f.shared (new_pool {C = C} options 0).core) [] (room_of log))
-        → (p : ℕ) → p < length (with_child options f).pools → P (pool_in p (with_child options f)) (get_or (map marks_of logs ++ [] ∷ []) p []) (get_or (map room_of logs ++ room_of log ∷ []) p 0)
+    -- what is said of where each pool's log begins, of the pool, its log and its room
+    each-pool : (P : LogStart → Core C → List Mark → ℕ → Type 0) → ((p : ℕ) → p < length f.pools → P (get_or starts p no_start) (pool_in p f) (get_or (map marks_of logs) p []) (get_or (map room_of logs) p 0)) → ((c : Bool) → P no_start (told c f.shared (new_pool {C = C} options 0).core) [] (room_of log))
+        → (p : ℕ) → p < length (with_child options f).pools → P (get_or (starts ++ no_start ∷ []) p no_start) (pool_in p (with_child options f)) (get_or (map marks_of logs ++ [] ∷ []) p []) (get_or (map room_of logs ++ room_of log ∷ []) p 0)
     each-pool P rest own p below = elim (eqb_tells p (length f.pools)) [
-      | inl is ↦ subst (λ (n : ℕ). P (pool_in n (with_child options f)) (get_or (map marks_of logs ++ [] ∷ []) n []) (get_or (map room_of logs ++ room_of log ∷ []) n 0)) (sym is.1)
-          (subst (λ (e : FamilyPool C). P (told (e.core.shut || (root_of (with_child options f)).shut) f.shared e.core) (get_or (map marks_of logs ++ [] ∷ []) (length f.pools) []) (get_or (map room_of logs ++ room_of log ∷ []) (length f.pools) 0)) (sym (get_or_push f.pools (new_pool options 0) no_pool (length f.pools) refl))
-          (subst (λ (l : List Mark). P (told (false || (root_of (with_child options f)).shut) f.shared (new_pool {C = C} options 0).core) l (get_or (map room_of logs ++ room_of log ∷ []) (length f.pools) 0)) (sym (get_or_push (map marks_of logs) [] [] (length f.pools) kept.standing.each))
-          (subst (P (told (false || (root_of (with_child options f)).shut) f.shared (new_pool {C = C} options 0).core) []) (sym (get_or_push (map room_of logs) (room_of log) 0 (length f.pools) (let a = kept.standing.each in let b = length-map logs marks_of in let c = length-map logs room_of in omega (arith, a, b, c))))
-          (own (false || (root_of (with_child options f)).shut)))))
+      | inl is ↦ subst (λ (n : ℕ). P (get_or (starts ++ no_start ∷ []) n no_start) (pool_in n (with_child options f)) (get_or (map marks_of logs ++ [] ∷ []) n []) (get_or (map room_of logs ++ room_of log ∷ []) n 0)) (sym is.1)
+          (subst (λ (s : LogStart). P s (pool_in (length f.pools) (with_child options f)) (get_or (map marks_of logs ++ [] ∷ []) (length f.pools) []) (get_or (map room_of logs ++ room_of log ∷ []) (length f.pools) 0)) (sym (get_or_push starts no_start no_start (length f.pools) kept.standing.each_start))
+          (subst (λ (e : FamilyPool C). P no_start (told (e.core.shut || (root_of (with_child options f)).shut) f.shared e.core) (get_or (map marks_of logs ++ [] ∷ []) (length f.pools) []) (get_or (map room_of logs ++ room_of log ∷ []) (length f.pools) 0)) (sym (get_or_push f.pools (new_pool options 0) no_pool (length f.pools) refl))
+          (subst (λ (l : List Mark). P no_start (told (false || (root_of (with_child options f)).shut) f.shared (new_pool {C = C} options 0).core) l (get_or (map room_of logs ++ room_of log ∷ []) (length f.pools) 0)) (sym (get_or_push (map marks_of logs) [] [] (length f.pools) kept.standing.each))
+          (subst (P no_start (told (false || (root_of (with_child options f)).shut) f.shared (new_pool {C = C} options 0).core) []) (sym (get_or_push (map room_of logs) (room_of log) 0 (length f.pools) (let a = kept.standing.each in let b = length-map logs marks_of in let c = length-map logs room_of in omega (arith, a, b, c))))
+          (own (false || (root_of (with_child options f)).shut))))))
       | inr is ↦
           let lt : p < length f.pools = (let ne = is.1 in let long = length-append f.pools (new_pool {C = C} options 0 ∷ []) in omega (arith, below, ne, long)) in
           let a = kept.standing.each in
           let b = length-map logs marks_of in
           let c = length-map logs room_of in
-          subst (λ (k : Core C). P k (get_or (map marks_of logs ++ [] ∷ []) p []) (get_or (map room_of logs ++ room_of log ∷ []) p 0)) (sym (pool-old p lt))
-          (subst (λ (l : List Mark). P (pool_in p f) l (get_or (map room_of logs ++ room_of log ∷ []) p 0)) (sym (get_or_append_left (map marks_of logs) ([] ∷ []) [] p (omega (arith, lt, a))))
-          (subst (P (pool_in p f) (get_or (map marks_of logs) p [])) (sym (get_or_append_left (map room_of logs) (room_of log ∷ []) 0 p (omega (arith, lt, a, b, c)))) (rest p lt)))
+          let d = kept.standing.each_start in
+          subst (λ (s : LogStart). P s (pool_in p (with_child options f)) (get_or (map marks_of logs ++ [] ∷ []) p []) (get_or (map room_of logs ++ room_of log ∷ []) p 0)) (sym (get_or_append_left starts (no_start ∷ []) no_start p (omega (arith, lt, d))))
+          (subst (λ (k : Core C). P (get_or starts p no_start) k (get_or (map marks_of logs ++ [] ∷ []) p []) (get_or (map room_of logs ++ room_of log ∷ []) p 0)) (sym (pool-old p lt))
+          (subst (λ (l : List Mark). P (get_or starts p no_start) (pool_in p f) l (get_or (map room_of logs ++ room_of log ∷ []) p 0)) (sym (get_or_append_left (map marks_of logs) ([] ∷ []) [] p (omega (arith, lt, a))))
+          (subst (P (get_or starts p no_start) (pool_in p f) (get_or (map marks_of logs) p [])) (sym (get_or_append_left (map room_of logs) (room_of log ∷ []) 0 p (omega (arith, lt, a, b, c)))) (rest p lt))))
     ]
 
-    grown : IsKept levels max (family_state (with_child options f) (map marks_of logs ++ [] ∷ []) connect booked) (map room_of logs ++ room_of log ∷ [])
+    grown : IsKept levels max cuts (family_state (with_child options f) (map marks_of logs ++ [] ∷ []) (starts ++ no_start ∷ []) connect booked) (map room_of logs ++ room_of log ∷ [])
     grown = record {
       standing = record {
         each = let a = length-append (map marks_of logs) ([] ∷ []) in let b = length-append f.pools (new_pool {C = C} options 0 ∷ []) in let c = kept.standing.each in omega (arith, a, b, c);
-        stand = each-pool (λ k l n. StandsIn k l) (λ p lt. kept.standing.stand p lt) (λ c. new-stands options 0 c f.shared bounds.first_ticket bounds.first_conn);
-        safe = each-pool (λ k l n. IsSafe k.options.max_connections [] l) (λ p lt. kept.standing.safe p lt) (λ c. tt);
-        rest = each-pool (λ k l n. RestFlat levels k.idle) (λ p lt. kept.standing.rest p lt) (λ c. All-nil _);
+        each_start = let a = length-append starts (no_start ∷ []) in let b = length-append f.pools (new_pool {C = C} options 0 ∷ []) in let c = kept.standing.each_start in omega (arith, a, b, c);
+        stand = each-pool (λ s k l n. StandsIn k l) (λ p lt. kept.standing.stand p lt) (λ c. new-stands options 0 c f.shared bounds.first_ticket bounds.first_conn);
+        safe = each-pool (λ (s : LogStart) k l n. IsSafe k.options.max_connections (take s.len l) (drop s.len l)) (λ p lt. kept.standing.safe p lt) (λ c. tt);
+        begins = each-pool (λ (s : LogStart) k l n. s.len ≤ length l) (λ p lt. kept.standing.begins p lt) (λ c. omega arith);
+        uncut = λ never. each-pool (λ (s : LogStart) k l n. s ≡ no_start) (λ p lt. kept.standing.uncut never p lt) (λ c. refl);
+        rest = each-pool (λ s k l n. RestFlat levels k.idle) (λ p lt. kept.standing.rest p lt) (λ c. All-nil _);
         most = ap (λ (e : FamilyPool C). e.core.options.max_connections) (entry-old 0 (let s = bounds.some in omega (arith, s))) ∙ kept.standing.most;
         owned = let a = sum_by_push held_in f.pools (new_pool {C = C} options 0) in let b = kept.standing.owned in omega (arith, a, b);
-        made = let a = sum_by_push lents (map marks_of logs) [] in let b = kept.standing.made in omega (arith, a, b);
+        made = let a = sum_by_push lents (map marks_of logs) [] in let b = kept.standing.made in let c = sum_by_push forgotten starts no_start in omega (arith, a, b, c);
       };
       asked = let a = sum_by_push tickets_in f.pools (new_pool {C = C} options 0) in let b = kept.asked in omega (arith, a, b);
       few = let a = sum_by_push tickets_in f.pools (new_pool {C = C} options 0) in let b = kept.few in omega (arith, a, b);
-      room = each-pool (λ k l n. length l + marks_due k ≤ n) (λ p lt. kept.room p lt) (λ c. omega (arith, some));
+      room = each-pool (λ s k l n. length l + marks_due k ≤ n) (λ p lt. kept.room p lt) (λ c. omega (arith, some));
     }
 
     pub items-pushed : map marks_of (logs ++ log ∷ []) ≡ map marks_of logs ++ [] ∷ []
     items-pushed = map-append marks_of logs (log ∷ []) ∙ ap (λ (l : List Mark). map marks_of logs ++ l ∷ []) none
 
-    pub child-added : (now : List (PackedRow)) → now ≡ logs ++ log ∷ [] → IsKept levels max (family_state (with_child options f) (map marks_of now) connect booked) (map room_of now)
-    child-added now e =
-        subst (λ (l : List (PackedRow)). IsKept levels max (family_state (with_child options f) (map marks_of l) connect booked) (map room_of l)) (sym e)
-        (subst (λ (l : List (List Mark)). IsKept levels max (family_state (with_child options f) l connect booked) (map room_of (logs ++ log ∷ []))) (sym (items-pushed))
-        (subst (λ (l : List ℕ). IsKept levels max (family_state (with_child options f) (map marks_of logs ++ [] ∷ []) connect booked) l) (sym (map-append room_of logs (log ∷ []))) grown))
+    pub child-added : (now : List (PackedRow)) → now ≡ logs ++ log ∷ [] → (begun_now : List LogStart) → begun_now ≡ starts ++ no_start ∷ [] → IsKept levels max cuts (family_state (with_child options f) (map marks_of now) begun_now connect booked) (map room_of now)
+    child-added now e begun_now d =
+        subst (λ (l : List LogStart). IsKept levels max cuts (family_state (with_child options f) (map marks_of now) l connect booked) (map room_of now)) (sym d)
+        (subst (λ (l : List (PackedRow)). IsKept levels max cuts (family_state (with_child options f) (map marks_of l) (starts ++ no_start ∷ []) connect booked) (map room_of l)) (sym e)
+        (subst (λ (l : List (List Mark)). IsKept levels max cuts (family_state (with_child options f) l (starts ++ no_start ∷ []) connect booked) (map room_of (logs ++ log ∷ []))) (sym (items-pushed))
+        (subst (λ (l : List ℕ). IsKept levels max cuts (family_state (with_child options f) (map marks_of logs ++ [] ∷ []) (starts ++ no_start ∷ []) connect booked) l) (sym (map-append room_of logs (log ∷ []))) grown)))
 
 -- ---- a log that only got room
 
@@ -152,12 +172,12 @@ pub on-err : {T E P : Type 0} (r : Result T E) → P → OnErr r P
 on-err (Ok t) p = tt
 on-err (Err e) p = p
 
-pub reserved : {C O : Type 0} {levels : C → ℕ} {max : ℕ} {f : Pools C} {connect : O} {booked : Booked} (logs : List (PackedRow)) → IsKept levels max (family_state f (map marks_of logs) connect booked) (map room_of logs)
+pub reserved : {C O : Type 0} {levels : C → ℕ} {max : ℕ} {cuts : Bool} {f : Pools C} {starts : List LogStart} {connect : O} {booked : Booked} (logs : List (PackedRow)) → IsKept levels max cuts (family_state f (map marks_of logs) starts connect booked) (map room_of logs)
     → (q : ℕ) (log now : PackedRow) → q < length logs → log ≡ get_or logs q log → marks_of now ≡ marks_of log → room_of log ≤ room_of now
-    → IsKept levels max (family_state f (map marks_of (slice_set logs q now)) connect booked) (map room_of (slice_set logs q now))
-reserved {levels = levels} {max = max} {f = f} {connect = connect} {booked = booked} logs kept q log now lt is items more =
-    subst (λ (l : List (List Mark)). IsKept levels max (family_state f l connect booked) (map room_of (slice_set logs q now))) (sym (map-set_same marks_of logs q now log (items ∙ ap marks_of is)))
-    (subst (IsKept levels max (family_state f (map marks_of logs) connect booked)) (sym (map-set room_of logs q now)) (record {
+    → IsKept levels max cuts (family_state f (map marks_of (slice_set logs q now)) starts connect booked) (map room_of (slice_set logs q now))
+reserved {levels = levels} {max = max} {cuts = cuts} {f = f} {starts = starts} {connect = connect} {booked = booked} logs kept q log now lt is items more =
+    subst (λ (l : List (List Mark)). IsKept levels max cuts (family_state f l starts connect booked) (map room_of (slice_set logs q now))) (sym (map-set_same marks_of logs q now log (items ∙ ap marks_of is)))
+    (subst (IsKept levels max cuts (family_state f (map marks_of logs) starts connect booked)) (sym (map-set room_of logs q now)) (record {
       standing = kept.standing;
       asked = kept.asked;
       few = kept.few;
@@ -196,19 +216,19 @@ module _ {C : Type 0} (q : ℕ) (f : Pools C) (lt : q < length f.pools) where
       (record { tickets = omega arith; numbers = omega arith; held = omega arith; paid = omega arith })
 
 -- the value under the lock stands, where a pool only heard of its family and its log only got room
-pub kept-heard : {C O : Type 0} {levels : C → ℕ} {max : ℕ} {f : Pools C} {connect : O} {booked : Booked} (logs : List (PackedRow)) → IsKept levels max (family_state f (map marks_of logs) connect booked) (map room_of logs)
+pub kept-heard : {C O : Type 0} {levels : C → ℕ} {max : ℕ} {cuts : Bool} {f : Pools C} {starts : List LogStart} {connect : O} {booked : Booked} (logs : List (PackedRow)) → IsKept levels max cuts (family_state f (map marks_of logs) starts connect booked) (map room_of logs)
     → (q : ℕ) → q < length f.pools → (log now : PackedRow) → log ≡ get_or logs q log → marks_of now ≡ marks_of log → room_of log ≤ room_of now → {g : Pools C} → g ≡ with_pool q (pool_in q f) f
-    → IsKept levels max (family_state g (map marks_of (slice_set logs q now)) connect booked) (map room_of (slice_set logs q now))
-kept-heard {levels = levels} {max = max} {f = f} {connect = connect} {booked = booked} logs kept q lt log now is items more same =
-    subst (λ (g : Pools _). IsKept levels max (family_state g (map marks_of (slice_set logs q now)) connect booked) (map room_of (slice_set logs q now))) (sym same)
+    → IsKept levels max cuts (family_state g (map marks_of (slice_set logs q now)) starts connect booked) (map room_of (slice_set logs q now))
+kept-heard {levels = levels} {max = max} {cuts = cuts} {f = f} {starts = starts} {connect = connect} {booked = booked} logs kept q lt log now is items more same =
+    subst (λ (g : Pools _). IsKept levels max cuts (family_state g (map marks_of (slice_set logs q now)) starts connect booked) (map room_of (slice_set logs q now))) (sym same)
     (written logs kept q lt log is (heard-replaces q f lt) (heard-makes q f lt) (heard-balance q f lt) (record { options = refl; rest = λ r. r }) connect (kept-books booked [] refl) now (items ∙ sym (append-nil (marks_of log)))
     (let room = room-there logs kept q lt log is in omega (arith, room, more)))
 
 -- it stands where the pool heard of its family or not
-pub kept-maybe : {C O : Type 0} {levels : C → ℕ} {max : ℕ} {f : Pools C} {connect : O} {booked : Booked} (logs : List (PackedRow)) → IsKept levels max (family_state f (map marks_of logs) connect booked) (map room_of logs)
+pub kept-maybe : {C O : Type 0} {levels : C → ℕ} {max : ℕ} {cuts : Bool} {f : Pools C} {starts : List LogStart} {connect : O} {booked : Booked} (logs : List (PackedRow)) → IsKept levels max cuts (family_state f (map marks_of logs) starts connect booked) (map room_of logs)
     → (q : ℕ) → q < length f.pools → (log now : PackedRow) → log ≡ get_or logs q log → marks_of now ≡ marks_of log → room_of log ≤ room_of now → {g : Pools C} → (g ≡ f) ⊎ (g ≡ with_pool q (pool_in q f) f)
-    → IsKept levels max (family_state g (map marks_of (slice_set logs q now)) connect booked) (map room_of (slice_set logs q now))
-kept-maybe {levels = levels} {max = max} {connect = connect} {booked = booked} logs kept q lt log now is items more (inl same) =
-    subst (λ (g : Pools _). IsKept levels max (family_state g (map marks_of (slice_set logs q now)) connect booked) (map room_of (slice_set logs q now))) (sym same)
+    → IsKept levels max cuts (family_state g (map marks_of (slice_set logs q now)) starts connect booked) (map room_of (slice_set logs q now))
+kept-maybe {levels = levels} {max = max} {cuts = cuts} {starts = starts} {connect = connect} {booked = booked} logs kept q lt log now is items more (inl same) =
+    subst (λ (g : Pools _). IsKept levels max cuts (family_state g (map marks_of (slice_set logs q now)) starts connect booked) (map room_of (slice_set logs q now))) (sym same)
     (reserved logs kept q log now (in-logs logs kept q lt log is) is items more)
 kept-maybe logs kept q lt log now is items more (inr heard) = kept-heard logs kept q lt log now is items more heard

@@ -21,8 +21,8 @@ use Rattle.sqlx_pool.proofs.SeenLemmas.{back-why}
 use Rattle.sqlx_family_pool.specs.Seen.{bare_family, SawFamily}
 use Rattle.sqlx_family_pool.specs.Upkeep.{has_room_in, IsFilledIn}
 
-pub standing-bare : {C O : Type 0} (levels : C → ℕ) (max : ℕ) (state : FamilyState C O) → IsStanding levels max state → IsStanding levels max (bare_family state)
-standing-bare levels max state s = record { each = s.each; stand = s.stand; safe = s.safe; rest = s.rest; most = s.most; owned = s.owned; made = s.made }
+pub standing-bare : {C O : Type 0} (levels : C → ℕ) (max : ℕ) (cuts : Bool) (state : FamilyState C O) → IsStanding levels max cuts state → IsStanding levels max cuts (bare_family state)
+standing-bare levels max cuts state s = record { each = s.each; each_start = s.each_start; stand = s.stand; safe = s.safe; begins = s.begins; uncut = s.uncut; rest = s.rest; most = s.most; owned = s.owned; made = s.made }
 
 pub owned-most : {C : Type 0} (f : Pools C) (q : ℕ) → owned_by q f ≤ sum_by permits_of f.pools
 owned-most f q = elim (leb_tells (length f.pools) q) [
@@ -39,13 +39,18 @@ child-there options f g (Ok q) named is = rw is (get_or_push f.pools (new_pool o
 child-there options f g (Err _) named is = tt
 
 -- what holds of a state that stands was seen
-pub saw-here : {C O : Type 0} (levels : C → ℕ) (max : ℕ) (state : FamilyState C O) → IsStanding levels max state → (P : FamilyState C (Unit {0}) → Type 0) → P (bare_family state) → SawFamily levels max P
-saw-here levels max state s P p = (bare_family state, standing-bare levels max state s, p)
+pub saw-here : {C O : Type 0} (levels : C → ℕ) (max : ℕ) (cuts : Bool) (state : FamilyState C O) → IsStanding levels max cuts state → (P : FamilyState C (Unit {0}) → Type 0) → P (bare_family state) → SawFamily levels max cuts P
+saw-here levels max cuts state s P p = (bare_family state, standing-bare levels max cuts state s, p)
 
 -- of a pool with a name something comes, so what comes is that of a pool with a name
 pub named-ok : {T E N : Type 0} (P : T → Type 0) (r : Result T E) → (N → IfOk r P) → IfOk r (λ x. N → P x)
 named-ok P (Ok x) f = f
 named-ok P (Err e) f = tt
+
+-- three facts of what comes give a fourth
+pub three-ok : {T E : Type 0} (P Q R S : T → Type 0) (r : Result T E) → ((x : T) → P x → Q x → R x → S x) → IfOk r P → IfOk r Q → IfOk r R → IfOk r S
+three-ok P Q R S (Ok x) f p q r = f x p q r
+three-ok P Q R S (Err e) f p q r = tt
 
 never : {A : Type 0} → false ≡ true → A
 never e = absurd cc

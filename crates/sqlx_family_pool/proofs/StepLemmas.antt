@@ -1,8 +1,8 @@
 -- The value under the lock stands after a step of one pool whose marks were written behind that pool's log.
-use Rattle.std.proofs.Common.{◌≡◌, ◌≢◌, ◌==◌, not, ℕ, ◌+◌, ◌^◌, ◌<◌, ◌≤◌, ◌⊎◌, inl, inr, Bool, true, false, Option, Some, None, List, [], ◌∷◌, ◌++◌, map, length, get_or, sum_by, All, refl, sym, ap, ◌∙◌, subst, arith}
+use Rattle.std.proofs.Common.{◌≡◌, ◌≢◌, ◌==◌, not, ℕ, ◌+◌, ◌^◌, ◌<◌, ◌≤◌, ◌⊎◌, inl, inr, Bool, true, false, Option, Some, None, List, [], ◌∷◌, ◌++◌, map, length, get_or, sum_by, take, drop, All, refl, sym, ap, ◌∙◌, subst, arith}
 use Rattle.std.specs.Prelude.{slice_set}
 use Rattle.std.proofs.lemmas.Bool.Decides.{eqb_tells}
-use Rattle.std.proofs.lemmas.List.{get_or-set_same, get_or-set_other, get_or-map, map-set, length-set, length-map, length-append}
+use Rattle.std.proofs.lemmas.List.{take-append-drop, take-append-le, drop-append-le, get_or-set_same, get_or-set_other, get_or-map, map-set, length-set, length-map, length-append}
 use Rattle.std.proofs.lemmas.List.Elements.{All-head, All-tail}
 use Rattle.std.proofs.lemmas.List.Sums.{sum_by-set, sum_by-cons}
 use Rattle.sqlx_pool_marks.specs.declared.mark.Mark.{Mark}
@@ -31,7 +31,8 @@ use Rattle.sqlx_family.specs.FamilyLogs.{with_marks, MakesTogether, FamilyLogs}
 use Rattle.sqlx_family.proofs.LogLemmas.{same, other}
 use Rattle.sqlx_pool_parts.specs.Booked.{Booked}
 use Rattle.sqlx_pool.specs.Places.{done_if_marks}
-use Rattle.sqlx_pool_parts.specs.State.{RestFlat}
+use Rattle.sqlx_pool_parts.specs.declared.log_start.LogStart.{LogStart}
+use Rattle.sqlx_pool_parts.specs.State.{RestFlat, no_start}
 use Rattle.sqlx_pool.proofs.LeavesLemmas.{Leaves}
 use Rattle.sqlx_pool.proofs.StepLemmas.{Books}
 use Rattle.sqlx_family_pool.specs.FamilyState.{family_state, with_made, held_in, tickets_in, IsKept}
@@ -81,13 +82,23 @@ grows-at q made logs lt p = elim (eqb_tells p q) [
 
 -- ---- a step
 
-module _ {C O : Type 0} {levels : C → ℕ} {max : ℕ} {f : Pools C} {logs : List (List Mark)} {connect : O} {booked : Booked} {capacities : List ℕ} (kept : IsKept levels max (family_state f logs connect booked) capacities) where
+-- marks that come behind a log are safe behind its start
+pub behind-start : (max n : ℕ) (marks made : List Mark) → n ≤ length marks → IsSafe max (take n marks) (drop n marks) → IsSafe max marks made → IsSafe max (take n (marks ++ made)) (drop n (marks ++ made))
+behind-start max n marks made begins safe now =
+    subst (λ (l : List Mark). IsSafe max l (drop n (marks ++ made))) (sym (take-append-le n marks made begins))
+    (subst (IsSafe max (take n marks)) (sym (drop-append-le n marks made begins))
+    (safe-append max (take n marks) (drop n marks) made safe (subst (λ (l : List Mark). IsSafe max l made) (sym (take-append-drop n marks)) now)))
+
+module _ {C O : Type 0} {levels : C → ℕ} {max : ℕ} {cuts : Bool} {f : Pools C} {logs : List (List Mark)} {starts : List LogStart} {connect : O} {booked : Booked} {capacities : List ℕ} (kept : IsKept levels max cuts (family_state f logs starts connect booked) capacities) where
   -- One pool's core becomes this one but for its permits, and its marks are written behind its log.
   module _ (q : ℕ) (lt : q < length f.pools) (core : Core C) (g : Pools C) (made : List Mark) (backs room : ℕ) (replaces : Replaces q f core g) (makes : FamilyLogs f q made g) (balance : Balance (pool_in q f) (pool_in q g) made backs room)
       (leaves : Leaves levels (pool_in q f) core) (now_connect : O) (now_booked : Booked) (books : Books booked now_booked made backs) (now_capacities : List ℕ)
       (others : (p : ℕ) → p ≢ q → get_or now_capacities p 0 ≡ get_or capacities p 0) (enough : length (get_or logs q []) + marks_due (pool_in q f) + room ≤ get_or now_capacities q 0) where
     abbrev of : ℕ → List Mark
     of r = get_or logs r []
+
+    abbrev begin : ℕ → ℕ
+    begin r = (get_or starts r no_start).len
 
     together : MakesTogether (pool_in q f).options.max_connections q of made g
     together = makes of kept.standing.stand
@@ -108,10 +119,10 @@ module _ {C O : Type 0} {levels : C → ℕ} {max : ℕ} {f : Pools C} {logs : L
     was_named p below = let e = replaces.names in omega (arith, e, below)
 
     -- what is said of each pool and its log
-    each-pool : (P : Core C → List Mark → Type 0) → P (pool_in q g) (of q ++ made) → ((p : ℕ) → p ≢ q → p < length f.pools → P (pool_in p g) (of p)) → (p : ℕ) → p < length g.pools → P (pool_in p g) (get_or (with_made q made logs) p [])
+    each-pool : (P : ℕ → Core C → List Mark → Type 0) → P q (pool_in q g) (of q ++ made) → ((p : ℕ) → p ≢ q → p < length f.pools → P p (pool_in p g) (of p)) → (p : ℕ) → p < length g.pools → P p (pool_in p g) (get_or (with_made q made logs) p [])
     each-pool P own rest p below = elim (eqb_tells p q) [
-      | inl is ↦ subst (λ (n : ℕ). P (pool_in n g) (get_or (with_made q made logs) n [])) (sym is.1) (subst (P (pool_in q g)) (sym here) own)
-      | inr is ↦ subst (P (pool_in p g)) (sym (there p is.1)) (rest p is.1 (was_named p below))
+      | inl is ↦ subst (λ (n : ℕ). P n (pool_in n g) (get_or (with_made q made logs) n [])) (sym is.1) (subst (P q (pool_in q g)) (sym here) own)
+      | inr is ↦ subst (P p (pool_in p g)) (sym (there p is.1)) (rest p is.1 (was_named p below))
     ]
 
     own_options : (pool_in q g).options ≡ (pool_in q f).options
@@ -129,13 +140,19 @@ module _ {C O : Type 0} {levels : C → ℕ} {max : ℕ} {f : Pools C} {logs : L
     other_due : (p : ℕ) → p ≢ q → marks_due (pool_in p g) ≡ marks_due (pool_in p f)
     other_due p ne = ap (λ (c : Core C). marks_due c) (replaces.others p ne).1
 
-    safe : (p : ℕ) → p < length g.pools → IsSafe (pool_in p g).options.max_connections [] (get_or (with_made q made logs) p [])
-    safe = each-pool (λ (c : Core C) l. IsSafe c.options.max_connections [] l)
-        (subst (λ (o : PoolOptions). IsSafe o.max_connections [] (of q ++ made)) (sym own_options) (safe-append (pool_in q f).options.max_connections [] (of q) made (kept.standing.safe q lt) together.safe))
-        (λ p ne below. subst (λ (o : PoolOptions). IsSafe o.max_connections [] (of p)) (sym (other_options p ne)) (kept.standing.safe p below))
+    safe : (p : ℕ) → p < length g.pools → IsSafe (pool_in p g).options.max_connections (take (begin p) (get_or (with_made q made logs) p [])) (drop (begin p) (get_or (with_made q made logs) p []))
+    safe = each-pool (λ (p : ℕ) (c : Core C) l. IsSafe c.options.max_connections (take (begin p) l) (drop (begin p) l))
+        (subst (λ (o : PoolOptions). IsSafe o.max_connections (take (begin q) (of q ++ made)) (drop (begin q) (of q ++ made))) (sym own_options)
+        (behind-start (pool_in q f).options.max_connections (begin q) (of q) made (kept.standing.begins q lt) (kept.standing.safe q lt) together.safe))
+        (λ p ne below. subst (λ (o : PoolOptions). IsSafe o.max_connections (take (begin p) (of p)) (drop (begin p) (of p))) (sym (other_options p ne)) (kept.standing.safe p below))
+
+    begins : (p : ℕ) → p < length g.pools → begin p ≤ length (get_or (with_made q made logs) p [])
+    begins = each-pool (λ (p : ℕ) (c : Core C) l. begin p ≤ length l)
+        (let a = kept.standing.begins q lt in let b = length-append (of q) made in omega (arith, a, b))
+        (λ p ne below. kept.standing.begins p below)
 
     rest : (p : ℕ) → p < length g.pools → RestFlat levels (pool_in p g).idle
-    rest = each-pool (λ (c : Core C) l. RestFlat levels c.idle)
+    rest = each-pool (λ (p : ℕ) (c : Core C) l. RestFlat levels c.idle)
         (subst (RestFlat levels) (sym own_idle) (leaves.rest (kept.standing.rest q lt)))
         (λ p ne below. subst (RestFlat levels) (sym (other_idle p ne)) (kept.standing.rest p below))
 
@@ -168,12 +185,15 @@ module _ {C O : Type 0} {levels : C → ℕ} {max : ℕ} {f : Pools C} {logs : L
     few_now (inl le) = let a = balance.tickets in let b = balance.numbers in let c = kept.few in let d = tickets in let e = books.made_is in omega (arith, a, b, c, d, e, le)
     few_now (inr le) = let a = asked_now in omega (arith, a, le)
 
-    pub stepped : IsKept levels max (family_state g (with_made q made logs) now_connect now_booked) now_capacities
+    pub stepped : IsKept levels max cuts (family_state g (with_made q made logs) starts now_connect now_booked) now_capacities
     stepped = record {
       standing = record {
         each = let a = length-set logs q (of q ++ made) in let b = kept.standing.each in let c = replaces.names in omega (arith, a, b, c);
+        each_start = let b = kept.standing.each_start in let c = replaces.names in omega (arith, b, c);
         stand = λ p below. subst (StandsIn (pool_in p g)) (sym (grown p)) (together.stand p below);
         safe = safe;
+        begins = begins;
+        uncut = λ never p below. kept.standing.uncut never p (was_named p below);
         rest = rest;
         most = most;
         owned = let a = books.owned in let b = kept.standing.owned in let c = balance.held in let d = held in omega (arith, a, b, c, d);
@@ -185,7 +205,7 @@ module _ {C O : Type 0} {levels : C → ℕ} {max : ℕ} {f : Pools C} {logs : L
     }
 
 -- The same, where the logs are vectors: a step of the pool whose log was written to.
-module _ {C O : Type 0} {levels : C → ℕ} {max : ℕ} {f : Pools C} {connect : O} {booked : Booked} (logs : List (PackedRow)) (kept : IsKept levels max (family_state f (map marks_of logs) connect booked) (map room_of logs))
+module _ {C O : Type 0} {levels : C → ℕ} {max : ℕ} {cuts : Bool} {f : Pools C} {starts : List LogStart} {connect : O} {booked : Booked} (logs : List (PackedRow)) (kept : IsKept levels max cuts (family_state f (map marks_of logs) starts connect booked) (map room_of logs))
     (q : ℕ) (lt : q < length f.pools) (log : PackedRow) (is : log ≡ get_or logs q log) where
   pub in-logs : q < length logs
   in-logs = let a = kept.standing.each in let b = length-map logs marks_of in omega (arith, lt, a, b)
@@ -196,9 +216,9 @@ module _ {C O : Type 0} {levels : C → ℕ} {max : ℕ} {f : Pools C} {connect 
 
   pub written : {core : Core C} {g : Pools C} {made : List Mark} {backs room : ℕ} → Replaces q f core g → FamilyLogs f q made g → Balance (pool_in q f) (pool_in q g) made backs room → Leaves levels (pool_in q f) core
       → (connect : O) {now_booked : Booked} → Books booked now_booked made backs → (now : PackedRow) → marks_of now ≡ marks_of log ++ made → length (marks_of log) + marks_due (pool_in q f) + room ≤ room_of now
-      → IsKept levels max (family_state g (map marks_of (slice_set logs q now)) connect now_booked) (map room_of (slice_set logs q now))
+      → IsKept levels max cuts (family_state g (map marks_of (slice_set logs q now)) starts connect now_booked) (map room_of (slice_set logs q now))
   written {core} {g} {made} {backs} {room} replaces makes balance leaves connect {now_booked} books now grew enough =
-      subst (λ (l : List (List Mark)). IsKept levels max (family_state g l connect now_booked) (map room_of (slice_set logs q now))) (sym (logs-grow logs q log in-logs is now made grew))
+      subst (λ (l : List (List Mark)). IsKept levels max cuts (family_state g l starts connect now_booked) (map room_of (slice_set logs q now))) (sym (logs-grow logs q log in-logs is now made grew))
       (stepped kept q lt core g made backs room replaces makes balance leaves connect now_booked books (map room_of (slice_set logs q now))
       (λ p ne. ap (λ (l : List ℕ). get_or l p 0) (map-set room_of logs q now) ∙ get_or-set_other (map room_of logs) q p (room_of now) 0 ne)
       (let a = ap length (items-at logs q log in-logs is) in

@@ -1,4 +1,4 @@
--- What a pool of a family has to reap, to open and to close, which ticket an ask gets, and why an ask or a loan past the line is refused.
+-- What a pool of a family has to reap, to open and to close, which ticket an ask gets, what a copy of its log says, and why an ask or a loan past the line is refused.
 use Rattle.std.specs.Prelude.{◌≡◌, ◌⊎◌, ◌^◌, ◌<◌, ◌≤◌, ℕ, Bool, true, false, List, Option}
 use Rattle.sqlx_text.specs.declared.Moment.{Moment}
 use Rattle.sqlx_pool_lists.specs.declared.steps.Idle.{Idle}
@@ -7,7 +7,8 @@ use Rattle.sqlx_pool_lists.specs.MaintenanceSteps.{close_answer, has_place_if, r
 use Rattle.sqlx_family.specs.Pools.{counts_as_closed, pool_in}
 use Rattle.sqlx_family.specs.RootLine.{passes_in}
 use Rattle.sqlx_pool.specs.Places.{holds_place}
-use Rattle.sqlx_family_pool.specs.FamilyState.{FamilyState}
+use Rattle.sqlx_pool_parts.specs.declared.mark_log.MarkLog.{MarkLog}
+use Rattle.sqlx_family_pool.specs.FamilyState.{FamilyState, start_at, start_in, since_start_in}
 
 module _ {C O : Type 0} where
   -- the idle connection of a pool that is reaped first at this moment, if one is
@@ -41,3 +42,7 @@ module _ {C O : Type 0} where
   -- the family made as many loans as are made past the line
   abbrev pub AreLoansUsed : FamilyState C O → Type 0
   AreLoansUsed state = 2 ^ 62 ≤ state.booked.made
+
+  -- a copy of the log of the pool of this name: its start, how many loans were forgotten before that, and the marks behind it
+  abbrev pub IsLogOf : ℕ → MarkLog → FamilyState C O → Type 0
+  IsLogOf pool log state = (log.start.items ≡ start_in state pool) × (log.lent_before ≡ (start_at state pool).lent_before) × (log.marks.items ≡ since_start_in state pool)

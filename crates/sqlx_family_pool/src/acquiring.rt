@@ -129,7 +129,7 @@ impl<C: Depth + Drop, O: Drop, H: Ledger, L: Loans> FamilyAcquiringOf<C, O, H, L
 
     /// Gives the ticket up. It ends, and frees what it held: true.
     pub fn cancel<R: Wait>(self, rt: &R) -> bool
-        ensures { SawFamily C.levels L.max (λ state. result ≡ may_cancel (phase_for self.client self.ticket (pool_in self.pool.name state.family).tickets)) }
+        ensures { SawFamily C.levels L.max L.cuts (λ state. result ≡ may_cancel (phase_for self.client self.ticket (pool_in self.pool.name state.family).tickets)) }
     {
         let FamilyAcquiringOf {
             pool,

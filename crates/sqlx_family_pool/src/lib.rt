@@ -5,6 +5,7 @@
 #![tactic(auto)]
 
 mod acquiring;
+mod close_event;
 mod connection;
 mod hold;
 mod locked;
@@ -12,6 +13,7 @@ mod pool;
 mod seen;
 
 pub use acquiring::FamilyAcquiringOf;
+pub use close_event::FamilyCloseEventOf;
 pub use connection::FamilyConnectionOf;
 pub use locked::LockedFamily;
 pub use pool::FamilyPoolOf;
@@ -34,6 +36,14 @@ pub type FamilyPool<DB, H, L> = FamilyPoolOf<
 
 /// A ticket of a pool of a family of a database's pools.
 pub type FamilyAcquiring<DB, H, L> = FamilyAcquiringOf<
+    <DB as Database>::Connection,
+    <DB as Database>::Options,
+    H,
+    L,
+>;
+
+/// What tells that a pool of a family of a database's pools is closed.
+pub type FamilyCloseEvent<DB, H, L> = FamilyCloseEventOf<
     <DB as Database>::Connection,
     <DB as Database>::Options,
     H,

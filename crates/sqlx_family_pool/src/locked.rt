@@ -5,10 +5,12 @@ ghost use Rattle.sqlx_text.specs.declared.error.Error.{Error};
 ghost use Rattle.sqlx_pool_marks.specs.declared.mark.Mark.{Mark};
 ghost use Rattle.sqlx_family.specs.Pools.{new_family, with_child};
 ghost use Rattle.sqlx_pool_parts.specs.Booked.{Booked, Tallied};
+ghost use Rattle.sqlx_pool_parts.specs.State.{no_start};
 ghost use Rattle.sqlx_family_pool.specs.FamilyState.{FamilyState};
 
 mod ask;
 mod closing;
+mod cut;
 mod maintenance;
 mod poll;
 mod questions;
@@ -18,6 +20,7 @@ use sqlx_family::Family;
 use sqlx_pool::{Loans, Tally};
 use sqlx_pool_core::PoolOptions;
 use sqlx_pool_log::PackedLog;
+use sqlx_pool_parts::LogStart;
 use sqlx_pool_parts::books::Books;
 use sqlx_text::{Depth, Error, OutOfMemory};
 use std::alloc::Global;
@@ -27,11 +30,19 @@ use std::sync::ledger::{Blank, Ledger};
 // So many pools have a name.
 const POOLS: usize = (1 << 32) - 1;
 
-/// What is under the lock of a family: its pools, a log for each of all that its steps did, the options by which
-/// connections are opened, and the books of two ledgers, which count all pools.
+// Where a log begins that was never cut, and for which no limit is set.
+const UNCUT: LogStart = LogStart {
+    len: 0,
+    lent_before: 0,
+    limit: None,
+};
+
+/// What is under the lock of a family: its pools, a log for each of all that its steps did and where that log begins, the
+/// options by which connections are opened, and the books of two ledgers, which count all pools.
 pub struct LockedFamily<C: Depth, O, H: Ledger, L: Loans> {
     family: Family<C>,
     logs: Vec<PackedLog>,
+    starts: Vec<LogStart>,
     connect: O,
     books: Books<H, L>,
 }
@@ -41,11 +52,13 @@ impl<C: Depth + Drop, O: Drop, H: Ledger, L: Loans> Drop for LockedFamily<C, O, 
         let LockedFamily {
             family,
             logs,
+            starts,
             connect,
             books,
         } = self;
         drop(family);
         drop(logs);
+        drop(starts);
         drop(connect);
         drop(books);
     }
@@ -58,9 +71,9 @@ impl<C: Depth, O, H: Ledger, L: Loans> Model for LockedFamily<C, O, H, L> {
 
     ghost Value = { FamilyState C O };
 
-    ghost view = { λ s. family_state s.family (map marks_of s.logs.items) s.connect s.books };
+    ghost view = { λ s. family_state s.family (map marks_of s.logs.items) s.starts.items s.connect s.books };
 
-    ghost invariant = { λ s. IsKept C.levels L.max (family_state s.family (map marks_of s.logs.items) s.connect s.books) (map room_of s.logs.items) };
+    ghost invariant = { λ s. IsKept C.levels L.max L.cuts (family_state s.family (map marks_of s.logs.items) s.starts.items s.connect s.books) (map room_of s.logs.items) };
 }
 
 impl<C: Depth + Drop, O: Drop, H: Ledger, L: Loans> LockedFamily<C, O, H, L> {
@@ -80,6 +93,7 @@ impl<C: Depth + Drop, O: Drop, H: Ledger, L: Loans> LockedFamily<C, O, H, L> {
         requires loans { (loans.name ≡ L.name) × (loans.parts ≡ L.parts) × (1 ≤ loans.parts) }
         ensures family { IfOk result (λ made. made.0.family ≡ new_family options) }
         ensures logs { IfOk result (λ made. made.0.logs ≡ [] ∷ []) }
+        ensures starts { IfOk result (λ made. made.0.starts ≡ no_start ∷ []) }
         ensures connect { IfOk result (λ made. made.0.connect ≡ connect) }
         ensures tally { IfOk result (λ made. made.1 ≡ record { parts = L.parts; loans = 0 }) }
     {
@@ -87,14 +101,19 @@ impl<C: Depth + Drop, O: Drop, H: Ledger, L: Loans> LockedFamily<C, O, H, L> {
         let Ok(mut logs) = Vec::with_capacity(alloc, 1) else {
             return Err(OutOfMemory);
         };
+        let Ok(mut starts) = Vec::with_capacity(alloc, 1) else {
+            return Err(OutOfMemory);
+        };
         let Ok(log) = PackedLog::with_capacity(alloc, family.due(0)) else {
             return Err(OutOfMemory);
         };
         logs.push_reserved(log);
+        starts.push_reserved(UNCUT);
         let (books, tally) = Books::new(held, loans);
         let locked = LockedFamily {
             family,
             logs,
+            starts,
             connect,
             books,
         };
@@ -113,6 +132,7 @@ impl<C: Depth + Drop, O: Drop, H: Ledger, L: Loans> LockedFamily<C, O, H, L> {
         ensures causes { IfErr result (λ e. (e ≡ Error.Exhausted) ⊎ (e ≡ Error.OutOfMemory)) }
         ensures family { OnOk result (self.new.family ≡ with_child options self.old.family) }
         ensures logs { OnOk result (self.new.logs ≡ self.old.logs ++ [] ∷ []) }
+        ensures starts { OnOk result (self.new.starts ≡ self.old.starts ++ no_start ∷ []) }
         ensures connect { self.new.connect ≡ self.old.connect }
         ensures err { OnErr result (self.new ≡ self.old) }
     {
@@ -122,12 +142,16 @@ impl<C: Depth + Drop, O: Drop, H: Ledger, L: Loans> LockedFamily<C, O, H, L> {
         let Ok(()) = self.logs.reserve(1) else {
             return Err(Error::OutOfMemory);
         };
+        let Ok(()) = self.starts.reserve(1) else {
+            return Err(Error::OutOfMemory);
+        };
         let Ok(log) = PackedLog::with_capacity(alloc, 1) else {
             return Err(Error::OutOfMemory);
         };
         self.family.bounds();
         let name = self.family.add_child(options)?;
         self.logs.push_reserved(log);
+        self.starts.push_reserved(UNCUT);
         Ok(name)
     }
 }

@@ -1,6 +1,6 @@
 //! The handle on one pool of a family that threads share. Each call takes the lock for one step at a time.
 
-ghost use Rattle.std.specs.Prelude.{◌≡◌, ℕ, ◌+◌, ◌-◌, ◌^◌, ◌<◌, ◌≤◌, ◌⊎◌, [], Err, is_some, length, IfOk, IfErr, IfSome, OnErr};
+ghost use Rattle.std.specs.Prelude.{◌≡◌, ℕ, ◌+◌, ◌-◌, ◌^◌, ◌<◌, ◌≤◌, ◌⊎◌, Err, true, false, is_some, length, IfOk, IfErr, IfSome, OnErr, sum_by};
 ghost use Rattle.sqlx_text.specs.declared.error.Error.{Error};
 ghost use Rattle.sqlx_pool_marks.specs.FairLog.{IsSafe};
 ghost use Rattle.sqlx_pool_lists.specs.Core.{size};
@@ -9,19 +9,20 @@ ghost use Rattle.sqlx_family.specs.Permits.{owned_by};
 ghost use Rattle.sqlx_pool_parts.specs.Booked.{CountsIf};
 ghost use Rattle.sqlx_pool_parts.specs.MarkLog.{IsUncut};
 ghost use Rattle.sqlx_pool_parts.specs.Opened.{IsOpenable};
-ghost use Rattle.sqlx_family_steps.specs.FamilySteps.{try_lent_in};
+ghost use Rattle.sqlx_family_steps.specs.FamilySteps.{closing_in, try_lent_in};
 ghost use Rattle.sqlx_pool.specs.Refusals.{IsAskRefusal, IsTryRefusal};
-ghost use Rattle.sqlx_family_pool.specs.FamilyState.{log_of};
+ghost use Rattle.sqlx_family_pool.specs.FamilyState.{loans_told, since_start_in};
 ghost use Rattle.sqlx_family_pool.specs.Handles.{IsChildOf};
 ghost use Rattle.sqlx_family_pool.specs.Seen.{SawFamily, SawIn};
-ghost use Rattle.sqlx_family_pool.specs.Upkeep.{AreLoansUsed, AreTicketsUsed, IsClosedIn, IsNextTicket};
+ghost use Rattle.sqlx_family_pool.specs.Upkeep.{AreLoansUsed, AreTicketsUsed, IsClosedIn, IsLogOf, IsNextTicket};
 
+mod first;
 mod maintenance;
 mod polls;
 
-use crate::{FamilyAcquiringOf, FamilyConnectionOf, LockedFamily};
+use crate::{FamilyAcquiringOf, FamilyCloseEventOf, FamilyConnectionOf, LockedFamily};
 use sqlx_pool::{Loans, MarkLog, Tally};
-use sqlx_pool_core::PoolOptions;
+use sqlx_pool_core::{CloseState, PoolOptions};
 use sqlx_pool_parts::sleepers::Sleepers;
 use sqlx_text::{Depth, Error, Moment, OutOfMemory};
 use std::alloc::Global;
@@ -116,10 +117,10 @@ impl<C: Depth + Drop, O: Drop, H: Ledger, L: Loans> FamilyPoolOf<C, O, H, L> {
         requires root { self.now.name ≡ 0 }
         requires options { IsChildOf options L.max }
         ensures name { IfOk result (λ child. 1 ≤ child.name) }
-        ensures added { IfOk result (λ child. SawFamily C.levels L.max (λ state. child.name ≡ length state.family.pools)) }
-        ensures fresh { IfOk result (λ child. SawFamily C.levels L.max (λ state. entry_of child.name state.family ≡ new_pool options 0)) }
+        ensures added { IfOk result (λ child. SawFamily C.levels L.max L.cuts (λ state. child.name ≡ length state.family.pools)) }
+        ensures fresh { IfOk result (λ child. SawFamily C.levels L.max L.cuts (λ state. entry_of child.name state.family ≡ new_pool options 0)) }
         ensures options { IfOk result (λ child. child.options ≡ options) }
-        ensures full { (result ≡ Err Error.Exhausted) → SawFamily C.levels L.max (λ state. length state.family.pools ≡ 2 ^ 32 - 1) }
+        ensures full { (result ≡ Err Error.Exhausted) → SawFamily C.levels L.max L.cuts (λ state. length state.family.pools ≡ 2 ^ 32 - 1) }
         ensures causes { IfErr result (λ e. (e ≡ Error.Exhausted) ⊎ (e ≡ Error.OutOfMemory)) }
     {
         let Ok(shared) = Arc::try_clone(&self.shared) else {
@@ -144,6 +145,13 @@ impl<C: Depth + Drop, O: Drop, H: Ledger, L: Loans> FamilyPoolOf<C, O, H, L> {
         self.shared.locked.lock(rt)
     }
 
+    // Takes the lock, and cuts the pool's log where it is long: before each step that reserves room for marks.
+    pub(crate) fn lock_and_cut<R: Wait>(&self, rt: &R) -> Guard<'_, C, O, H, L> {
+        let mut guard = self.lock(rt);
+        guard.cut_if_long(self.name);
+        guard
+    }
+
     // Lets the lock go, and wakes all that wait for their turn, in whichever pool: behind a step that may have freed a
     // permit, ended a ticket, or closed a pool.
     pub(crate) fn unlock(&self, guard: Guard<'_, C, O, H, L>) {
@@ -164,13 +172,15 @@ impl<C: Depth + Drop, O: Drop, H: Ledger, L: Loans> FamilyPoolOf<C, O, H, L> {
         now: Moment,
         client: u32,
     ) -> Result<FamilyAcquiringOf<C, O, H, L>, Error>
-        ensures asked { IfOk result (λ waits. (waits.pool.name ≡ self.now.name) × (waits.client ≡ client) × SawFamily C.levels L.max (IsNextTicket waits.ticket)) }
-        ensures refused { IfErr result (IsAskRefusal (SawFamily C.levels L.max (IsClosedIn self.now.name)) (SawFamily C.levels L.max AreTicketsUsed)) }
+        ensures asked { IfOk result (λ waits. (waits.pool.name ≡ self.now.name) × (waits.client ≡ client) × SawFamily C.levels L.max L.cuts (IsNextTicket waits.ticket)) }
+        ensures refused { IfErr result (IsAskRefusal (SawFamily C.levels L.max L.cuts (IsClosedIn self.now.name)) (SawFamily C.levels L.max L.cuts AreTicketsUsed)) }
     {
         let Ok(pool) = self.try_clone() else {
             return Err(Error::OutOfMemory);
         };
-        let asked = self.lock(rt).seen_ask(self.name, alloc, now, client);
+        let asked = self
+            .lock_and_cut(rt)
+            .seen_ask(self.name, alloc, now, client);
         match asked {
             Ok(ticket) => Ok(FamilyAcquiringOf::new(pool, client, ticket)),
             Err(error) => {
@@ -191,16 +201,18 @@ impl<C: Depth + Drop, O: Drop, H: Ledger, L: Loans> FamilyPoolOf<C, O, H, L> {
         client: u32,
         tally: &mut Tally<L>,
     ) -> Result<Option<FamilyConnectionOf<C, O, H, L>>, Error>
-        ensures saw { let name = self.now.name in IfOk result (λ lent. SawIn C.levels L.max name (λ state. is_some lent ≡ is_some (try_lent_in name state.family))) }
+        ensures saw { let name = self.now.name in IfOk result (λ lent. SawIn C.levels L.max L.cuts name (λ state. is_some lent ≡ is_some (try_lent_in name state.family))) }
         ensures tally { IfOk result (λ lent. CountsIf (is_some lent) tally.old tally.new) }
         ensures flat { IfOk result (λ lent. IfSome lent (λ conn. C.levels conn.raw ≡ 0)) }
-        ensures refused { IfErr result (IsTryRefusal (SawFamily C.levels L.max AreLoansUsed)) }
+        ensures refused { IfErr result (IsTryRefusal (SawFamily C.levels L.max L.cuts AreLoansUsed)) }
         ensures err { OnErr result (tally.new ≡ tally.old) }
     {
         let Ok(pool) = self.try_clone() else {
             return Err(Error::OutOfMemory);
         };
-        let tried = self.lock(rt).seen_try(self.name, alloc, now, client, tally);
+        let tried = self
+            .lock_and_cut(rt)
+            .seen_try(self.name, alloc, now, client, tally);
         match tried {
             Ok(Some((lent, held))) => Ok(Some(FamilyConnectionOf::new(pool, client, lent, held))),
             Ok(None) => {
@@ -224,33 +236,50 @@ impl<C: Depth + Drop, O: Drop, H: Ledger, L: Loans> FamilyPoolOf<C, O, H, L> {
     /// How many permits the pool owns.
     pub fn owned<R: Wait>(&self, rt: &R) -> u32
         ensures most { result ≤ L.max }
-        ensures saw { SawFamily C.levels L.max (λ state. result ≡ owned_by self.now.name state.family) }
+        ensures saw { SawFamily C.levels L.max L.cuts (λ state. result ≡ owned_by self.now.name state.family) }
     {
         self.lock(rt).seen_owned(self.name)
     }
 
     /// How many connections there are or may be.
     pub fn size<R: Wait>(&self, rt: &R) -> u32
-        ensures { SawFamily C.levels L.max (λ state. result ≡ size (pool_in self.now.name state.family)) }
+        ensures { SawFamily C.levels L.max L.cuts (λ state. result ≡ size (pool_in self.now.name state.family)) }
     {
         self.lock(rt).seen_size(self.name)
     }
 
     /// How many connections are idle.
     pub fn num_idle<R: Wait>(&self, rt: &R) -> usize
-        ensures { SawFamily C.levels L.max (λ state. result ≡ length (pool_in self.now.name state.family).idle) }
+        ensures { SawFamily C.levels L.max L.cuts (λ state. result ≡ length (pool_in self.now.name state.family).idle) }
     {
         self.lock(rt).seen_idle(self.name)
     }
 
     /// Whether the pool is closed: a close came to it, or to its root.
     pub fn is_closed<R: Wait>(&self, rt: &R) -> bool
-        ensures { SawFamily C.levels L.max (λ state. result ≡ counts_as_closed self.now.name state.family) }
+        ensures { SawFamily C.levels L.max L.cuts (λ state. result ≡ counts_as_closed self.now.name state.family) }
     {
         self.lock(rt).seen_closed(self.name)
     }
 
-    /// The options by which connections are opened.
+    /// How far the pool is closed, by whether a close came to it, or to its root.
+    pub fn closing<R: Wait>(&self, rt: &R) -> CloseState
+        ensures { SawFamily C.levels L.max L.cuts (λ state. result ≡ closing_in self.now.name state.family) }
+    {
+        self.lock(rt).seen_closing(self.name)
+    }
+
+    /// What tells that the pool is closed.
+    pub fn close_event(&self) -> Result<FamilyCloseEventOf<C, O, H, L>, OutOfMemory>
+        ensures { IfOk result (λ event. event.pool.name ≡ self.now.name) }
+    {
+        match self.try_clone() {
+            Ok(pool) => Ok(FamilyCloseEventOf::new(pool)),
+            Err(short) => Err(short),
+        }
+    }
+
+    /// The options by which the connections of the family are opened.
     pub fn connect_options<R: Wait>(&self, rt: &R) -> Result<Arc<O, Global>, OutOfMemory> {
         let guard = self.lock(rt);
         match Arc::try_clone(guard.connect_options()) {
@@ -259,12 +288,66 @@ impl<C: Depth + Drop, O: Drop, H: Ledger, L: Loans> FamilyPoolOf<C, O, H, L> {
         }
     }
 
-    /// The pool's maximum, and a copy of its log, which is safe for that maximum.
+    /// Sets the options by which connections are opened from now on, in whichever pool of the family.
+    pub fn set_connect_options<R: Wait>(
+        &self,
+        rt: &R,
+        alloc: Global,
+        options: O,
+    ) -> Result<(), OutOfMemory> {
+        let Ok(options) = Arc::new(alloc, options) else {
+            return Err(OutOfMemory);
+        };
+        let former = self.lock(rt).set_connect_options(options);
+        drop(former);
+        Ok(())
+    }
+
+    /// How many marks the pool's log has behind its start.
+    pub fn log_len<R: Wait>(&self, rt: &R) -> usize
+        ensures { SawFamily C.levels L.max L.cuts (λ state. result ≡ length (since_start_in state self.now.name)) }
+    {
+        self.lock(rt).seen_len(self.name)
+    }
+
+    /// Cuts the pool's log: the marks that later ones still look at become its start, and the others are forgotten. It
+    /// takes no memory, and gives none back: what it frees is room for the marks of later steps.
+    pub fn cut_log<R: Wait>(&self, rt: &R)
+        requires { L.cuts ≡ true }
+    {
+        self.lock(rt).cut(self.name);
+    }
+
+    /// Sets that the pool cuts its log by itself, before a step that reserves room for marks, where behind the start there
+    /// are at least so many marks, and as many as the start has. None, as at first: it doesn't.
+    pub fn set_log_limit<R: Wait>(&self, rt: &R, limit: Option<usize>)
+        requires { L.cuts ≡ true }
+    {
+        self.lock(rt).set_log_limit(self.name, limit);
+    }
+
+    /// The pool's maximum, and a copy of its log, which is safe behind its start for that maximum. The start is empty
+    /// where logs may not be cut.
     pub fn read_log<R: Wait>(&self, rt: &R, alloc: Global) -> Result<(u32, MarkLog), OutOfMemory>
-        ensures saw { IfOk result (λ read. SawIn C.levels L.max self.now.name (λ state. read.1.marks.items ≡ log_of state self.now.name)) }
-        ensures uncut { IfOk result (λ read. IsUncut read.1) }
-        ensures safe { IfOk result (λ read. IsSafe read.0 [] read.1.marks.items) }
+        ensures saw { IfOk result (λ read. SawFamily C.levels L.max L.cuts (IsLogOf self.now.name read.1)) }
+        ensures uncut { IfOk result (λ read. L.cuts ≡ false → IsUncut read.1) }
+        ensures safe { IfOk result (λ read. IsSafe read.0 read.1.start.items read.1.marks.items) }
     {
         self.lock(rt).seen_log(self.name, alloc)
+    }
+
+    /// A copy of the log of each pool of the family, by the pools' names, by the tally with every part: they have as many
+    /// `Lent` marks as that has counted loans, with those that cuts forgot, however many threads made them.
+    pub fn audit_log<R: Wait>(
+        &self,
+        rt: &R,
+        alloc: Global,
+        all: &mut Tally<L>,
+    ) -> Result<Vec<MarkLog>, OutOfMemory>
+        requires { all.old.parts ≡ L.parts }
+        ensures counted { IfOk result (λ logs. sum_by loans_told logs.items ≡ all.old.loans) }
+        ensures same { all.new ≡ all.old }
+    {
+        self.lock(rt).audited(alloc, all)
     }
 }

@@ -1,5 +1,6 @@
 -- What some steps come to in a family.
-use Rattle.std.specs.Prelude.{ℕ, ◌+◌, Option, Some, None}
+use Rattle.std.specs.Prelude.{ℕ, ◌+◌, Option, Some, None, length}
+use Rattle.sqlx_pool_lists.specs.declared.steps.CloseState.{CloseState}
 use Rattle.sqlx_pool_lists.specs.declared.steps.Given.{Given}
 use Rattle.sqlx_pool_lists.specs.declared.steps.Lent.{Lent}
 use Rattle.sqlx_pool_lists.specs.declared.steps.Start.{Start}
@@ -7,6 +8,7 @@ use Rattle.sqlx_pool_lists.specs.Core.{Core, ticket_of, loan_of}
 use Rattle.sqlx_pool_lists.specs.CoreTurn.{turn_of}
 use Rattle.sqlx_pool_lists.specs.Edits.{at_moment, asked}
 use Rattle.sqlx_pool_lists.specs.PollSteps.{start_answer, started, try_lent, after_try}
+use Rattle.sqlx_pool_lists.specs.MaintenanceSteps.{close_state}
 use Rattle.sqlx_pool_core.specs.ReturnSteps.{core_after_give}
 use Rattle.sqlx_family.specs.Pools.{Pools, pool_in, with_pool}
 use Rattle.sqlx_family.specs.RootLine.{is_entitled, granting, passes_in}
@@ -37,3 +39,7 @@ module _ {C : Type 0} where
   abbrev pub family_after_try : ℕ → ℕ → ℕ → Option (Lent C) → Pools C → Pools C
   family_after_try q k m (Some lent) f = with_pool q (after_try k m (Some lent) (pool_in q f)) f
   family_after_try q k m None f = f
+
+  -- how far a pool is closed: by whether it counts as closed, how many of its connections are owned and leaked, and how many of its tickets haven't ended
+  abbrev pub closing_in : ℕ → Pools C → CloseState
+  closing_in q f = let core = pool_in q f in close_state core.closed (length core.held) core.leaked (length core.tickets)

@@ -1,1 +1,2 @@
 pub mod FamilySteps
+pub mod FamilyCut

@@ -6,6 +6,7 @@
 
 pub mod asking;
 pub mod closing;
+pub mod cutting;
 pub mod polling;
 pub mod questions;
 pub mod returning;

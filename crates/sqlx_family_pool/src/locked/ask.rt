@@ -32,6 +32,7 @@ impl<C: Depth, O, H: Ledger, L: Loans> LockedFamily<C, O, H, L> {
         ensures causes { IfErr result (λ e. (e ≡ Error.PoolClosed) ⊎ ((e ≡ Error.Exhausted) ⊎ (e ≡ Error.OutOfMemory))) }
         ensures marks { let core = pool_in pool self.old.family in IfOk result (λ ticket. self.new.logs ≡ with_made pool (asked_marks core client (moment_of core now) ticket) self.old.logs) }
         ensures becomes { let core = pool_in pool self.old.family in OnOk result (self.new.family ≡ with_pool pool (core_after_ask client (moment_of core now) core) self.old.family) }
+        ensures starts { self.new.starts ≡ self.old.starts }
         ensures connect { self.new.connect ≡ self.old.connect }
         ensures booked { self.new.booked ≡ self.old.booked }
         ensures logs { OnErr result (self.new.logs ≡ self.old.logs) }
@@ -70,6 +71,7 @@ impl<C: Depth, O, H: Ledger, L: Loans> LockedFamily<C, O, H, L> {
         ensures exhausted { IsNamed pool self.old → ((result ≡ Err Error.Exhausted) ↔ ((is_some (try_lent_in pool self.old.family) ≡ true) × (2 ^ 62 ≤ self.old.booked.made))) }
         ensures causes { IfErr result (λ e. (e ≡ Error.Exhausted) ⊎ (e ≡ Error.OutOfMemory)) }
         ensures err { OnErr result ((self.new ≡ self.old) × (tally.new ≡ tally.old)) }
+        ensures starts { self.new.starts ≡ self.old.starts }
         ensures connect { self.new.connect ≡ self.old.connect }
     {
         if !self.is_named(pool) || !self.family.may_lend(pool) {

@@ -24,6 +24,7 @@ impl<C: Depth, O, H: Ledger, L: Loans> LockedFamily<C, O, H, L> {
         ensures marks { IsNamed pool self.old → self.new.logs ≡ with_made pool (close_marks (pool_in pool self.old.family).shut result.items) self.old.logs }
         ensures becomes { IsNamed pool self.old → let core = pool_in pool self.old.family in self.new.family ≡ with_pool pool (closed_from core.shut core) self.old.family }
         ensures unnamed { IsUnnamed pool self.old → (result.items ≡ []) × (self.new ≡ self.old) }
+        ensures starts { self.new.starts ≡ self.old.starts }
         ensures connect { self.new.connect ≡ self.old.connect }
         ensures booked { self.new.booked ≡ self.old.booked }
     {
@@ -40,6 +41,7 @@ impl<C: Depth, O, H: Ledger, L: Loans> LockedFamily<C, O, H, L> {
         ensures marks { IsNamed pool self.old → self.new.logs ≡ with_made pool (close_marks (pool_in pool self.old.family).shut result.items) self.old.logs }
         ensures becomes { IsNamed pool self.old → let core = pool_in pool self.old.family in self.new.family ≡ settled pool (retiring pool (with_pool pool (closed_from core.shut core) self.old.family)) }
         ensures unnamed { IsUnnamed pool self.old → (result.items ≡ []) × (self.new ≡ self.old) }
+        ensures starts { self.new.starts ≡ self.old.starts }
         ensures connect { self.new.connect ≡ self.old.connect }
         ensures booked { self.new.booked ≡ self.old.booked }
     {

@@ -29,6 +29,7 @@ impl<C: Depth, O, H: Ledger, L: Loans> LockedFamily<C, O, H, L> {
         ensures marks { IsNamed pool self.old → self.new.logs ≡ with_made pool (reap_marks result) self.old.logs }
         ensures becomes { IsNamed pool self.old → let core = pool_in pool self.old.family in self.new.family ≡ with_pool pool (reaped (moment_of core now) result core) self.old.family }
         ensures unnamed { IsUnnamed pool self.old → (result ≡ None) × (self.new ≡ self.old) }
+        ensures starts { self.new.starts ≡ self.old.starts }
         ensures connect { self.new.connect ≡ self.old.connect }
         ensures booked { self.new.booked ≡ self.old.booked }
     {
@@ -45,6 +46,7 @@ impl<C: Depth, O, H: Ledger, L: Loans> LockedFamily<C, O, H, L> {
         ensures becomes { IsNamed pool self.old → let f = self.old.family in IfOk result (λ place. self.new.family ≡ with_pool pool (placed place (pool_in pool f)) f) }
         ensures unnamed { IsUnnamed pool self.old → (result ≡ Ok false) × (self.new ≡ self.old) }
         ensures logs { self.new.logs ≡ self.old.logs }
+        ensures starts { self.new.starts ≡ self.old.starts }
         ensures connect { self.new.connect ≡ self.old.connect }
         ensures booked { self.new.booked ≡ self.old.booked }
         ensures err { OnErr result (self.new ≡ self.old) }
@@ -72,6 +74,7 @@ impl<C: Depth, O, H: Ledger, L: Loans> LockedFamily<C, O, H, L> {
         ensures becomes { IsNamed pool self.old → let f = self.old.family in IfOk result (λ place. self.new.family ≡ with_pool pool (placed place (pool_in pool f)) f) }
         ensures unnamed { IsUnnamed pool self.old → (result ≡ Ok false) × (self.new ≡ self.old) }
         ensures logs { self.new.logs ≡ self.old.logs }
+        ensures starts { self.new.starts ≡ self.old.starts }
         ensures connect { self.new.connect ≡ self.old.connect }
         ensures booked { self.new.booked ≡ self.old.booked }
         ensures err { OnErr result (self.new ≡ self.old) }
@@ -99,6 +102,7 @@ impl<C: Depth, O, H: Ledger, L: Loans> LockedFamily<C, O, H, L> {
         ensures marks { IsNamed pool self.old → let core = pool_in pool self.old.family in self.new.logs ≡ with_made pool (marks_of_done core (moment_of core now) raw) self.old.logs }
         ensures becomes { IsNamed pool self.old → let core = pool_in pool self.old.family in self.new.family ≡ family_after_done (holds_place core) pool (moment_of core now) raw self.old.family }
         ensures unnamed { IsUnnamed pool self.old → (result ≡ raw) × (self.new ≡ self.old) }
+        ensures starts { self.new.starts ≡ self.old.starts }
         ensures connect { self.new.connect ≡ self.old.connect }
         ensures booked { self.new.booked ≡ self.old.booked }
     {

@@ -32,6 +32,7 @@ impl<C: Depth, O, H: Ledger, L: Loans> LockedFamily<C, O, H, L> {
         ensures marks { IsNamed pool self.old → self.new.logs ≡ with_made pool (start_marks ticket (phase_for client ticket (pool_in pool self.old.family).tickets) result) self.old.logs }
         ensures becomes { IsNamed pool self.old → let f = self.old.family in self.new.family ≡ family_after_start pool client ticket (moment_of (pool_in pool f) now) result f }
         ensures unnamed { IsUnnamed pool self.old → (result ≡ Start.NotHeld) × (self.new ≡ self.old) }
+        ensures starts { self.new.starts ≡ self.old.starts }
         ensures connect { self.new.connect ≡ self.old.connect }
         ensures booked { self.new.booked ≡ self.old.booked }
     {
@@ -57,6 +58,7 @@ impl<C: Depth, O, H: Ledger, L: Loans> LockedFamily<C, O, H, L> {
         ensures marks { IsNamed pool self.old → self.new.logs ≡ with_made pool (test_marks client ticket (judged verdict) result.0) self.old.logs }
         ensures becomes { IsNamed pool self.old → self.new.family ≡ stepped pool (after_test client ticket result.0 (pool_in pool self.old.family)) self.old.family }
         ensures unnamed { IsUnnamed pool self.old → (result.0 ≡ AfterTest.NotHeld verdict) × (self.new ≡ self.old) }
+        ensures starts { self.new.starts ≡ self.old.starts }
         ensures connect { self.new.connect ≡ self.old.connect }
         ensures held { is_some result.1 ≡ lends_tested result.0 }
         ensures tally { CountsIf (lends_tested result.0) tally.old tally.new }
@@ -88,6 +90,7 @@ impl<C: Depth, O, H: Ledger, L: Loans> LockedFamily<C, O, H, L> {
         ensures marks { IsNamed pool self.old → self.new.logs ≡ with_made pool (connect_marks client ticket (moment_of (pool_in pool self.old.family) now) result.0) self.old.logs }
         ensures becomes { IsNamed pool self.old → let core = pool_in pool self.old.family in self.new.family ≡ stepped pool (after_connect client ticket (moment_of core now) result.0 core) self.old.family }
         ensures unnamed { IsUnnamed pool self.old → (result.0 ≡ AfterConnect.NotHeld tried) × (self.new ≡ self.old) }
+        ensures starts { self.new.starts ≡ self.old.starts }
         ensures connect { self.new.connect ≡ self.old.connect }
         ensures held { is_some result.1 ≡ lends_new result.0 }
         ensures tally { CountsIf (lends_new result.0) tally.old tally.new }
@@ -112,6 +115,7 @@ impl<C: Depth, O, H: Ledger, L: Loans> LockedFamily<C, O, H, L> {
         ensures marks { IsNamed pool self.old → self.new.logs ≡ with_made pool (cancel_marks ticket result) self.old.logs }
         ensures becomes { IsNamed pool self.old → self.new.family ≡ stepped pool (cancelled ticket result (pool_in pool self.old.family)) self.old.family }
         ensures unnamed { IsUnnamed pool self.old → (result ≡ false) × (self.new ≡ self.old) }
+        ensures starts { self.new.starts ≡ self.old.starts }
         ensures connect { self.new.connect ≡ self.old.connect }
         ensures booked { self.new.booked ≡ self.old.booked }
     {

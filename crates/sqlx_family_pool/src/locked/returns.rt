@@ -37,6 +37,7 @@ impl<C: Depth, O, H: Ledger, L: Loans> LockedFamily<C, O, H, L> {
         ensures marks { IsNamed pool self.old → self.new.logs ≡ with_made pool (give_marks lent.id (moment_of (pool_in pool self.old.family) now) result.0) self.old.logs }
         ensures becomes { IsNamed pool self.old → let f = self.old.family in let core = pool_in pool f in self.new.family ≡ stepped pool (core_after_return client lent (moment_of core now) result.0 core) f }
         ensures unnamed { IsUnnamed pool self.old → (result.0 ≡ Given.NotHeld lent.raw) × (self.new ≡ self.old) }
+        ensures starts { self.new.starts ≡ self.old.starts }
         ensures connect { self.new.connect ≡ self.old.connect }
         ensures refused { accepted ≡ false → is_kept result.0 ≡ false }
         ensures held { is_some result.1 ≡ not (is_held result.0) }
@@ -57,6 +58,7 @@ impl<C: Depth, O, H: Ledger, L: Loans> LockedFamily<C, O, H, L> {
         ensures marks { IsNamed pool self.old → self.new.logs ≡ with_made pool (end_marks id result.0) self.old.logs }
         ensures becomes { IsNamed pool self.old → self.new.family ≡ stepped pool (released id result.0 (pool_in pool self.old.family)) self.old.family }
         ensures unnamed { IsUnnamed pool self.old → (result.0 ≡ false) × (self.new ≡ self.old) }
+        ensures starts { self.new.starts ≡ self.old.starts }
         ensures connect { self.new.connect ≡ self.old.connect }
         ensures held { is_some result.1 ≡ not result.0 }
     {
@@ -81,6 +83,7 @@ impl<C: Depth, O, H: Ledger, L: Loans> LockedFamily<C, O, H, L> {
         ensures marks { IsNamed pool self.old → self.new.logs ≡ with_made pool (detach_marks id result.0) self.old.logs }
         ensures becomes { IsNamed pool self.old → self.new.family ≡ stepped pool (released id result.0 (pool_in pool self.old.family)) self.old.family }
         ensures unnamed { IsUnnamed pool self.old → (result.0 ≡ false) × (self.new ≡ self.old) }
+        ensures starts { self.new.starts ≡ self.old.starts }
         ensures connect { self.new.connect ≡ self.old.connect }
         ensures held { is_some result.1 ≡ not result.0 }
     {
@@ -105,6 +108,7 @@ impl<C: Depth, O, H: Ledger, L: Loans> LockedFamily<C, O, H, L> {
         ensures marks { IsNamed pool self.old → self.new.logs ≡ with_made pool (leak_marks id result.0) self.old.logs }
         ensures becomes { IsNamed pool self.old → self.new.family ≡ with_pool pool (leaked id result.0 (pool_in pool self.old.family)) self.old.family }
         ensures unnamed { IsUnnamed pool self.old → (result.0 ≡ false) × (self.new ≡ self.old) }
+        ensures starts { self.new.starts ≡ self.old.starts }
         ensures connect { self.new.connect ≡ self.old.connect }
         ensures held { is_some result.1 ≡ not result.0 }
     {

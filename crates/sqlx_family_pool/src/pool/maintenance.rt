@@ -67,7 +67,7 @@ impl<C: Depth + Drop, O: Drop, H: Ledger, L: Loans> FamilyPoolOf<C, O, H, L> {
     /// number comes back. A second close gives 0. Where it is the root, each child counts as closed from now on; a child's
     /// idle connections stay until its own close.
     pub fn close<R: Wait, X: Outside<C, O>>(&self, rt: &R, alloc: Global, out: &mut X) -> usize
-        ensures saw { SawIn C.levels L.max self.now.name (λ state. result ≡ length (to_close_in self.now.name state)) }
+        ensures saw { SawIn C.levels L.max L.cuts self.now.name (λ state. result ≡ length (to_close_in self.now.name state)) }
         ensures counts { (X.faults out.old ≤ X.faults out.new) × (X.refusals out.old ≤ X.refusals out.new) }
     {
         let mut guard = self.lock(rt);
@@ -80,7 +80,7 @@ impl<C: Depth + Drop, O: Drop, H: Ledger, L: Loans> FamilyPoolOf<C, O, H, L> {
     /// once. The idle connections are closed; their number comes back.
     pub fn retire<R: Wait, X: Outside<C, O>>(&self, rt: &R, alloc: Global, out: &mut X) -> usize
         requires child { 1 ≤ self.now.name }
-        ensures saw { SawIn C.levels L.max self.now.name (λ state. result ≡ length (to_close_in self.now.name state)) }
+        ensures saw { SawIn C.levels L.max L.cuts self.now.name (λ state. result ≡ length (to_close_in self.now.name state)) }
         ensures counts { (X.faults out.old ≤ X.faults out.new) × (X.refusals out.old ≤ X.refusals out.new) }
     {
         let mut guard = self.lock(rt);
@@ -99,8 +99,8 @@ impl<C: Depth + Drop, O: Drop, H: Ledger, L: Loans> FamilyPoolOf<C, O, H, L> {
         out: &mut X,
     ) -> (u32, Openings)
         ensures most { (result.0 ≤ self.now.options.max_connections) × (result.1.opened ≤ self.now.options.max_connections) }
-        ensures reaped { (result.0 ≡ self.now.options.max_connections) ⊎ SawIn C.levels L.max self.now.name (λ state. to_reap_in self.now.name now state ≡ None) }
-        ensures ends { TellsLevels X.depth C.levels → EndsKeeping self.now.options (SawIn C.levels L.max self.now.name (IsFilledIn self.now.name)) (IsCounted X.faults X.refusals out.old out.new) result.1 }
+        ensures reaped { (result.0 ≡ self.now.options.max_connections) ⊎ SawIn C.levels L.max L.cuts self.now.name (λ state. to_reap_in self.now.name now state ≡ None) }
+        ensures ends { TellsLevels X.depth C.levels → EndsKeeping self.now.options (SawIn C.levels L.max L.cuts self.now.name (IsFilledIn self.now.name)) (IsCounted X.faults X.refusals out.old out.new) result.1 }
         ensures counts { (X.faults out.old ≤ X.faults out.new) × (X.refusals out.old ≤ X.refusals out.new) }
     {
         let reaped = self.reap_all::<R, X>(rt, now, out);
@@ -110,7 +110,7 @@ impl<C: Depth + Drop, O: Drop, H: Ledger, L: Loans> FamilyPoolOf<C, O, H, L> {
     // Closes what is to be reaped.
     fn reap_all<R: Wait, X: Outside<C, O>>(&self, rt: &R, now: Moment, out: &mut X) -> u32
         ensures most { result ≤ self.now.options.max_connections }
-        ensures ends { (result ≡ self.now.options.max_connections) ⊎ SawIn C.levels L.max self.now.name (λ state. to_reap_in self.now.name now state ≡ None) }
+        ensures ends { (result ≡ self.now.options.max_connections) ⊎ SawIn C.levels L.max L.cuts self.now.name (λ state. to_reap_in self.now.name now state ≡ None) }
         ensures counts { (X.faults out.old ≤ X.faults out.new) × (X.refusals out.old ≤ X.refusals out.new) }
     {
         let max = self.options.get_max_connections();
@@ -158,7 +158,7 @@ impl<C: Depth + Drop, O: Drop, H: Ledger, L: Loans> FamilyPoolOf<C, O, H, L> {
         out: &mut X,
     ) -> Openings
         ensures most { result.opened ≤ self.now.options.max_connections }
-        ensures ends { TellsLevels X.depth C.levels → EndsKeeping self.now.options (SawIn C.levels L.max self.now.name (IsFilledIn self.now.name)) (IsCounted X.faults X.refusals out.old out.new) result }
+        ensures ends { TellsLevels X.depth C.levels → EndsKeeping self.now.options (SawIn C.levels L.max L.cuts self.now.name (IsFilledIn self.now.name)) (IsCounted X.faults X.refusals out.old out.new) result }
         ensures counts { (X.faults out.old ≤ X.faults out.new) × (X.refusals out.old ≤ X.refusals out.new) }
     {
         let max = self.options.get_max_connections();
@@ -187,10 +187,10 @@ impl<C: Depth + Drop, O: Drop, H: Ledger, L: Loans> FamilyPoolOf<C, O, H, L> {
         now: Moment,
         out: &mut X,
     ) -> Filled
-        ensures unfilled { TellsLevels X.depth C.levels → IfUnfilled result (SawIn C.levels L.max self.now.name (IsFilledIn self.now.name)) (IsCounted X.faults X.refusals out.old out.new) }
+        ensures unfilled { TellsLevels X.depth C.levels → IfUnfilled result (SawIn C.levels L.max L.cuts self.now.name (IsFilledIn self.now.name)) (IsCounted X.faults X.refusals out.old out.new) }
         ensures counts { (X.faults out.old ≤ X.faults out.new) × (X.refusals out.old ≤ X.refusals out.new) }
     {
-        let place = self.lock(rt).seen_place(self.name, alloc);
+        let place = self.lock_and_cut(rt).seen_place(self.name, alloc);
         match place {
             Ok(true) => self.fill_place::<R, X>(rt, alloc, now, out),
             Ok(false) => Filled::Full,
@@ -206,7 +206,7 @@ impl<C: Depth + Drop, O: Drop, H: Ledger, L: Loans> FamilyPoolOf<C, O, H, L> {
         now: Moment,
         out: &mut X,
     ) -> Filled
-        ensures unfilled { TellsLevels X.depth C.levels → IfUnfilled result (SawIn C.levels L.max self.now.name (IsFilledIn self.now.name)) (IsCounted X.faults X.refusals out.old out.new) }
+        ensures unfilled { TellsLevels X.depth C.levels → IfUnfilled result (SawIn C.levels L.max L.cuts self.now.name (IsFilledIn self.now.name)) (IsCounted X.faults X.refusals out.old out.new) }
         ensures counts { (X.faults out.old ≤ X.faults out.new) × (X.refusals out.old ≤ X.refusals out.new) }
     {
         match self.open::<R, X>(rt, alloc, out) {
@@ -228,7 +228,7 @@ impl<C: Depth + Drop, O: Drop, H: Ledger, L: Loans> FamilyPoolOf<C, O, H, L> {
     }
 
     // Puts a new connection last among the idle; in a pool that was closed meanwhile it is closed.
-    fn keep_new<R: Wait, X: Outside<C, O>>(
+    pub(crate) fn keep_new<R: Wait, X: Outside<C, O>>(
         &self,
         rt: &R,
         now: Moment,
@@ -236,7 +236,7 @@ impl<C: Depth + Drop, O: Drop, H: Ledger, L: Loans> FamilyPoolOf<C, O, H, L> {
         out: &mut X,
     ) -> Filled
         requires { C.levels raw ≡ 0 }
-        ensures unfilled { IfUnfilled result (SawIn C.levels L.max self.now.name (IsFilledIn self.now.name)) (IsCounted X.faults X.refusals out.old out.new) }
+        ensures unfilled { IfUnfilled result (SawIn C.levels L.max L.cuts self.now.name (IsFilledIn self.now.name)) (IsCounted X.faults X.refusals out.old out.new) }
         ensures counts { (X.faults out.old ≤ X.faults out.new) × (X.refusals out.old ≤ X.refusals out.new) }
     {
         let mut guard = self.lock(rt);
@@ -252,7 +252,7 @@ impl<C: Depth + Drop, O: Drop, H: Ledger, L: Loans> FamilyPoolOf<C, O, H, L> {
     }
 
     // Gives a place back for which nothing was opened.
-    fn let_go<R: Wait>(&self, rt: &R, now: Moment) {
+    pub(crate) fn let_go<R: Wait>(&self, rt: &R, now: Moment) {
         let mut guard = self.lock(rt);
         let back = guard.minimum_done(self.name, now, None);
         self.unlock(guard);

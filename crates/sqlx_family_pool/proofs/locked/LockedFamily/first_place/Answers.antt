@@ -37,7 +37,7 @@ returns-then-not-reserve-clause-logs g c = rw (← c.self.view_is) (reserved-sam
 pub returns-then-not-reserve-clause-err : goal.returns-then-not-reserve-clause-err
 returns-then-not-reserve-clause-err g c =
     rw (← c.self.view_is)
-    (ap (λ (l : List (List Mark)). family_state c.self.inside.family l c.self.inside.connect c.self.inside.books) (reserved-same c.self.inside.logs.items c.args.pool c.index_mut.result.now c.reserve.new.log c.index_mut.ensures.value c.reserve.ensures.marks))
+    (ap (λ (l : List (List Mark)). family_state c.self.inside.family l c.self.inside.starts.items c.self.inside.connect c.self.inside.books) (reserved-same c.self.inside.logs.items c.args.pool c.index_mut.result.now c.reserve.new.log c.index_mut.ensures.value c.reserve.ensures.marks))
 
 pub returns-clause-logs : goal.returns-clause-logs
 returns-clause-logs g c = rw (← c.self.view_is) (reserved-same c.self.inside.logs.items c.args.pool c.index_mut.result.now c.reserve.new.log c.index_mut.ensures.value c.reserve.ensures.marks)

@@ -13,4 +13,4 @@ returns-clause-most g c =
     omega (arith, few, permits, most, owned)
 
 pub returns-clause-saw : goal.returns-clause-saw
-returns-clause-saw g c = (bare_family c.args.self.now, standing-bare _ _ _ c.facts.ensures, c.owned.ensures)
+returns-clause-saw g c = (bare_family c.args.self.now, standing-bare _ _ _ _ c.facts.ensures, c.owned.ensures)

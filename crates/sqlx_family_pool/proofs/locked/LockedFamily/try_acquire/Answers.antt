@@ -56,6 +56,6 @@ pub returns-in-None-clause-err : goal.returns-in-None-clause-err
 returns-in-None-clause-err g c = (
   rw (← c.self.view_is)
       (rw (c.in-None.ensures.none refl)
-      (ap (λ (l : List (List Mark)). family_state c.self.inside.family l c.self.inside.connect c.self.inside.books) (reserved-same c.self.inside.logs.items c.args.pool c.index_mut-log.result.now c.lend_past.new.log c.index_mut-log.ensures.value (c.in-None.ensures.marks ∙ append-nil (marks_of c.index_mut-log.result.now))))),
+      (ap (λ (l : List (List Mark)). family_state c.self.inside.family l c.self.inside.starts.items c.self.inside.connect c.self.inside.books) (reserved-same c.self.inside.logs.items c.args.pool c.index_mut-log.result.now c.lend_past.new.log c.index_mut-log.ensures.value (c.in-None.ensures.marks ∙ append-nil (marks_of c.index_mut-log.result.now))))),
   refl,
 )
