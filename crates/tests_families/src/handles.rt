@@ -15,12 +15,12 @@ use std::sync::Wait;
 use std::sync::ledger::{Blank, Ledger};
 use std::test::*;
 
-type Conns<H, L> = FamilyPoolOf<Conn, (), H, L>;
+pub type Conns<H, L> = FamilyPoolOf<Conn, (), H, L>;
 
 type Lent<H, L> = FamilyConnectionOf<Conn, (), H, L>;
 
 // What an ask and its first poll come to: a connection, and whether the ticket waited, which is cancelled then.
-fn lend<H: Ledger, L: Loans, R: Wait>(
+pub fn lend<H: Ledger, L: Loans, R: Wait>(
     rt: &R,
     alloc: Global,
     pool: &Conns<H, L>,
@@ -50,7 +50,7 @@ fn lend<H: Ledger, L: Loans, R: Wait>(
 }
 
 // Gives a connection back: whether it is kept.
-fn give<H: Ledger, L: Loans, R: Wait>(
+pub fn give<H: Ledger, L: Loans, R: Wait>(
     rt: &R,
     alloc: Global,
     lent: Option<Lent<H, L>>,
