@@ -1,4 +1,7 @@
 //! A builder that a call was lent, and hands back unless it is refused.
+//!
+//! What a builder is once its borrow is over is proved of an answer that holds the reference in a struct. So each call that
+//! chains has a private sibling that answers with [`Lent`], and hands on what that holds.
 ghost use Rattle.sqlx_query.specs.Lending.{HandsBack};
 
 use crate::QueryBuilder;

@@ -1,4 +1,4 @@
-use Rattle.sqlx_query.proofs.Chaining.{◌≡◌, ℕ, List, [], ◌∷◌, refl, sym, ap, ◌∙◌, MutBor, proved, proved_at, SProp, ent, sep, emp, id⊢, Fml, Lft, GName, Share, ftrue, flft, ◌++◌, Ura, a_type, dcons, dnil, named, inst_fn, Val, vptr, subst, there, fact, fact_i, ◌⊑◌, Lfts, Shares, toks, tables, Logic, sem, ‵, raw, ◌⊛◌, some, later, ◌$◌, ◌∵◌, !, qed, done, move, keep, drop, use0, use1, use2, use3, split, split3, join, pick, await, suffices, frame, group, enter, addr, stop, no_more, and_then, returns, alloc_all, pass_all, free_all, look_at, get, through, sets, lands_as, RattleType, yes, no, Is, shows, param, bounded, Laws, of_field, param_laws, row_shared, mut_ref_shared, mut_ref_field, mut_ref_laws, MutRef, NamedLft, mut_vals, mut_Tells, plain, types_at, Are, Ises, RefOf, shr_vals, shr_Tells, nothing, heard, peeks, Lone-is, the_one, WpFn, StrRefOf, str-laws, calls_at, Lasts, lasts, alive, on_entry, triple_of, Stays, walk_of, says, stay_dropped, Goes-dropped, Goes-spent_ref, ends_at, framed, Result, MatchResult, Ok, Err, result_row, result_laws, global_type, global_row, global_laws, global_loose, loose_lawful, Draft, rests, HandsBack, builder_row, builder_laws, lent_row, lent_laws, within, pairs, carried, turns, said, twice, owned, cut, joined, tells, told}
+use Rattle.sqlx_query.proofs.Chaining.{◌≡◌, List, [], ◌∷◌, refl, MutBor, proved, emp, id⊢, Lft, Share, flft, ◌++◌, a_type, dcons, dnil, named, inst_fn, Val, vptr, fact, Lfts, Shares, tables, ‵, raw, ◌⊛◌, some, later, ◌$◌, ◌∵◌, !, qed, move, drop, use1, use2, split, split3, join, pick, await, suffices, frame, group, enter, addr, stop, no_more, and_then, returns, alloc_all, pass_all, free_all, look_at, get, through, sets, lands_as, RattleType, yes, no, Is, shows, param, bounded, Laws, of_field, param_laws, row_shared, mut_ref_shared, mut_ref_field, mut_ref_laws, MutRef, NamedLft, mut_vals, mut_Tells, plain, RefOf, shr_vals, shr_Tells, nothing, heard, peeks, calls_at, Lasts, lasts, on_entry, triple_of, Stays, stay_dropped, Goes-dropped, Goes-spent_ref, ends_at, framed, result_row, result_laws, global_type, global_row, global_laws, global_loose, loose_lawful, rests, HandsBack, builder_row, builder_laws, lent_row, lent_laws, within, pairs, carried, turns, said, twice, owned, cut, joined, tells, told}
 use Rattle.sqlx_query.specs.contracts.builder.QueryBuilder.push_display as f
 use Rattle.sqlx_query.proofs.builder.QueryBuilder.push_display.Statement.{statement}
 use Rattle.sqlx_query.proofs.builder.QueryBuilder.push_display.Code as code
