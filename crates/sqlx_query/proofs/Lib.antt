@@ -5,3 +5,4 @@ pub mod ReadLemmas
 pub mod OpenLemmas
 pub mod UnencodedLemmas
 pub mod RowLemmas
+pub mod Chaining

@@ -4,3 +4,4 @@ pub use Rattle.sqlx_query_rows.specs.Mapping
 pub use Rattle.sqlx_query_drafts.specs.Growing
 pub use Rattle.sqlx_query_drafts.specs.Builder
 pub use Rattle.sqlx_query_drafts.specs.Tuples
+pub mod Lending

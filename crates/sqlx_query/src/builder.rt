@@ -1,12 +1,15 @@
 //! Statements that are built piece by piece: texts, and values that are bound to placeholders.
 ghost use Rattle.std.specs.Prelude.{◌≡◌, ◌≤◌, ◌∷◌, [], Bool, IfErr, IfOk, IfSome, OnErr, OnOk, length, string_bytes, take, None, Ok};
+ghost use Rattle.std.specs.Borrow.{sem};
 ghost use Rattle.std.specs.Str.{IsUtf8};
+ghost use Rattle.sqlx_query.specs.Lending.{rests};
 ghost use Rattle.sqlx_text.specs.declared.fault.Fault.{Fault};
 ghost use Rattle.sqlx_traits.specs.Arguments.{AddsOne};
 ghost use Rattle.sqlx_query_drafts.specs.Query as asked;
 ghost use Rattle.sqlx_query_drafts.specs.Binding.{OrWantOfMemory};
 ghost use Rattle.sqlx_query_drafts.specs.Builder.{Gains, GainsBound, Piece, alone, cut_to, fresh_draft, with_piece};
 
+use crate::lent::{Lent, hand_back, hand_back_or_fault};
 use crate::{Query, QueryAs, QueryScalar, ReadQuery, Separated};
 use either::Either;
 use sqlx_query_drafts::{Mark, StatementDraft};
@@ -52,15 +55,26 @@ impl<DB: Database> QueryBuilder<DB> {
         }
     }
 
-    /// Appends a text, and gives the builder back. [`QueryBuilder::try_push`] says what want of memory leaves.
+    /// Appends a text, and gives the builder back. Want of memory leaves it as it was.
     pub fn push(&mut self, alloc: Global, sql: &str) -> Result<&mut Self, OutOfMemory>
         requires { self.old.built ≡ Bool.false }
+        ensures* err { sem 𝓛 (rests DB.ArgumentBuffer.row self.entry (λ b. b.ghost_name) result) }
         ensures same { IfOk result (λ b. b.ghost_name ≡ self.entry.ghost_name) }
         ensures ok { IfOk result (λ b. Gains DB.ArgumentBuffer.count DB.ArgumentBuffer.first self.old (Piece.Text sql.now ∷ []) b.now) }
         ensures unbuilt { IfOk result (λ b. b.now.built ≡ Bool.false) }
     {
+        hand_back(self.lend_push(alloc, sql))
+    }
+
+    fn lend_push(&mut self, alloc: Global, sql: &str) -> Result<Lent<'_, DB>, OutOfMemory>
+        requires { self.old.built ≡ Bool.false }
+        ensures* err { sem 𝓛 (rests DB.ArgumentBuffer.row self.entry (λ b. b.0.ghost_name) result) }
+        ensures same { IfOk result (λ b. b.0.ghost_name ≡ self.entry.ghost_name) }
+        ensures ok { IfOk result (λ b. Gains DB.ArgumentBuffer.count DB.ArgumentBuffer.first self.old (Piece.Text sql.now ∷ []) b.0.now) }
+        ensures unbuilt { IfOk result (λ b. b.0.now.built ≡ Bool.false) }
+    {
         match self.try_push(alloc, sql) {
-            Ok(()) => Ok(self),
+            Ok(()) => Ok(Lent(self)),
             Err(want) => Err(want),
         }
     }
@@ -74,21 +88,36 @@ impl<DB: Database> QueryBuilder<DB> {
         self.append(sql)
     }
 
-    /// Appends what `{}` writes of a value, and gives the builder back. [`QueryBuilder::try_push_display`] says what
-    /// want of memory leaves.
+    /// Appends what `{}` writes of a value, and gives the builder back. Want of memory leaves it as it was.
     pub fn push_display<T: Display>(
         &mut self,
         alloc: Global,
         value: &T,
     ) -> Result<&mut Self, OutOfMemory>
         requires { self.old.built ≡ Bool.false }
+        ensures* err { sem 𝓛 (rests DB.ArgumentBuffer.row self.entry (λ b. b.ghost_name) result) }
         ensures same { IfOk result (λ b. b.ghost_name ≡ self.entry.ghost_name) }
         ensures ok { IfOk result (λ b. (text : _) × IfSome (T.output value.now) (λ written. written ≡ text)
             × Gains DB.ArgumentBuffer.count DB.ArgumentBuffer.first self.old (Piece.Text text ∷ []) b.now) }
         ensures unbuilt { IfOk result (λ b. b.now.built ≡ Bool.false) }
     {
+        hand_back(self.lend_display(alloc, value))
+    }
+
+    fn lend_display<T: Display>(
+        &mut self,
+        alloc: Global,
+        value: &T,
+    ) -> Result<Lent<'_, DB>, OutOfMemory>
+        requires { self.old.built ≡ Bool.false }
+        ensures* err { sem 𝓛 (rests DB.ArgumentBuffer.row self.entry (λ b. b.0.ghost_name) result) }
+        ensures same { IfOk result (λ b. b.0.ghost_name ≡ self.entry.ghost_name) }
+        ensures ok { IfOk result (λ b. (text : _) × IfSome (T.output value.now) (λ written. written ≡ text)
+            × Gains DB.ArgumentBuffer.count DB.ArgumentBuffer.first self.old (Piece.Text text ∷ []) b.0.now) }
+        ensures unbuilt { IfOk result (λ b. b.0.now.built ≡ Bool.false) }
+    {
         match self.try_push_display(alloc, value) {
-            Ok(()) => Ok(self),
+            Ok(()) => Ok(Lent(self)),
             Err(want) => Err(want),
         }
     }
@@ -117,22 +146,38 @@ impl<DB: Database> QueryBuilder<DB> {
         }
     }
 
-    /// Binds a value, appends its placeholder, and gives the builder back. [`QueryBuilder::try_push_bind`] says what a
-    /// refusal leaves.
+    /// Binds a value, appends its placeholder, and gives the builder back. A refusal leaves it as it was.
     pub fn push_bind<'t, T: Encode<'t, DB> + SqlType<DB>>(
         &mut self,
         alloc: Global,
         value: T,
     ) -> Result<&mut Self, Fault>
         requires { self.old.built ≡ Bool.false }
+        ensures* err { sem 𝓛 (rests DB.ArgumentBuffer.row self.entry (λ b. b.ghost_name) result) }
         ensures same { IfOk result (λ b. b.ghost_name ≡ self.entry.ghost_name) }
         ensures ok { IfOk result (λ b. GainsBound DB.Arguments.placeholder DB.ArgumentBuffer.count DB.ArgumentBuffer.first
             alone (T.encoded value) self.old b.now) }
         ensures unbuilt { IfOk result (λ b. b.now.built ≡ Bool.false) }
         ensures refused { IfErr result (OrWantOfMemory (T.refuses value)) }
     {
+        hand_back_or_fault(self.lend_bind(alloc, value))
+    }
+
+    fn lend_bind<'t, T: Encode<'t, DB> + SqlType<DB>>(
+        &mut self,
+        alloc: Global,
+        value: T,
+    ) -> Result<Lent<'_, DB>, Fault>
+        requires { self.old.built ≡ Bool.false }
+        ensures* err { sem 𝓛 (rests DB.ArgumentBuffer.row self.entry (λ b. b.0.ghost_name) result) }
+        ensures same { IfOk result (λ b. b.0.ghost_name ≡ self.entry.ghost_name) }
+        ensures ok { IfOk result (λ b. GainsBound DB.Arguments.placeholder DB.ArgumentBuffer.count DB.ArgumentBuffer.first
+            alone (T.encoded value) self.old b.0.now) }
+        ensures unbuilt { IfOk result (λ b. b.0.now.built ≡ Bool.false) }
+        ensures refused { IfErr result (OrWantOfMemory (T.refuses value)) }
+    {
         match self.try_push_bind(alloc, value) {
-            Ok(()) => Ok(self),
+            Ok(()) => Ok(Lent(self)),
             Err(fault) => Err(fault),
         }
     }

@@ -4,6 +4,7 @@
 mod builder;
 mod calls;
 mod entries;
+mod lent;
 mod placeholders;
 mod separated;
 mod statements;

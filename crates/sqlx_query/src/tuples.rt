@@ -1,10 +1,13 @@
 //! Lists of tuples in parentheses, for `VALUES` and `IN`, each written by a closure.
 ghost use Rattle.std.specs.Prelude.{◌≡◌, [], Bool, IfErr, IfOk, OnErr, OnOk, codes};
+ghost use Rattle.std.specs.Borrow.{sem};
 ghost use Rattle.std.specs.Iterator.{Drains, IsFinite};
+ghost use Rattle.sqlx_query.specs.Lending.{rests};
 ghost use Rattle.sqlx_query_drafts.specs.Binding.{OrWantOfMemory};
 ghost use Rattle.sqlx_query_drafts.specs.Builder.{Appends, Extends, opening, with_pieces};
 ghost use Rattle.sqlx_query_drafts.specs.Tuples.{GainsRows, OnlyAppends, RefusesTuple, WritesRow, WritesTuple, WritesTuples, behind};
 
+use crate::lent::{Lent, hand_back_or_fault};
 use crate::{QueryBuilder, TupleRow};
 use sqlx_text::{Fault, OutOfMemory};
 use sqlx_traits::{ArgumentList, Arguments, Database};
@@ -12,7 +15,7 @@ use std::alloc::Global;
 
 impl<DB: Database> QueryBuilder<DB> {
     /// Appends `VALUES ` and the tuples in parentheses, with `, ` between them, and gives the builder back.
-    /// [`QueryBuilder::try_push_values`] says what a refusal leaves.
+    /// A refusal leaves it as it was.
     ///
     /// Over no tuples it appends `VALUES ` alone.
     pub fn push_values<
@@ -25,14 +28,35 @@ impl<DB: Database> QueryBuilder<DB> {
         requires works { OnlyAppends DB.ArgumentBuffer.count DB.ArgumentBuffer.first DB.Arguments.buffered (λ r. r.now.parts) F.step }
         requires can { I.can_next tuples }
         requires ends { IsFinite (I.remaining tuples) }
+        ensures* err { sem 𝓛 (rests DB.ArgumentBuffer.row self.entry (λ b. b.ghost_name) result) }
         ensures same { IfOk result (λ b. b.ghost_name ≡ self.entry.ghost_name) }
         ensures ok { IfOk result (λ b. GainsRows DB.ArgumentBuffer.count DB.ArgumentBuffer.first DB.Arguments.buffered (λ r. r.now.parts) F.step
             (Drains I.next_gives tuples) push_tuple (codes "VALUES ") [] self.old b.now) }
         ensures unbuilt { IfOk result (λ b. b.now.built ≡ Bool.false) }
         ensures refused { IfErr result (OrWantOfMemory (RefusesTuple F.step)) }
     {
+        hand_back_or_fault(self.lend_values(alloc, tuples, push_tuple))
+    }
+
+    fn lend_values<
+        T: Drop,
+        I: Iterator<Item = T> + Drop,
+        F: FnMut(&mut TupleRow<DB>, T) -> Result<(), Fault> + Drop,
+    >(&mut self, alloc: Global, tuples: I, push_tuple: F) -> Result<Lent<'_, DB>, Fault>
+        requires unbuilt { self.old.built ≡ Bool.false }
+        requires callable { F.IsAlwaysCallable push_tuple }
+        requires works { OnlyAppends DB.ArgumentBuffer.count DB.ArgumentBuffer.first DB.Arguments.buffered (λ r. r.now.parts) F.step }
+        requires can { I.can_next tuples }
+        requires ends { IsFinite (I.remaining tuples) }
+        ensures* err { sem 𝓛 (rests DB.ArgumentBuffer.row self.entry (λ b. b.0.ghost_name) result) }
+        ensures same { IfOk result (λ b. b.0.ghost_name ≡ self.entry.ghost_name) }
+        ensures ok { IfOk result (λ b. GainsRows DB.ArgumentBuffer.count DB.ArgumentBuffer.first DB.Arguments.buffered (λ r. r.now.parts) F.step
+            (Drains I.next_gives tuples) push_tuple (codes "VALUES ") [] self.old b.0.now) }
+        ensures unbuilt { IfOk result (λ b. b.0.now.built ≡ Bool.false) }
+        ensures refused { IfErr result (OrWantOfMemory (RefusesTuple F.step)) }
+    {
         match self.try_push_values(alloc, tuples, push_tuple) {
-            Ok(()) => Ok(self),
+            Ok(()) => Ok(Lent(self)),
             Err(fault) => Err(fault),
         }
     }
@@ -59,7 +83,7 @@ impl<DB: Database> QueryBuilder<DB> {
     }
 
     /// Appends the tuples in parentheses, with `, ` between them, and ` (` and `) ` around all, and gives the builder back.
-    /// [`QueryBuilder::try_push_tuples`] says what a refusal leaves.
+    /// A refusal leaves it as it was.
     pub fn push_tuples<
         T: Drop,
         I: Iterator<Item = T> + Drop,
@@ -70,14 +94,35 @@ impl<DB: Database> QueryBuilder<DB> {
         requires works { OnlyAppends DB.ArgumentBuffer.count DB.ArgumentBuffer.first DB.Arguments.buffered (λ r. r.now.parts) F.step }
         requires can { I.can_next tuples }
         requires ends { IsFinite (I.remaining tuples) }
+        ensures* err { sem 𝓛 (rests DB.ArgumentBuffer.row self.entry (λ b. b.ghost_name) result) }
         ensures same { IfOk result (λ b. b.ghost_name ≡ self.entry.ghost_name) }
         ensures ok { IfOk result (λ b. GainsRows DB.ArgumentBuffer.count DB.ArgumentBuffer.first DB.Arguments.buffered (λ r. r.now.parts) F.step
             (Drains I.next_gives tuples) push_tuple (codes " (") (codes ") ") self.old b.now) }
         ensures unbuilt { IfOk result (λ b. b.now.built ≡ Bool.false) }
         ensures refused { IfErr result (OrWantOfMemory (RefusesTuple F.step)) }
     {
+        hand_back_or_fault(self.lend_tuples(alloc, tuples, push_tuple))
+    }
+
+    fn lend_tuples<
+        T: Drop,
+        I: Iterator<Item = T> + Drop,
+        F: FnMut(&mut TupleRow<DB>, T) -> Result<(), Fault> + Drop,
+    >(&mut self, alloc: Global, tuples: I, push_tuple: F) -> Result<Lent<'_, DB>, Fault>
+        requires unbuilt { self.old.built ≡ Bool.false }
+        requires callable { F.IsAlwaysCallable push_tuple }
+        requires works { OnlyAppends DB.ArgumentBuffer.count DB.ArgumentBuffer.first DB.Arguments.buffered (λ r. r.now.parts) F.step }
+        requires can { I.can_next tuples }
+        requires ends { IsFinite (I.remaining tuples) }
+        ensures* err { sem 𝓛 (rests DB.ArgumentBuffer.row self.entry (λ b. b.0.ghost_name) result) }
+        ensures same { IfOk result (λ b. b.0.ghost_name ≡ self.entry.ghost_name) }
+        ensures ok { IfOk result (λ b. GainsRows DB.ArgumentBuffer.count DB.ArgumentBuffer.first DB.Arguments.buffered (λ r. r.now.parts) F.step
+            (Drains I.next_gives tuples) push_tuple (codes " (") (codes ") ") self.old b.0.now) }
+        ensures unbuilt { IfOk result (λ b. b.0.now.built ≡ Bool.false) }
+        ensures refused { IfErr result (OrWantOfMemory (RefusesTuple F.step)) }
+    {
         match self.try_push_tuples(alloc, tuples, push_tuple) {
-            Ok(()) => Ok(self),
+            Ok(()) => Ok(Lent(self)),
             Err(fault) => Err(fault),
         }
     }
