@@ -1,5 +1,6 @@
 -- What a call over the lock shows: of which states it speaks, by what the caller's front had seen before and has seen now.
 use Rattle.std.specs.Prelude.{◌≡◌, ℕ, Bool, true, false, ⊤, List, Option, Some, None, Result, Ok, Err}
+use mathlib.Core.List.{IsPrefix}
 use Rattle.sqlx_text.specs.declared.error.Error.{Error}
 use Rattle.sqlx_text.specs.declared.error.Error.TheVariants.{PoolClosed}
 use Rattle.sqlx_pool_history.specs.Shows.{Showed, Shows, Steps}
@@ -18,6 +19,10 @@ module _ {C O : Type 0} (levels : C → ℕ) (max : ℕ) (cuts : Bool) where
   -- the front ends with a step, which did this, from a state that stands to another
   abbrev pub SeesStep : List (PoolState C O) → List (PoolState C O) → (PoolState C O → PoolState C O → Type 0) → Type 0
   SeesStep old new does = Steps old new (λ before after. IsStanding levels max cuts before × StandsAs (does before) after)
+
+  -- the front went on by such a step, and perhaps further
+  abbrev pub HasMade : List (PoolState C O) → List (PoolState C O) → (PoolState C O → PoolState C O → Type 0) → Type 0
+  HasMade old new does = (seen : List (PoolState C O)) × SeesStep old seen does × IsPrefix seen new
 
   -- since the front ended where it did, it has seen a state that stands, of which this holds
   abbrev pub HasSeen : List (PoolState C O) → List (PoolState C O) → (PoolState C O → Type 0) → Type 0

@@ -4,10 +4,10 @@ use Rattle.std.specs.List.{list_any}
 use Rattle.sqlx_text.specs.declared.Moment.{Moment}
 use Rattle.sqlx_pool_marks.specs.declared.mark.Mark.{Mark}
 use Rattle.sqlx_pool_marks.specs.declared.mark.Mark.TheVariants.{Asked}
-use Rattle.sqlx_pool_marks.specs.Answers.{lent_past_at}
+use Rattle.sqlx_pool_marks.specs.Answers.{lent_past_at, owns}
 use Rattle.sqlx_pool_marks.specs.Cut.{cut_of}
 use Rattle.sqlx_pool_marks.specs.EventTable.{closed_at}
-use Rattle.sqlx_pool_marks.specs.Marks.{is_shut, next_conn}
+use Rattle.sqlx_pool_marks.specs.Marks.{is_shut, next_conn, owner_of}
 use Rattle.sqlx_pool_lists.specs.declared.steps.AfterConnect.{AfterConnect}
 use Rattle.sqlx_pool_lists.specs.declared.steps.AfterTest.{AfterTest}
 use Rattle.sqlx_pool_lists.specs.declared.steps.Idle.{Idle}
@@ -15,7 +15,8 @@ use Rattle.sqlx_pool_lists.specs.declared.steps.Lent.{Lent}
 use Rattle.sqlx_pool_lists.specs.declared.steps.Start.{Start}
 use Rattle.sqlx_pool_lists.specs.declared.steps.Tried.{Tried}
 use Rattle.sqlx_pool_lists.specs.declared.steps.Verdict.{Verdict}
-use Rattle.sqlx_pool_lists.specs.Core.{Core, ticket_of}
+use Rattle.sqlx_pool_lists.specs.declared.steps.Given.{Given}
+use Rattle.sqlx_pool_lists.specs.Core.{Core, loan_of, ticket_of}
 use Rattle.sqlx_pool_lists.specs.Edits.{at_moment, asked}
 use Rattle.sqlx_pool_lists.specs.Makes.{Makes}
 use Rattle.sqlx_pool_lists.specs.StandsFor.{StandsFor}
@@ -24,6 +25,7 @@ use Rattle.sqlx_pool_lists.specs.PollSteps.{phase_for, judged, start_answer, sta
 use Rattle.sqlx_pool_lists.specs.PollTable.{phase_turn}
 use Rattle.sqlx_pool_core.specs.Answers.{lent_conn, ServesFirst}
 use Rattle.sqlx_pool_core.specs.Logs.{moment_of}
+use Rattle.sqlx_pool_core.specs.ReturnSteps.{give_answer, give_marks, core_after_give, end_marks, detach_marks, leak_marks, released, leaked}
 use Rattle.sqlx_pool_parts.specs.Answers.{IsNextTicket, test_answer_in}
 use Rattle.sqlx_pool_parts.specs.State.{PoolState}
 
@@ -86,6 +88,30 @@ module _ {C O : Type 0} where
     pub answer : ended ≡ may_cancel (phase_for client ticket before.core.tickets)
     pub marks : after.marks ≡ before.marks ++ cancel_marks ticket ended
     pub becomes : after.core ≡ cancelled ticket ended before.core
+
+  -- a connection was given back, accepted or not, and this became of it
+  pub record Gives (client : ℕ) (lent : Lent C) (now : Moment) (accepted : Bool) (given : Given C) (before after : PoolState C O) : Type 0 where
+    pub answer : given ≡ give_answer before.core.options before.core.shut (moment_of before.core now) accepted (loan_of client lent.id before.core.held) lent
+    pub marks : after.marks ≡ before.marks ++ give_marks lent.id (moment_of before.core now) given
+    pub becomes : after.core ≡ core_after_give (loan_of client lent.id before.core.held) lent (moment_of before.core now) given before.core
+
+  -- a loan ended by these marks, if the client owned the connection, and the core became so
+  pub record EndsLoan (marks_of : ℕ → Bool → List Mark) (core_of : ℕ → Bool → Core C → Core C) (client id : ℕ) (ended : Bool) (before after : PoolState C O) : Type 0 where
+    pub answer : ended ≡ owns client (owner_of id before.marks)
+    pub marks : after.marks ≡ before.marks ++ marks_of id ended
+    pub becomes : after.core ≡ core_of id ended before.core
+
+  -- the client closes the connection
+  abbrev pub ClosesLoan : ℕ → ℕ → Bool → PoolState C O → PoolState C O → Type 0
+  ClosesLoan = EndsLoan end_marks released
+
+  -- the connection left the pool, whose place and permit are free again
+  abbrev pub Detaches : ℕ → ℕ → Bool → PoolState C O → PoolState C O → Type 0
+  Detaches = EndsLoan detach_marks released
+
+  -- the connection left the pool, which keeps its place and its permit
+  abbrev pub Leaks : ℕ → ℕ → Bool → PoolState C O → PoolState C O → Type 0
+  Leaks = EndsLoan leak_marks leaked
 
   -- the pool closed, and gave back these idle connections
   pub record Closes (idle : List (Idle C)) (before after : PoolState C O) : Type 0 where

@@ -1,12 +1,16 @@
 //! A connection that a pool has lent.
 
-ghost use Rattle.std.specs.Prelude.{◌≡◌, ◌≤◌, ℕ, true, false, IfErr};
+ghost use Rattle.std.specs.Prelude.{◌≡◌, ◌≤◌, ℕ, Bool, true, false, is_ok, if◌then◌else◌, IfErr};
 ghost use Rattle.std.specs.Borrow.{Lends, sem};
 ghost use Rattle.sqlx_text.specs.declared.error.Error.{Error};
-ghost use Rattle.sqlx_pool.specs.Returned.{was_kept};
-ghost use Rattle.sqlx_pool.specs.Steps.{lent_of};
+ghost use Rattle.sqlx_pool_core.specs.declared.idle_check.Check.{Check};
+ghost use Rattle.sqlx_pool_parts.specs.Checks.{Closes};
+ghost use Rattle.sqlx_pool.specs.Returned.{GivesBack, was_kept};
+ghost use Rattle.sqlx_pool.specs.Seen.{HasMade};
+ghost use Rattle.sqlx_pool.specs.Steps.{ClosesLoan, Detaches, Leaks, lent_of};
 ghost use Rattle.sqlx_pool.specs.contracts.connection.PoolConnectionOf.{the_row};
 
+use crate::stood::FrontOf;
 use crate::{Held, Loans, PoolOf};
 use sqlx_pool_core::idle_check::Check;
 use sqlx_pool_core::{Given, Lent, Openings, Outside};
@@ -92,6 +96,23 @@ impl<C: Depth + Drop, O: Drop, H: Ledger, L: Loans> PoolConnectionOf<C, O, H, L>
         ensures closed { self.closes ≡ true → was_kept result ≡ false }
         ensures counts { (X.faults out.old ≤ X.faults out.new) × (X.refusals out.old ≤ X.refusals out.new) }
     {
+        let mut me = self.pool.front();
+        self.return_to_pool_seen::<R, X>(rt, alloc, now, out, &mut me)
+    }
+
+    /// As `return_to_pool`. The front of the caller goes on by the step, and by those of the minimum behind it.
+    pub fn return_to_pool_seen<R: Wait, X: Outside<C, O>>(
+        self,
+        rt: &R,
+        alloc: Global,
+        now: Moment,
+        out: &mut X,
+        me: &mut FrontOf<C, O, L>,
+    ) -> Returned
+        ensures gives { GivesBack X.does X.depth C.levels L.max L.cuts self.pool.shared.value.options.after_release self.client self.id self.created now self.raw me.old me.new result out.old }
+        ensures closed { self.closes ≡ true → was_kept result ≡ false }
+        ensures counts { (X.faults out.old ≤ X.faults out.new) × (X.refusals out.old ≤ X.refusals out.new) }
+    {
         let PoolConnectionOf {
             pool,
             client,
@@ -103,12 +124,12 @@ impl<C: Depth + Drop, O: Drop, H: Ledger, L: Loans> PoolConnectionOf<C, O, H, L>
         } = self;
         let check = pool.check::<R, X>(rt, closes, created, now, &mut raw, out);
         let lent = Lent { id, created, raw };
-        match pool.give(rt, client, lent, now, passes(check), held) {
+        match pool.give(rt, client, lent, now, passes(check), held, me) {
             Given::Kept => Returned::Kept,
             Given::Closed(raw) => {
                 close_by::<C, O, X>(check, raw, out);
                 Returned::Closed {
-                    opened: pool.keep_minimum::<R, X>(rt, alloc, now, out),
+                    opened: pool.keep_minimum_seen::<R, X>(rt, alloc, now, out, me),
                 }
             }
             Given::NotHeld(raw) => {
@@ -129,6 +150,24 @@ impl<C: Depth + Drop, O: Drop, H: Ledger, L: Loans> PoolConnectionOf<C, O, H, L>
         ensures only { IfErr result (λ e. e ≡ Error.NotHeld) }
         ensures counts { (X.faults out.old ≤ X.faults out.new) × (X.refusals out.old ≤ X.refusals out.new) }
     {
+        let mut me = self.pool.front();
+        self.close_seen::<R, X>(rt, alloc, now, out, &mut me)
+    }
+
+    /// As `close`. The front of the caller goes on by the step, and by those of the minimum behind it.
+    pub fn close_seen<R: Wait, X: Outside<C, O>>(
+        self,
+        rt: &R,
+        alloc: Global,
+        now: Moment,
+        out: &mut X,
+        me: &mut FrontOf<C, O, L>,
+    ) -> Result<Openings, Error>
+        ensures made { HasMade C.levels L.max L.cuts me.old me.new (ClosesLoan self.client self.id (is_ok result)) }
+        ensures closes { (new : X) × Closes X.does (if is_ok result then Check.Close else Check.CloseHard) self.raw out.old new }
+        ensures only { IfErr result (λ e. e ≡ Error.NotHeld) }
+        ensures counts { (X.faults out.old ≤ X.faults out.new) × (X.refusals out.old ≤ X.refusals out.new) }
+    {
         let PoolConnectionOf {
             pool,
             client,
@@ -138,9 +177,9 @@ impl<C: Depth + Drop, O: Drop, H: Ledger, L: Loans> PoolConnectionOf<C, O, H, L>
             held,
             closes: _,
         } = self;
-        if pool.end(rt, client, id, held) {
+        if pool.end(rt, client, id, held, me) {
             close_by::<C, O, X>(Check::Close, raw, out);
-            Ok(pool.keep_minimum::<R, X>(rt, alloc, now, out))
+            Ok(pool.keep_minimum_seen::<R, X>(rt, alloc, now, out, me))
         } else {
             close_by::<C, O, X>(Check::CloseHard, raw, out);
             Err(Error::NotHeld)
@@ -158,6 +197,23 @@ impl<C: Depth + Drop, O: Drop, H: Ledger, L: Loans> PoolConnectionOf<C, O, H, L>
         ensures raw { result.0 ≡ self.raw }
         ensures counts { (X.faults out.old ≤ X.faults out.new) × (X.refusals out.old ≤ X.refusals out.new) }
     {
+        let mut me = self.pool.front();
+        self.detach_seen::<R, X>(rt, alloc, now, out, &mut me)
+    }
+
+    /// As `detach`. The front of the caller goes on by the step, and by those of the minimum behind it.
+    pub fn detach_seen<R: Wait, X: Outside<C, O>>(
+        self,
+        rt: &R,
+        alloc: Global,
+        now: Moment,
+        out: &mut X,
+        me: &mut FrontOf<C, O, L>,
+    ) -> (C, Openings)
+        ensures made { (left : Bool) × HasMade C.levels L.max L.cuts me.old me.new (Detaches self.client self.id left) }
+        ensures raw { result.0 ≡ self.raw }
+        ensures counts { (X.faults out.old ≤ X.faults out.new) × (X.refusals out.old ≤ X.refusals out.new) }
+    {
         let PoolConnectionOf {
             pool,
             client,
@@ -167,8 +223,8 @@ impl<C: Depth + Drop, O: Drop, H: Ledger, L: Loans> PoolConnectionOf<C, O, H, L>
             held,
             closes: _,
         } = self;
-        let left_pool = pool.detach(rt, client, id, held);
-        let opened = pool.keep_minimum_if::<R, X>(left_pool, rt, alloc, now, out);
+        let left_pool = pool.detach(rt, client, id, held, me);
+        let opened = pool.keep_minimum_if::<R, X>(left_pool, rt, alloc, now, out, me);
         (raw, opened)
     }
 
@@ -183,6 +239,23 @@ impl<C: Depth + Drop, O: Drop, H: Ledger, L: Loans> PoolConnectionOf<C, O, H, L>
         ensures raw { result.0 ≡ self.raw }
         ensures counts { (X.faults out.old ≤ X.faults out.new) × (X.refusals out.old ≤ X.refusals out.new) }
     {
+        let mut me = self.pool.front();
+        self.leak_seen::<R, X>(rt, alloc, now, out, &mut me)
+    }
+
+    /// As `leak`. The front of the caller goes on by the step, and by those of the minimum behind it.
+    pub fn leak_seen<R: Wait, X: Outside<C, O>>(
+        self,
+        rt: &R,
+        alloc: Global,
+        now: Moment,
+        out: &mut X,
+        me: &mut FrontOf<C, O, L>,
+    ) -> (C, Openings)
+        ensures made { (left : Bool) × HasMade C.levels L.max L.cuts me.old me.new (Leaks self.client self.id left) }
+        ensures raw { result.0 ≡ self.raw }
+        ensures counts { (X.faults out.old ≤ X.faults out.new) × (X.refusals out.old ≤ X.refusals out.new) }
+    {
         let PoolConnectionOf {
             pool,
             client,
@@ -192,9 +265,9 @@ impl<C: Depth + Drop, O: Drop, H: Ledger, L: Loans> PoolConnectionOf<C, O, H, L>
             held,
             closes: _,
         } = self;
-        let (left_pool, share) = pool.lock(rt).leak(rt, client, id, held);
+        let (left_pool, share) = pool.lock(rt).leak(rt, client, id, held, me);
         drop(share);
-        let opened = pool.keep_minimum_if::<R, X>(left_pool, rt, alloc, now, out);
+        let opened = pool.keep_minimum_if::<R, X>(left_pool, rt, alloc, now, out, me);
         (raw, opened)
     }
 }

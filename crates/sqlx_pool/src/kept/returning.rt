@@ -2,8 +2,10 @@
 
 ghost use Rattle.std.specs.Prelude.{◌≡◌, ℕ, true, false, not, is_some};
 ghost use Rattle.sqlx_pool_core.specs.Answers.{is_kept};
+ghost use Rattle.sqlx_pool.specs.Seen.{SeesStep};
+ghost use Rattle.sqlx_pool.specs.Steps.{ClosesLoan, Detaches, Gives, Leaks};
 
-use super::Kept;
+use super::{Kept, Seen};
 use crate::{Held, Loans};
 use sqlx_pool_core::{Given, Lent};
 use sqlx_text::{Depth, Moment};
@@ -20,13 +22,19 @@ impl<C: Depth, O, H: Ledger, L: Loans> Kept<C, O, H, L> {
         now: Moment,
         accepted: bool,
         held: Held<H>,
+        me: &mut Seen<C, O, L>,
     ) -> (Given<C>, Option<Held<H>>)
         requires flat { accepted ≡ true → C.levels lent.raw ≡ 0 }
+        ensures saw { SeesStep C.levels L.max L.cuts me.old me.new (Gives client lent now accepted result.0) }
         ensures refused { accepted ≡ false → is_kept result.0 ≡ false }
     {
         let Kept { locked, history } = self;
+        history.show(rt, &*locked, me);
+        locked.facts();
         let gave = locked.give(client, lent, now, accepted, held);
+        locked.facts();
         history.add(rt, &*locked);
+        *me = history.front();
         gave
     }
 
@@ -37,10 +45,17 @@ impl<C: Depth, O, H: Ledger, L: Loans> Kept<C, O, H, L> {
         client: u32,
         id: u64,
         held: Held<H>,
-    ) -> (bool, Option<Held<H>>) {
+        me: &mut Seen<C, O, L>,
+    ) -> (bool, Option<Held<H>>)
+        ensures { SeesStep C.levels L.max L.cuts me.old me.new (ClosesLoan client id result.0) }
+    {
         let Kept { locked, history } = self;
+        history.show(rt, &*locked, me);
+        locked.facts();
         let ended = locked.end(client, id, held);
+        locked.facts();
         history.add(rt, &*locked);
+        *me = history.front();
         ended
     }
 
@@ -51,10 +66,17 @@ impl<C: Depth, O, H: Ledger, L: Loans> Kept<C, O, H, L> {
         client: u32,
         id: u64,
         held: Held<H>,
-    ) -> (bool, Option<Held<H>>) {
+        me: &mut Seen<C, O, L>,
+    ) -> (bool, Option<Held<H>>)
+        ensures { SeesStep C.levels L.max L.cuts me.old me.new (Detaches client id result.0) }
+    {
         let Kept { locked, history } = self;
+        history.show(rt, &*locked, me);
+        locked.facts();
         let ended = locked.detach(client, id, held);
+        locked.facts();
         history.add(rt, &*locked);
+        *me = history.front();
         ended
     }
 
@@ -65,10 +87,17 @@ impl<C: Depth, O, H: Ledger, L: Loans> Kept<C, O, H, L> {
         client: u32,
         id: u64,
         held: Held<H>,
-    ) -> (bool, Option<Held<H>>) {
+        me: &mut Seen<C, O, L>,
+    ) -> (bool, Option<Held<H>>)
+        ensures { SeesStep C.levels L.max L.cuts me.old me.new (Leaks client id result.0) }
+    {
         let Kept { locked, history } = self;
+        history.show(rt, &*locked, me);
+        locked.facts();
         let ended = locked.leak(client, id, held);
+        locked.facts();
         history.add(rt, &*locked);
+        *me = history.front();
         ended
     }
 }

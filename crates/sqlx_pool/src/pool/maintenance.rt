@@ -5,6 +5,7 @@ ghost use mathlib.Core.List.{IsPrefix};
 ghost use Rattle.sqlx_pool_core.specs.Giving.{is_pass};
 ghost use Rattle.sqlx_pool_parts.specs.Checks.{IfPassed};
 ghost use Rattle.sqlx_pool_parts.specs.Opened.{IsCounted, TellsLevels};
+ghost use Rattle.sqlx_pool.specs.Returned.{ChecksReturn};
 ghost use Rattle.sqlx_pool.specs.Seen.{HasSeen};
 ghost use Rattle.sqlx_pool.specs.Upkeep.{EndsKeeping, IfUnfilled, IsFilled, to_reap};
 
@@ -51,6 +52,7 @@ impl<C: Depth + Drop, O: Drop, H: Ledger, L: Loans> PoolOf<C, O, H, L> {
         raw: &mut C,
         out: &mut X,
     ) -> Check
+        ensures checks { ChecksReturn X.does X.depth C.levels self.now.shared.value.options.after_release raw.old raw.new result out.old out.new }
         ensures flat { IfPassed result (C.levels raw.new ≡ 0) }
         ensures closes { closes ≡ true → is_pass result ≡ false }
         ensures counts { (X.faults out.old ≤ X.faults out.new) × (X.refusals out.old ≤ X.refusals out.new) }
@@ -160,12 +162,14 @@ impl<C: Depth + Drop, O: Drop, H: Ledger, L: Loans> PoolOf<C, O, H, L> {
         alloc: Global,
         now: Moment,
         out: &mut X,
+        me: &mut FrontOf<C, O, L>,
     ) -> Openings
+        ensures later { IsPrefix me.old me.new }
         ensures most { result.opened ≤ self.now.shared.value.options.max_connections }
         ensures counts { (X.faults out.old ≤ X.faults out.new) × (X.refusals out.old ≤ X.refusals out.new) }
     {
         if ended {
-            self.keep_minimum::<R, X>(rt, alloc, now, out)
+            self.keep_minimum_seen::<R, X>(rt, alloc, now, out, me)
         } else {
             Openings {
                 opened: 0,

@@ -3,7 +3,7 @@
 ghost use Rattle.std.specs.Prelude.{◌≡◌, true, false};
 ghost use Rattle.sqlx_pool_core.specs.Answers.{is_kept};
 ghost use Rattle.sqlx_pool.specs.Seen.{SeesStep};
-ghost use Rattle.sqlx_pool.specs.Steps.{Cancels};
+ghost use Rattle.sqlx_pool.specs.Steps.{Cancels, ClosesLoan, Detaches, Gives};
 
 use super::PoolOf;
 use crate::stood::FrontOf;
@@ -39,30 +39,50 @@ impl<C: Depth + Drop, O: Drop, H: Ledger, L: Loans> PoolOf<C, O, H, L> {
         now: Moment,
         accepted: bool,
         held: Held<H>,
+        me: &mut FrontOf<C, O, L>,
     ) -> Given<C>
         requires flat { accepted ≡ true → C.levels lent.raw ≡ 0 }
+        ensures saw { SeesStep C.levels L.max L.cuts me.old me.new (Gives client lent now accepted result) }
         ensures refused { accepted ≡ false → is_kept result ≡ false }
     {
         let mut guard = self.lock(rt);
-        let (given, left) = guard.give(rt, client, lent, now, accepted, held);
+        let (given, left) = guard.give(rt, client, lent, now, accepted, held, me);
         self.unlock(guard);
         drop(left);
         given
     }
 
     // Ends the loan of a connection, which the caller closes.
-    pub(crate) fn end<R: Wait>(&self, rt: &R, client: u32, id: u64, held: Held<H>) -> bool {
+    pub(crate) fn end<R: Wait>(
+        &self,
+        rt: &R,
+        client: u32,
+        id: u64,
+        held: Held<H>,
+        me: &mut FrontOf<C, O, L>,
+    ) -> bool
+        ensures { SeesStep C.levels L.max L.cuts me.old me.new (ClosesLoan client id result) }
+    {
         let mut guard = self.lock(rt);
-        let (ended, left) = guard.end(rt, client, id, held);
+        let (ended, left) = guard.end(rt, client, id, held, me);
         self.unlock(guard);
         drop(left);
         ended
     }
 
     // Takes a connection out of the pool.
-    pub(crate) fn detach<R: Wait>(&self, rt: &R, client: u32, id: u64, held: Held<H>) -> bool {
+    pub(crate) fn detach<R: Wait>(
+        &self,
+        rt: &R,
+        client: u32,
+        id: u64,
+        held: Held<H>,
+        me: &mut FrontOf<C, O, L>,
+    ) -> bool
+        ensures { SeesStep C.levels L.max L.cuts me.old me.new (Detaches client id result) }
+    {
         let mut guard = self.lock(rt);
-        let (left_pool, left) = guard.detach(rt, client, id, held);
+        let (left_pool, left) = guard.detach(rt, client, id, held, me);
         self.unlock(guard);
         drop(left);
         left_pool
