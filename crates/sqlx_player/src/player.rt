@@ -49,7 +49,7 @@ fn play_lines<A: Responder, K: Sink>(
     ensures ok { OnOk result ((first : A.First) → A.stands responder.old first [] → PlaysLines A.language (A.stands responder.new) text.now (K.written sink.old) (K.written sink.new) first) }
     ensures pieces { OnOk result ((first : A.First) → A.stands responder.old first [] → GrowsBy (K.pieces sink.old) (K.pieces sink.new) (lines_pieces A.language first text.now)) }
     ensures rises { K.faults sink.old ≤ K.faults sink.new }
-    ensures cause { IfErr result (λ error. (first : A.First) → A.stands responder.old first [] → LinesCause A.language text.now (K.written sink.old) (K.written sink.new) first (K.faults sink.old) (K.faults sink.new) error) }
+    ensures cause { IfErr result (λ e. (first : A.First) → A.stands responder.old first [] → LinesCause A.language text.now (K.written sink.old) (K.written sink.new) first (K.faults sink.old) (K.faults sink.new) e) }
 {
     let mut rest = text;
     let mut number: u64 = 2;

@@ -1,5 +1,5 @@
 -- What a step under the lock does to the history: its state may come next, as the log went on or was cut.
-use Rattle.std.proofs.Common.{◌≡◌, ◌∙◌, ℕ, ◌+◌, ◌++◌, ◌∷◌, Bool, true, false, List, [], Option, option_map, Result, Ok, Err, IfOk, IfErr, OnOk, OnErr, inl, inr, refl, sym, ap, if◌then◌else◌}
+use Rattle.std.proofs.Common.{◌≡◌, ◌∙◌, ℕ, ◌++◌, ◌∷◌, Bool, true, false, List, [], Option, option_map, Result, Ok, Err, IfOk, OnOk, OnErr, inl, inr, sym, ap, if◌then◌else◌}
 use Rattle.std.proofs.lemmas.List.{append-nil}
 use Rattle.sqlx_text.specs.declared.Moment.{Moment}
 use Rattle.sqlx_text.specs.declared.error.Error.{Error}

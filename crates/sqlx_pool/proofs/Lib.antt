@@ -7,5 +7,7 @@ pub mod KeptLemmas
 pub mod UpkeepLemmas
 pub mod AskLemmas
 pub mod EndLemmas
+pub mod PollStages
+pub mod PollLemmas
 pub mod TallyLemmas
 pub mod HandleLemmas

@@ -1,5 +1,5 @@
 -- What a call sees of a state, from what the step of the locked value says.
-use Rattle.std.proofs.Common.{◌≡◌, ◌⊎◌, ◌∙◌, ℕ, Bool, true, false, Option, Some, None, is_some, option_map, Result, Ok, Err, IfOk, IfErr, inl, inr, refl, sym, ap, subst}
+use Rattle.std.proofs.Common.{◌≡◌, ◌⊎◌, ◌∙◌, Bool, true, false, Option, Some, None, is_some, option_map, Result, Ok, Err, IfOk, IfErr, inl, inr, refl, sym, ap, subst}
 use Rattle.std.specs.List.{list_any}
 use Rattle.sqlx_text.specs.declared.OutOfMemory.{OutOfMemory}
 use Rattle.sqlx_text.specs.declared.error.Error.{Error}
@@ -14,7 +14,7 @@ use Rattle.sqlx_pool_parts.specs.declared.mark_log.MarkLog.{MarkLog}
 use Rattle.sqlx_pool_parts.specs.MarkLog.{IsCopyOf}
 use Rattle.sqlx_pool.specs.Places.{back_if, holds_place}
 use Rattle.sqlx_pool.specs.Refusals.{IsAskRefusal, IsTryRefusal}
-use Rattle.sqlx_pool_parts.specs.State.{PoolState, IsStanding, start_of, since_start}
+use Rattle.sqlx_pool_parts.specs.State.{PoolState, start_of, since_start}
 use Rattle.sqlx_pool.specs.Upkeep.{has_room, IsFilled}
 
 never : {A : Type 0} → false ≡ true → A

@@ -12,6 +12,7 @@ pub mod Refusals
 pub mod Returned
 pub mod Seen
 pub mod Steps
+pub mod PollChain
 pub mod Upkeep
 pub mod Begun
 pub mod Maybe

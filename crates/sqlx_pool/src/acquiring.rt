@@ -3,11 +3,12 @@
 ghost use Rattle.std.specs.Prelude.{◌≡◌, ℕ, ◌+◌, ◌<◌, ◌≤◌, false};
 ghost use Rattle.sqlx_pool_lists.specs.Balance.{one_if};
 ghost use Rattle.sqlx_pool_parts.specs.Booked.{CountsIf};
+ghost use Rattle.sqlx_pool.specs.PollChain.{GoesFrom, Polls, PollsUnseen};
 ghost use Rattle.sqlx_pool.specs.Polling.{is_ready, IfReady, IfFailed, IfPending};
 ghost use Rattle.sqlx_pool.specs.Refusals.{IsEnd, IsPollRefusal};
 ghost use Rattle.sqlx_pool.specs.Seen.{SeesStep};
 ghost use Rattle.sqlx_pool.specs.Stage.{has_lent, IfLent, IfEnded};
-ghost use Rattle.sqlx_pool.specs.Steps.{Cancels};
+ghost use Rattle.sqlx_pool.specs.Steps.{Cancels, lent_of};
 
 mod waits;
 
@@ -71,6 +72,28 @@ impl<C: Depth + Drop, O: Drop, H: Ledger, L: Loans> AcquiringOf<C, O, H, L> {
         out: &mut X,
         tally: &mut Tally<L>,
     ) -> PoolPollOf<C, O, H, L>
+        ensures polls { PollsUnseen X.does X.depth C.levels L.max L.cuts self.client self.ticket now self.pool.shared.value.options (λ c. lent_of c.id c.created c.raw) self.pool.shared.value.unseen result out.old out.new }
+        ensures tally { CountsIf (is_ready result) tally.old tally.new }
+        ensures flat { IfReady result (λ conn. C.levels conn.raw ≡ 0) }
+        ensures again { IfPending result (λ waits. (waits.client ≡ self.client) × (waits.ticket ≡ self.ticket)) }
+        ensures causes { IfFailed result (IsPollRefusal (X.faults out.old) (X.faults out.new)) }
+        ensures counts { (X.faults out.old ≤ X.faults out.new) × (X.refusals out.old ≤ X.refusals out.new) }
+    {
+        let mut me = self.pool.front();
+        self.poll_seen::<R, X>(rt, alloc, now, out, tally, &mut me)
+    }
+
+    /// As `poll`. The front of the caller goes on with each step of the poll, and ends with the last of them.
+    pub fn poll_seen<R: Wait, X: Outside<C, O>>(
+        self,
+        rt: &R,
+        alloc: Global,
+        now: Moment,
+        out: &mut X,
+        tally: &mut Tally<L>,
+        me: &mut FrontOf<C, O, L>,
+    ) -> PoolPollOf<C, O, H, L>
+        ensures polls { Polls X.does X.depth C.levels L.max L.cuts self.client self.ticket now self.pool.shared.value.options (λ c. lent_of c.id c.created c.raw) me.old me.new result out.old out.new }
         ensures tally { CountsIf (is_ready result) tally.old tally.new }
         ensures flat { IfReady result (λ conn. C.levels conn.raw ≡ 0) }
         ensures again { IfPending result (λ waits. (waits.client ≡ self.client) × (waits.ticket ≡ self.ticket)) }
@@ -80,8 +103,8 @@ impl<C: Depth + Drop, O: Drop, H: Ledger, L: Loans> AcquiringOf<C, O, H, L> {
         let begun = self
             .pool
             .lock(rt)
-            .begin(rt, self.client, self.ticket, now, tally);
-        self.go_on::<R, X>(rt, alloc, now, begun, out, tally)
+            .begin(rt, self.client, self.ticket, now, tally, me);
+        self.go_on::<R, X>(rt, alloc, now, begun, out, tally, me)
     }
 
     // Goes on with a poll that was begun. Where the ticket ends without a loan, those that wait are told.
@@ -93,9 +116,11 @@ impl<C: Depth + Drop, O: Drop, H: Ledger, L: Loans> AcquiringOf<C, O, H, L> {
         begun: Stage<C, Held<H>>,
         out: &mut X,
         tally: &mut Tally<L>,
+        me: &mut FrontOf<C, O, L>,
     ) -> PoolPollOf<C, O, H, L>
         requires flat { IfLent begun (λ lent. C.levels lent.raw ≡ 0) }
         requires causes { IfEnded begun IsEnd }
+        ensures goes { GoesFrom X.does X.depth C.levels L.max L.cuts self.client self.ticket now self.pool.shared.value.options (λ c. lent_of c.id c.created c.raw) begun me.old out.old me.new result out.new }
         ensures parts { tally.new.parts ≡ tally.old.parts }
         ensures loans { tally.new.loans + one_if (has_lent begun) ≡ tally.old.loans + one_if (is_ready result) }
         ensures flat { IfReady result (λ conn. C.levels conn.raw ≡ 0) }
@@ -109,8 +134,10 @@ impl<C: Depth + Drop, O: Drop, H: Ledger, L: Loans> AcquiringOf<C, O, H, L> {
             ticket,
         } = self;
         let tries = pool.shared.options.get_idle_tries();
-        let tested = pool.test::<R, X>(rt, client, ticket, begun, tries, out, tally);
-        let stage = pool.open_wanted::<R, X>(rt, alloc, client, ticket, now, tested, out, tally);
+        let tested = pool.test::<R, X>(rt, client, ticket, begun, tries, out, tally, me);
+        let stage = pool.open_wanted::<R, X>(
+            rt, alloc, client, ticket, now, tested, out, tally, me,
+        );
         match stage {
             Stage::Lent(lent, held) => {
                 Polling::Ready(PoolConnectionOf::new(pool, client, lent, held))

@@ -127,7 +127,9 @@ impl<C: Depth + Drop, O: Drop, H: Ledger, L: Loans> PoolOf<C, O, H, L> {
 
     /// The front of a caller who has seen nothing of the pool yet. Each call that ends in `_seen` is handed such a front,
     /// which then ends with the state of which the call tells: what the front had seen before is the beginning.
-    pub fn front(&self) -> FrontOf<C, O, L> {
+    pub fn front(&self) -> FrontOf<C, O, L>
+        ensures { result ≡ self.now.shared.value.unseen }
+    {
         self.shared.unseen.again()
     }
 

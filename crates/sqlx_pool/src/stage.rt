@@ -2,17 +2,13 @@
 
 ghost use Rattle.std.specs.Prelude.{◌≡◌, ℕ, ◌+◌, ◌<◌, ◌≤◌, true, false, is_some};
 ghost use Rattle.sqlx_pool_parts.specs.Answers.{lends_tested, IfTestLends, lends_new, IfTryLends, is_ended};
-ghost use Rattle.sqlx_pool_parts.specs.Booked.{CountsIf};
+ghost use Rattle.sqlx_pool_core.specs.declared.idle_check.Opening.{Opening};
 ghost use Rattle.sqlx_pool.specs.Refusals.{IsEnd};
+ghost use Rattle.sqlx_pool.specs.PollChain.{alone, begun_stage, tested_stage, tried_stage};
 ghost use Rattle.sqlx_pool.specs.Stage.{has_lent, IfLent, IfEnded, wants_test, wants_connect};
 
-use crate::kept::Kept;
-use crate::{Held, Loans, Tally};
 use sqlx_pool_core::{AfterConnect, AfterTest, Idle, Lent, Start, Tried, Verdict};
-use sqlx_pool_parts::checks;
-use sqlx_text::{Depth, Error, Moment};
-use std::sync::Wait;
-use std::sync::ledger::Ledger;
+use sqlx_text::{Error, Moment};
 
 /// Why a poll is still pending.
 #[derive(Clone, Copy, PartialEq, Eq)]
@@ -41,6 +37,7 @@ pub enum Stage<C, H> {
 
 // How far a poll is that begins so, at this moment.
 pub fn after_start<C, H>(start: Start<C>, moment: Moment) -> Stage<C, H>
+    ensures is { alone result ≡ begun_stage moment start }
     ensures lent { has_lent result ≡ false }
     ensures flat { (levels : C → ℕ) → IfLent result (λ lent. levels lent.raw ≡ 0) }
     ensures causes { IfEnded result IsEnd }
@@ -60,6 +57,7 @@ pub fn after_start<C, H>(start: Start<C>, moment: Moment) -> Stage<C, H>
 // What a test came to, with the share of what it lent.
 pub fn after_test<C, H: Drop>(after: AfterTest<C>, held: Option<H>, moment: Moment) -> Stage<C, H>
     requires { is_some held ≡ lends_tested after }
+    ensures is { alone result ≡ tested_stage moment after }
     ensures lent { has_lent result ≡ lends_tested after }
     ensures flat { (levels : C → ℕ) → IfTestLends after (λ lent. levels lent.raw ≡ 0) → IfLent result (λ lent. levels lent.raw ≡ 0) }
     ensures causes { IfEnded result IsEnd }
@@ -90,6 +88,7 @@ pub fn after_test<C, H: Drop>(after: AfterTest<C>, held: Option<H>, moment: Mome
 pub fn after_try<C, H: Drop>(after: AfterConnect<C>, held: Option<H>) -> Stage<C, H>
     requires held { is_some held ≡ lends_new after }
     requires calm { is_ended after ≡ false }
+    ensures is { (opening : Opening C) → alone result ≡ tried_stage opening after }
     ensures lent { has_lent result ≡ lends_new after }
     ensures flat { (levels : C → ℕ) → IfTryLends after (λ lent. levels lent.raw ≡ 0) → IfLent result (λ lent. levels lent.raw ≡ 0) }
     ensures causes { IfEnded result IsEnd }
@@ -115,60 +114,5 @@ pub fn after_try<C, H: Drop>(after: AfterConnect<C>, held: Option<H>) -> Stage<C
         },
         AfterConnect::NotHeld(_) => Stage::Failed(Error::NotHeld),
         AfterConnect::Ended => unreachable!(),
-    }
-}
-
-impl<C: Depth, O, H: Ledger, L: Loans> Kept<C, O, H, L> {
-    // Begins a poll. Where the test of an idle connection asks nothing of the outside, it is lent at once.
-    pub(crate) fn begin<R: Wait>(
-        &mut self,
-        rt: &R,
-        client: u32,
-        ticket: u64,
-        now: Moment,
-        tally: &mut Tally<L>,
-    ) -> Stage<C, Held<H>>
-        ensures tally { CountsIf (has_lent result) tally.old tally.new }
-        ensures flat { IfLent result (λ lent. C.levels lent.raw ≡ 0) }
-        ensures causes { IfEnded result IsEnd }
-    {
-        if checks::tests_nothing(self.locked().options()) {
-            if let Some((lent, held)) = self.serve_polled(rt, client, ticket, now, tally) {
-                return Stage::Lent(lent, held);
-            }
-        }
-        let start = self.start(rt, client, ticket, now);
-        match after_start(start, self.locked().moment(now)) {
-            Stage::Test(idle, moment) => self.test_or_lend(rt, client, ticket, idle, moment, tally),
-            stage => stage,
-        }
-    }
-
-    // Lends an idle connection whose test asks nothing of the outside; another is to be tested.
-    fn test_or_lend<R: Wait>(
-        &mut self,
-        rt: &R,
-        client: u32,
-        ticket: u64,
-        idle: Idle<C>,
-        moment: Moment,
-        tally: &mut Tally<L>,
-    ) -> Stage<C, Held<H>>
-        ensures tally { CountsIf (has_lent result) tally.old tally.new }
-        ensures flat { IfLent result (λ lent. C.levels lent.raw ≡ 0) }
-        ensures causes { IfEnded result IsEnd }
-    {
-        if checks::tests_nothing(self.locked().options()) && idle.lent.raw.depth() == 0 {
-            let (after, held) = self.finish_test(
-                rt,
-                client,
-                ticket,
-                Verdict::Accepted(idle.lent),
-                tally,
-            );
-            after_test(after, held, moment)
-        } else {
-            Stage::Test(idle, moment)
-        }
     }
 }

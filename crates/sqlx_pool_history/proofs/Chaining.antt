@@ -1,5 +1,5 @@
 -- A chain goes on.
-use Rattle.std.proofs.Common.{◌≡◌, ℕ, ◌<◌, List, [], ◌∷◌, ◌++◌, length, subst, sym, refl, ap, arith}
+use Rattle.std.proofs.Common.{◌≡◌, ◌<◌, List, [], ◌∷◌, ◌++◌, length, subst, sym, refl, ap, arith}
 use Rattle.sqlx_pool_history.specs.Chains.{EndsWith, IfLast, IsChain}
 
 module _ {S : Type 0} where

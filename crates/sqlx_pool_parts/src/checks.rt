@@ -1,9 +1,10 @@
 //! What is asked of the outside between two locked steps: the core's own test of an idle connection, try to open one
 //! and test of one that comes back. Nothing here knows the lock. Each reads the connection's own depth last.
 
-ghost use Rattle.std.specs.Prelude.{◌≡◌, ◌==◌, ◌⊎◌, ℕ, ◌≤◌, ◌&&◌, false, not, length, IfErr, IfOk, OnErr};
+ghost use Rattle.std.specs.Prelude.{◌≡◌, ◌==◌, ◌⊎◌, ℕ, ◌≤◌, ◌&&◌, false, not, if◌then◌else◌, length, IfErr, IfOk, OnErr};
 ghost use Rattle.sqlx_text.specs.declared.error.Error.{Error};
 ghost use Rattle.sqlx_pool_core.specs.Chain.{Tests, Tries};
+ghost use Rattle.sqlx_pool_core.specs.declared.idle_check.Check.{Check};
 ghost use Rattle.sqlx_pool_core.specs.Outside.{HasRisen};
 ghost use Rattle.sqlx_pool_core.specs.CameTo.{IfAccepted, IfOpened, IfFailed, IsForGood};
 ghost use Rattle.sqlx_pool_core.specs.Giving.{Returns, is_pass};
@@ -68,6 +69,7 @@ pub fn close_by<C, O, X: Outside<C, O>>(check: Check, raw: C, out: &mut X)
 
 // Closes a connection that a poll left.
 pub fn close_left<C, O, X: Outside<C, O>>(raw: C, hard: bool, out: &mut X)
+    ensures closes { Closes X.does (if hard then Check.CloseHard else Check.Close) raw out.old out.new }
     ensures counts { (X.faults out.old ≤ X.faults out.new) × (X.refusals out.old ≤ X.refusals out.new) }
 {
     let check = if hard { Check::CloseHard } else { Check::Close };

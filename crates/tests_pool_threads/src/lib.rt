@@ -12,6 +12,8 @@ mod closes;
 #[cfg(test)]
 mod cuts;
 #[cfg(test)]
+mod hooks;
+#[cfg(test)]
 mod levels;
 #[cfg(test)]
 mod marks;

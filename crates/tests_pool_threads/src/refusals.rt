@@ -343,3 +343,30 @@ fn first_refused<H: Ledger, L: Loans, R: Wait + Abort>(
 fn first_connections_that_are_refused(rt: HostRuntime) -> Result<(), Fail> {
     first_refused::<Brand, Brand, HostRuntime>(&rt, rt.alloc(), BlanksOf::new())
 }
+
+// A deadline lies as far behind the last moment as a timeout reaches.
+const LATE: Script<'static> = Script {
+    rows: &[
+        Row(1, Act::Ask, u64::MAX, 1, 1),
+        Row(1, Act::Cancel, u64::MAX, CANCELLED, 2),
+    ],
+    log: "asked 1 1 36893488147419103230
+ended 1
+",
+    loans: 0,
+};
+
+#[test]
+fn a_deadline_behind_the_last_moment(rt: HostRuntime) -> Result<(), Fail> {
+    let options = PoolOptions::new()
+        .max_connections(1)
+        .acquire_timeout(u64::MAX);
+    refused(
+        &rt,
+        rt.alloc(),
+        options,
+        &LATE,
+        Refusing::new(YES),
+        [0, 0, 0],
+    )
+}

@@ -12,8 +12,10 @@ use super::AcquiringOf;
 use crate::kept::Kept;
 use crate::pool::Guard;
 use crate::stage::{Stage, Why};
+use crate::stood::{FrontOf, Stood};
 use crate::{Clock, Held, Loans, Polling, PoolConnectionOf, PoolOf, PoolPollOf, Tally};
 use sqlx_pool_core::{Lent, Outside, PoolOptions};
+use sqlx_pool_history::Front;
 use sqlx_pool_parts::checks;
 use sqlx_text::{Depth, Error, Moment};
 use std::alloc::Global;
@@ -38,6 +40,7 @@ impl<C: Depth, O, H: Ledger, L: Loans> Kept<C, O, H, L> {
         client: u32,
         now: Moment,
         tally: &mut Tally<L>,
+        me: &mut Front<Stood<C, O>, L>,
     ) -> Result<(u64, Stage<C, Held<H>>), Error>
         ensures tally { IfOk result (λ asked. CountsIf (has_lent asked.1) tally.old tally.new) }
         ensures flat { IfOk result (λ asked. IfLent asked.1 (λ lent. C.levels lent.raw ≡ 0)) }
@@ -45,9 +48,8 @@ impl<C: Depth, O, H: Ledger, L: Loans> Kept<C, O, H, L> {
         ensures causes { IfErr result (λ e. (e ≡ Error.PoolClosed) ⊎ ((e ≡ Error.Exhausted) ⊎ (e ≡ Error.OutOfMemory))) }
         ensures err { OnErr result (tally.new ≡ tally.old) }
     {
-        let mut me = self.front();
-        match self.ask(rt, alloc, now, client, &mut me) {
-            Ok(ticket) => Ok((ticket, self.begin(rt, client, ticket, now, tally))),
+        match self.ask(rt, alloc, now, client, me) {
+            Ok(ticket) => Ok((ticket, self.begin(rt, client, ticket, now, tally, me))),
             Err(error) => Err(error),
         }
     }
@@ -118,6 +120,7 @@ impl<C: Depth + Drop, O: Drop, H: Ledger, L: Loans> PoolOf<C, O, H, L> {
         now: Moment,
         deadline: u128,
         tally: &mut Tally<L>,
+        me: &mut FrontOf<C, O, L>,
     ) -> Result<(u64, Stage<C, Held<H>>), Error>
         ensures tally { IfOk result (λ asked. CountsIf (has_lent asked.1) tally.old tally.new) }
         ensures flat { IfOk result (λ asked. IfLent asked.1 (λ lent. C.levels lent.raw ≡ 0)) }
@@ -126,7 +129,7 @@ impl<C: Depth + Drop, O: Drop, H: Ledger, L: Loans> PoolOf<C, O, H, L> {
         ensures err { OnErr result (tally.new ≡ tally.old) }
     {
         let mut guard = guard;
-        match guard.ask_and_begin(rt, alloc, client, now, tally) {
+        match guard.ask_and_begin(rt, alloc, client, now, tally, me) {
             Ok((ticket, begun)) => {
                 self.sleep_if_waiting(rt, guard, ticket, now, deadline, &begun);
                 Ok((ticket, begun))
@@ -164,10 +167,11 @@ impl<C: Depth + Drop, O: Drop, H: Ledger, L: Loans> PoolOf<C, O, H, L> {
             return Ok(PoolConnectionOf::new(pool, client, lent, held));
         }
         let deadline = deadline(&self.shared.options, guard.locked().moment(now));
-        match self.ask_or_sleep(rt, guard, alloc, client, now, deadline, tally) {
+        let mut me = self.front();
+        match self.ask_or_sleep(rt, guard, alloc, client, now, deadline, tally, &mut me) {
             Ok((ticket, begun)) => {
                 let asked = AcquiringOf::new(pool, client, ticket);
-                match asked.go_on::<R, X>(rt, alloc, now, begun, out, tally) {
+                match asked.go_on::<R, X>(rt, alloc, now, begun, out, tally, &mut me) {
                     Polling::Ready(conn) => Ok(conn),
                     Polling::Failed(error) => Err(error),
                     Polling::Pending(asked, _) => {
@@ -228,10 +232,11 @@ impl<C: Depth + Drop, O: Drop, H: Ledger, L: Loans> AcquiringOf<C, O, H, L> {
         ensures counts { (X.faults out.old ≤ X.faults out.new) × (X.refusals out.old ≤ X.refusals out.new) }
     {
         let now = clock.now();
+        let mut me = self.pool.front();
         let mut guard = self.pool.lock(rt);
-        let begun = guard.begin(rt, self.client, self.ticket, now, tally);
+        let begun = guard.begin(rt, self.client, self.ticket, now, tally, &mut me);
         self.pool
             .sleep_if_waiting(rt, guard, self.ticket, now, deadline, &begun);
-        self.go_on::<R, X>(rt, alloc, now, begun, out, tally)
+        self.go_on::<R, X>(rt, alloc, now, begun, out, tally, &mut me)
     }
 }

@@ -11,11 +11,11 @@ ghost use Rattle.sqlx_pool_lists.specs.Balance.{Balance, ask_room, marks_due};
 ghost use Rattle.sqlx_pool_lists.specs.Core.{free, waiting};
 ghost use Rattle.sqlx_pool_lists.specs.Edits.{at_moment, asked};
 ghost use Rattle.sqlx_pool_core.specs.Logs.{moment_of};
-ghost use Rattle.sqlx_pool_lists.specs.Makes.{Makes};
 ghost use Rattle.sqlx_pool_lists.specs.PollSteps.{asked_marks, try_lent, try_marks, after_try, serve_marks, after_serve};
 ghost use Rattle.sqlx_pool_lists.specs.StandsFor.{StandsFor};
 ghost use Rattle.sqlx_pool_parts.specs.Answers.{lent_alone, marks_served};
 ghost use Rattle.sqlx_pool_parts.specs.Booked.{CountsIf};
+ghost use Rattle.sqlx_pool.specs.Steps.{LogsIf};
 
 use super::Locked;
 use crate::{Held, Loans, Tally};
@@ -60,7 +60,7 @@ fn ask_open<C>(
     requires few { core.old.pool.next_ticket ≤ 2 ^ 63 }
     requires room { length log.old.items + marks_due core.old.pool ≤ log.old.capacity }
     ensures numbered { IfSome result (λ ticket. ticket ≡ core.old.pool.next_ticket) }
-    ensures makes { (marks : List Mark) → StandsFor core.old.pool marks → IfSome result (λ ticket. Makes core.old.pool.options.max_connections marks (asked_marks core.old.pool client (moment_of core.old.pool now) ticket) core.new.pool) }
+    ensures makes { LogsIf result core.old.pool (λ ticket. asked_marks core.old.pool client (moment_of core.old.pool now) ticket) core.new.pool }
     ensures balance { IfSome result (λ ticket. Balance core.old.pool core.new.pool (asked_marks core.old.pool client (moment_of core.old.pool now) ticket) 0 (ask_room core.old.pool.options.idle_tries)) }
     ensures becomes { IfSome result (λ ticket. core.new.pool ≡ at_moment (moment_of core.old.pool now) (asked client (moment_of core.old.pool now + core.old.pool.options.acquire_timeout) core.old.pool)) }
     ensures marks { IfSome result (λ ticket. log.new.items ≡ log.old.items ++ asked_marks core.old.pool client (moment_of core.old.pool now) ticket) }
@@ -98,7 +98,7 @@ fn serve_first<C>(
 ) -> Option<Lent<C>>
     requires { length log.old.items + marks_due core.old.pool ≤ log.old.capacity }
     ensures first { IfSome result (λ lent. Some lent ≡ try_lent true core.old.pool.idle) }
-    ensures makes { (marks : List Mark) → StandsFor core.old.pool marks → IfSome result (λ lent. Makes core.old.pool.options.max_connections marks (marks_served client (moment_of core.old.pool now) core.old.pool (Some lent)) core.new.pool) }
+    ensures makes { LogsIf result core.old.pool (λ lent. marks_served client (moment_of core.old.pool now) core.old.pool (Some lent)) core.new.pool }
     ensures balance { IfSome result (λ lent. Balance core.old.pool core.new.pool (marks_served client (moment_of core.old.pool now) core.old.pool (Some lent)) 0 6) }
     ensures becomes { core.new.pool ≡ after_serve client (moment_of core.old.pool now) result core.old.pool }
     ensures marks { log.new.items ≡ log.old.items ++ marks_served client (moment_of core.old.pool now) core.old.pool result }
@@ -135,7 +135,7 @@ fn lend_past<C>(
     requires room { length log.old.items + marks_due core.old.pool ≤ log.old.capacity }
     ensures first { IfSome result (λ lent. Some lent ≡ try_lent (may_pass core.old.pool.shut (waiting core.old.pool.tickets) (free core.old.pool)) core.old.pool.idle) }
     ensures answer { (marks : List Mark) → StandsFor core.old.pool marks → IfSome result (λ lent. Some (lent_conn lent) ≡ lent_past_at core.old.pool.options.max_connections core.old.pool.places marks) }
-    ensures makes { (marks : List Mark) → StandsFor core.old.pool marks → IfSome result (λ lent. Makes core.old.pool.options.max_connections marks (try_marks client (Some lent)) core.new.pool) }
+    ensures makes { LogsIf result core.old.pool (λ lent. try_marks client (Some lent)) core.new.pool }
     ensures balance { IfSome result (λ lent. Balance core.old.pool core.new.pool (try_marks client (Some lent)) 0 4) }
     ensures becomes { core.new.pool ≡ after_try client (moment_of core.old.pool now) result core.old.pool }
     ensures marks { log.new.items ≡ log.old.items ++ try_marks client result }

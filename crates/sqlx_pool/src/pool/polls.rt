@@ -2,15 +2,19 @@
 
 ghost use Rattle.std.specs.Prelude.{◌≡◌, ℕ, ◌+◌, ◌<◌, ◌≤◌, ◌⊎◌, false};
 ghost use Rattle.sqlx_pool_lists.specs.Balance.{one_if};
+ghost use Rattle.sqlx_pool_lists.specs.declared.steps.Tried.{Tried};
+ghost use Rattle.sqlx_pool_core.specs.declared.idle_check.Opening.{Opening};
 ghost use Rattle.sqlx_pool_core.specs.CameTo.{IfOpened, IfFailed, IsForGood};
 ghost use Rattle.sqlx_pool_parts.specs.Answers.{IfTried, is_fatal};
 ghost use Rattle.sqlx_pool_parts.specs.Booked.{CountsIf};
 ghost use Rattle.sqlx_pool_parts.specs.Opened.{IfUnopened, IsCounted, TellsLevels};
+ghost use Rattle.sqlx_pool.specs.PollChain.{OpensFrom, TellsTry, TestsFrom, TestsTo, TriesOrLacks};
 ghost use Rattle.sqlx_pool.specs.Refusals.{IsEnd, IsPollRefusal};
 ghost use Rattle.sqlx_pool.specs.Stage.{has_lent, IfLent, IfEnded, wants_test, wants_connect};
 
 use super::PoolOf;
 use crate::stage::{Stage, after_test, after_try};
+use crate::stood::FrontOf;
 use crate::{Held, Loans, Tally};
 use sqlx_pool_core::idle_check::Opening;
 use sqlx_pool_core::{AfterConnect, Idle, Outside, Tried};
@@ -32,7 +36,9 @@ impl<C: Depth + Drop, O: Drop, H: Ledger, L: Loans> PoolOf<C, O, H, L> {
         left: u32,
         out: &mut X,
         tally: &mut Tally<L>,
+        me: &mut FrontOf<C, O, L>,
     ) -> Stage<C, Held<H>>
+        ensures chain { TestsFrom X.does X.depth C.levels L.max L.cuts client ticket left self.now.shared.value.options stage me.old out.old result me.new out.new }
         ensures parts { tally.new.parts ≡ tally.old.parts }
         ensures loans { tally.new.loans + one_if (has_lent stage) ≡ tally.old.loans + one_if (has_lent result) }
         ensures flat { IfLent stage (λ lent. C.levels lent.raw ≡ 0) → IfLent result (λ lent. C.levels lent.raw ≡ 0) }
@@ -49,8 +55,8 @@ impl<C: Depth + Drop, O: Drop, H: Ledger, L: Loans> PoolOf<C, O, H, L> {
                         error: Error::NotHeld,
                     };
                 }
-                let next = self.test_one::<R, X>(rt, client, ticket, idle, moment, out, tally);
-                self.test::<R, X>(rt, client, ticket, next, left - 1, out, tally)
+                let next = self.test_one::<R, X>(rt, client, ticket, idle, moment, out, tally, me);
+                self.test::<R, X>(rt, client, ticket, next, left - 1, out, tally, me)
             }
             stage => stage,
         }
@@ -66,7 +72,9 @@ impl<C: Depth + Drop, O: Drop, H: Ledger, L: Loans> PoolOf<C, O, H, L> {
         moment: Moment,
         out: &mut X,
         tally: &mut Tally<L>,
+        me: &mut FrontOf<C, O, L>,
     ) -> Stage<C, Held<H>>
+        ensures tests { TestsTo X.does X.depth C.levels L.max L.cuts client ticket self.now.shared.value.options moment idle me.old out.old result me.new out.new }
         ensures tally { CountsIf (has_lent result) tally.old tally.new }
         ensures flat { IfLent result (λ lent. C.levels lent.raw ≡ 0) }
         ensures causes { IfEnded result IsEnd }
@@ -75,7 +83,7 @@ impl<C: Depth + Drop, O: Drop, H: Ledger, L: Loans> PoolOf<C, O, H, L> {
         let verdict = checks::judge::<C, O, X>(&self.shared.options, idle, moment, out);
         let finished = self
             .lock(rt)
-            .finish_test(rt, client, ticket, verdict, tally);
+            .finish_test(rt, client, ticket, verdict, tally, me);
         let (after, held) = finished;
         after_test(after, held, moment)
     }
@@ -87,6 +95,7 @@ impl<C: Depth + Drop, O: Drop, H: Ledger, L: Loans> PoolOf<C, O, H, L> {
         alloc: Global,
         out: &mut X,
     ) -> Opening<C>
+        ensures tries { TriesOrLacks X.does X.depth C.levels self.now.shared.value.options.after_connect result out.old out.new }
         ensures flat { IfOpened result (λ raw. C.levels raw ≡ 0) }
         ensures unopened { TellsLevels X.depth C.levels → IfUnopened result (IsCounted X.faults X.refusals out.old out.new) }
         ensures cause { IfFailed result (λ e. IsForGood (X.faults out.old) (X.faults out.new) e) }
@@ -109,9 +118,11 @@ impl<C: Depth + Drop, O: Drop, H: Ledger, L: Loans> PoolOf<C, O, H, L> {
         now: Moment,
         tried: Tried<C>,
         tally: &mut Tally<L>,
+        me: &mut FrontOf<C, O, L>,
     ) -> Stage<C, Held<H>>
         requires flat { IfTried tried (λ raw. C.levels raw ≡ 0) }
         requires calm { is_fatal tried ≡ false }
+        ensures tells { (opening : Opening C) → TellsTry L.max client ticket now C.levels L.cuts opening tried me.old result me.new }
         ensures tally { CountsIf (has_lent result) tally.old tally.new }
         ensures flat { IfLent result (λ lent. C.levels lent.raw ≡ 0) }
         ensures causes { IfEnded result IsEnd }
@@ -120,7 +131,7 @@ impl<C: Depth + Drop, O: Drop, H: Ledger, L: Loans> PoolOf<C, O, H, L> {
     {
         let finished = self
             .lock(rt)
-            .finish_connect(rt, client, ticket, now, tried, tally);
+            .finish_connect(rt, client, ticket, now, tried, tally, me);
         let (after, held) = finished;
         after_try(after, held)
     }
@@ -134,7 +145,9 @@ impl<C: Depth + Drop, O: Drop, H: Ledger, L: Loans> PoolOf<C, O, H, L> {
         now: Moment,
         error: Error,
         tally: &mut Tally<L>,
+        me: &mut FrontOf<C, O, L>,
     ) -> Stage<C, Held<H>>
+        ensures tells { TellsTry L.max client ticket now C.levels L.cuts (Opening.Failed error) Tried.Fatal me.old result me.new }
         ensures tally { CountsIf (has_lent result) tally.old tally.new }
         ensures flat { IfLent result (λ lent. C.levels lent.raw ≡ 0) }
         ensures causes { IfEnded result (λ e. IsEnd e ⊎ (e ≡ error)) }
@@ -143,7 +156,7 @@ impl<C: Depth + Drop, O: Drop, H: Ledger, L: Loans> PoolOf<C, O, H, L> {
     {
         let finished = self
             .lock(rt)
-            .finish_connect(rt, client, ticket, now, Tried::Fatal, tally);
+            .finish_connect(rt, client, ticket, now, Tried::Fatal, tally, me);
         let (after, held) = finished;
         match after {
             AfterConnect::Ended => Stage::Failed(error),
@@ -165,7 +178,9 @@ impl<C: Depth + Drop, O: Drop, H: Ledger, L: Loans> PoolOf<C, O, H, L> {
         stage: Stage<C, Held<H>>,
         out: &mut X,
         tally: &mut Tally<L>,
+        me: &mut FrontOf<C, O, L>,
     ) -> Stage<C, Held<H>>
+        ensures chain { OpensFrom X.does X.depth C.levels L.max L.cuts client ticket now self.now.shared.value.options stage me.old out.old result me.new out.new }
         ensures parts { tally.new.parts ≡ tally.old.parts }
         ensures loans { tally.new.loans + one_if (has_lent stage) ≡ tally.old.loans + one_if (has_lent result) }
         ensures flat { IfLent stage (λ lent. C.levels lent.raw ≡ 0) → IfLent result (λ lent. C.levels lent.raw ≡ 0) }
@@ -183,10 +198,21 @@ impl<C: Depth + Drop, O: Drop, H: Ledger, L: Loans> PoolOf<C, O, H, L> {
                     now,
                     Tried::Opened(raw),
                     tally,
+                    me,
                 ),
-                Opening::Rejected => self.tell(rt, client, ticket, now, Tried::Rejected, tally),
-                Opening::Transient => self.tell(rt, client, ticket, now, Tried::Transient, tally),
-                Opening::Failed(error) => self.tell_fatal(rt, client, ticket, now, error, tally),
+                Opening::Rejected => self.tell(rt, client, ticket, now, Tried::Rejected, tally, me),
+                Opening::Transient => self.tell(
+                    rt,
+                    client,
+                    ticket,
+                    now,
+                    Tried::Transient,
+                    tally,
+                    me,
+                ),
+                Opening::Failed(error) => self.tell_fatal(
+                    rt, client, ticket, now, error, tally, me,
+                ),
             },
             stage => stage,
         }
