@@ -3,3 +3,4 @@ pub mod StepLemmas
 pub mod PoolLemmas
 pub mod SeenLemmas
 pub mod CutLemmas
+pub mod KeptLemmas

@@ -3,4 +3,5 @@ pub mod FamilyState
 pub mod FamilyPlaces
 pub mod Handles
 pub mod Seen
+pub mod Steps
 pub mod Upkeep

@@ -46,3 +46,7 @@ module _ {C O : Type 0} where
   -- a copy of the log of the pool of this name: its start, how many loans were forgotten before that, and the marks behind it
   abbrev pub IsLogOf : ℕ → MarkLog → FamilyState C O → Type 0
   IsLogOf pool log state = (log.start.items ≡ start_in state pool) × (log.lent_before ≡ (start_at state pool).lent_before) × (log.marks.items ≡ since_start_in state pool)
+
+  -- what is read of a pool: its maximum, and a copy of its log
+  abbrev pub IsReadOf : ℕ → ℕ → MarkLog → FamilyState C O → Type 0
+  IsReadOf pool most log state = (most ≡ (pool_in pool state.family).options.max_connections) × IsLogOf pool log state

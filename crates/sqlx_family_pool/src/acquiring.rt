@@ -2,16 +2,16 @@
 
 ghost use Rattle.std.specs.Prelude.{◌≡◌, ℕ, ◌+◌, ◌<◌, ◌≤◌};
 ghost use Rattle.sqlx_pool_lists.specs.Balance.{one_if};
-ghost use Rattle.sqlx_pool_lists.specs.PollSteps.{phase_for, may_cancel};
-ghost use Rattle.sqlx_family.specs.Pools.{pool_in};
 ghost use Rattle.sqlx_pool_parts.specs.Booked.{CountsIf};
 ghost use Rattle.sqlx_pool.specs.Polling.{is_ready, IfReady, IfFailed, IfPending};
 ghost use Rattle.sqlx_pool.specs.Refusals.{IsEnd, IsPollRefusal};
 ghost use Rattle.sqlx_pool.specs.Stage.{has_lent, IfLent, IfEnded};
-ghost use Rattle.sqlx_family_pool.specs.Seen.{SawFamily};
+ghost use Rattle.sqlx_family_pool.specs.Seen.{SeesStep};
+ghost use Rattle.sqlx_family_pool.specs.Steps.{Cancels};
 
 mod waits;
 
+use crate::stood::FamilyFrontOf;
 use crate::{FamilyConnectionOf, FamilyPollOf, FamilyPoolOf};
 use sqlx_pool::stage::Stage;
 use sqlx_pool::{Held, Loans, Polling, Tally};
@@ -66,6 +66,7 @@ impl<C: Depth + Drop, O: Drop, H: Ledger, L: Loans> FamilyAcquiringOf<C, O, H, L
         ensures counts { (X.faults out.old ≤ X.faults out.new) × (X.refusals out.old ≤ X.refusals out.new) }
     {
         let begun = self.pool.lock(rt).begin(
+            rt,
             self.pool.name,
             &self.pool.options,
             self.client,
@@ -128,17 +129,20 @@ impl<C: Depth + Drop, O: Drop, H: Ledger, L: Loans> FamilyAcquiringOf<C, O, H, L
     }
 
     /// Gives the ticket up. It ends, and frees what it held: true.
-    pub fn cancel<R: Wait>(self, rt: &R) -> bool
-        ensures { SawFamily C.levels L.max L.cuts (λ state. result ≡ may_cancel (phase_for self.client self.ticket (pool_in self.pool.name state.family).tickets)) }
+    pub fn cancel<R: Wait>(self, rt: &R) -> bool {
+        let mut me = self.pool.front();
+        self.cancel_seen(rt, &mut me)
+    }
+
+    /// As `cancel`. The front of the caller then ends with the step.
+    pub fn cancel_seen<R: Wait>(self, rt: &R, me: &mut FamilyFrontOf<C, O, L>) -> bool
+        ensures { SeesStep C.levels L.max L.cuts me.old me.new (Cancels self.pool.name self.client self.ticket result) }
     {
         let FamilyAcquiringOf {
             pool,
             client,
             ticket,
         } = self;
-        let mut guard = pool.lock(rt);
-        let ended = guard.seen_cancel(pool.name, client, ticket);
-        pool.unlock(guard);
-        ended
+        pool.cancel(rt, client, ticket, me)
     }
 }

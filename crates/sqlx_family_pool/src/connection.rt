@@ -3,6 +3,7 @@
 ghost use Rattle.std.specs.Prelude.{◌≡◌, ◌≤◌, ℕ, true, false, IfErr};
 ghost use Rattle.sqlx_text.specs.declared.error.Error.{Error};
 ghost use Rattle.sqlx_pool.specs.Returned.{was_kept};
+ghost use Rattle.sqlx_pool.specs.Steps.{lent_of};
 
 use crate::FamilyPoolOf;
 use sqlx_pool::{Held, Loans, Returned};
@@ -33,6 +34,7 @@ impl<C: Depth + Drop, O: Drop, H: Ledger, L: Loans> FamilyConnectionOf<C, O, H, 
         lent: Lent<C>,
         held: Held<H>,
     ) -> Self
+        ensures lent { lent_of result.id result.created result.raw ≡ lent }
         ensures raw { result.raw ≡ lent.raw }
         ensures closes { result.closes ≡ false }
     {
@@ -79,12 +81,7 @@ impl<C: Depth + Drop, O: Drop, H: Ledger, L: Loans> FamilyConnectionOf<C, O, H, 
         } = self;
         let check = pool.check::<R, X>(rt, closes, created, now, &mut raw, out);
         let lent = Lent { id, created, raw };
-        let mut guard = pool.lock(rt);
-        let gave = guard.give(pool.name, client, lent, now, passes(check), held);
-        pool.unlock(guard);
-        let (given, left) = gave;
-        drop(left);
-        match given {
+        match pool.give(rt, client, lent, now, passes(check), held) {
             Given::Kept => Returned::Kept,
             Given::Closed(raw) => {
                 close_by::<C, O, X>(check, raw, out);
@@ -119,11 +116,7 @@ impl<C: Depth + Drop, O: Drop, H: Ledger, L: Loans> FamilyConnectionOf<C, O, H, 
             held,
             closes: _,
         } = self;
-        let mut guard = pool.lock(rt);
-        let (ended, left) = guard.end(pool.name, client, id, held);
-        pool.unlock(guard);
-        drop(left);
-        if ended {
+        if pool.end(rt, client, id, held) {
             close_by::<C, O, X>(Check::Close, raw, out);
             Ok(pool.keep_minimum::<R, X>(rt, alloc, now, out))
         } else {
@@ -152,10 +145,7 @@ impl<C: Depth + Drop, O: Drop, H: Ledger, L: Loans> FamilyConnectionOf<C, O, H, 
             held,
             closes: _,
         } = self;
-        let mut guard = pool.lock(rt);
-        let (left_pool, share) = guard.detach(pool.name, client, id, held);
-        pool.unlock(guard);
-        drop(share);
+        let left_pool = pool.detach(rt, client, id, held);
         let opened = pool.keep_minimum_if::<R, X>(left_pool, rt, alloc, now, out);
         (raw, opened)
     }
@@ -180,7 +170,7 @@ impl<C: Depth + Drop, O: Drop, H: Ledger, L: Loans> FamilyConnectionOf<C, O, H, 
             held,
             closes: _,
         } = self;
-        let (left_pool, share) = pool.lock(rt).leak(pool.name, client, id, held);
+        let (left_pool, share) = pool.lock(rt).leak(rt, pool.name, client, id, held);
         drop(share);
         let opened = pool.keep_minimum_if::<R, X>(left_pool, rt, alloc, now, out);
         (raw, opened)

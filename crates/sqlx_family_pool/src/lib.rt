@@ -5,20 +5,24 @@
 #![tactic(auto)]
 
 mod acquiring;
+mod blanks;
 mod close_event;
 mod connection;
 mod hold;
+mod kept;
 mod locked;
 mod pool;
-mod seen;
+mod stood;
 
 pub use acquiring::FamilyAcquiringOf;
+pub use blanks::FamilyBlanksOf;
 pub use close_event::FamilyCloseEventOf;
 pub use connection::FamilyConnectionOf;
 pub use locked::LockedFamily;
 pub use pool::FamilyPoolOf;
 use sqlx_pool::Polling;
 use sqlx_traits::Database;
+pub use stood::{FamilyFrontOf, FamilyStood};
 
 /// What a poll of a pool of a family came to.
 pub type FamilyPollOf<C, O, H, L> = Polling<
@@ -31,6 +35,16 @@ pub type FamilyPool<DB, H, L> = FamilyPoolOf<
     <DB as Database>::Connection,
     <DB as Database>::Options,
     H,
+    L,
+>;
+
+/// What the root of a family of a database's pools is made with.
+pub type FamilyBlanks<DB> = FamilyBlanksOf<<DB as Database>::Connection, <DB as Database>::Options>;
+
+/// What a caller has seen of a family of a database's pools.
+pub type FamilyFront<DB, L> = FamilyFrontOf<
+    <DB as Database>::Connection,
+    <DB as Database>::Options,
     L,
 >;
 

@@ -1,44 +1,46 @@
 //! The handle on one pool of a family that threads share. Each call takes the lock for one step at a time.
 
-ghost use Rattle.std.specs.Prelude.{◌≡◌, ℕ, ◌+◌, ◌-◌, ◌^◌, ◌<◌, ◌≤◌, ◌⊎◌, Err, true, false, is_some, length, IfOk, IfErr, IfSome, OnErr, sum_by};
+ghost use Rattle.std.specs.Prelude.{◌≡◌, ℕ, ◌+◌, ◌^◌, ◌<◌, ◌≤◌, ◌⊎◌, true, false, is_some, IfOk, IfErr, IfSome, OnErr, sum_by};
 ghost use Rattle.sqlx_text.specs.declared.error.Error.{Error};
 ghost use Rattle.sqlx_pool_marks.specs.FairLog.{IsSafe};
-ghost use Rattle.sqlx_pool_lists.specs.Core.{size};
-ghost use Rattle.sqlx_family.specs.Pools.{entry_of, pool_in, counts_as_closed, new_pool};
-ghost use Rattle.sqlx_family.specs.Permits.{owned_by};
 ghost use Rattle.sqlx_pool_parts.specs.Booked.{CountsIf};
 ghost use Rattle.sqlx_pool_parts.specs.MarkLog.{IsUncut};
 ghost use Rattle.sqlx_pool_parts.specs.Opened.{IsOpenable};
-ghost use Rattle.sqlx_family_steps.specs.FamilySteps.{closing_in, try_lent_in};
-ghost use Rattle.sqlx_pool.specs.Refusals.{IsAskRefusal, IsTryRefusal};
-ghost use Rattle.sqlx_family_pool.specs.FamilyState.{loans_told, since_start_in};
+ghost use Rattle.sqlx_pool.specs.Refusals.{MayRefuseAsk, MayRefuseTry};
+ghost use Rattle.sqlx_family_pool.specs.FamilyState.{loans_told};
 ghost use Rattle.sqlx_family_pool.specs.Handles.{IsChildOf};
-ghost use Rattle.sqlx_family_pool.specs.Seen.{SawFamily, SawIn};
-ghost use Rattle.sqlx_family_pool.specs.Upkeep.{AreLoansUsed, AreTicketsUsed, IsClosedIn, IsLogOf, IsNextTicket};
 
 mod first;
 mod maintenance;
 mod polls;
+mod seen;
+mod steps;
 
-use crate::{FamilyAcquiringOf, FamilyCloseEventOf, FamilyConnectionOf, LockedFamily};
+use crate::kept::KeptFamily;
+use crate::stood::FamilyFrontOf;
+use crate::{
+    FamilyAcquiringOf, FamilyBlanksOf, FamilyCloseEventOf, FamilyConnectionOf, LockedFamily,
+};
 use sqlx_pool::{Loans, MarkLog, Tally};
 use sqlx_pool_core::{CloseState, PoolOptions};
 use sqlx_pool_parts::sleepers::Sleepers;
 use sqlx_text::{Depth, Error, Moment, OutOfMemory};
 use std::alloc::Global;
-use std::sync::ledger::{Blank, Ledger};
+use std::sync::ledger::Ledger;
 use std::sync::{Arc, Mutex, MutexGuard, Wait};
 
-// What the handles of a family share.
+// What the handles of a family share: what lies under its lock.
 #[derive(Drop)]
 pub(crate) struct Shared<C: Depth, O, H: Ledger, L: Loans> {
-    pub(crate) locked: Mutex<LockedFamily<C, Arc<O, Global>, H, L>>,
+    pub(crate) kept: Mutex<KeptFamily<C, Arc<O, Global>, H, L>>,
+    // The front of one that has seen nothing yet.
+    unseen: FamilyFrontOf<C, O, L>,
     // Where those sleep that wait for their turn, in whichever pool.
     pub(crate) sleepers: Sleepers,
 }
 
 // What is under the lock, while it is held.
-pub(crate) type Guard<'a, C, O, H, L> = MutexGuard<'a, LockedFamily<C, Arc<O, Global>, H, L>>;
+pub(crate) type Guard<'a, C, O, H, L> = MutexGuard<'a, KeptFamily<C, Arc<O, Global>, H, L>>;
 
 /// One pool of a family: of connections of the type `C`, which are opened by options of the type `O`. Handles on each pool
 /// of a family go into as many threads as need be. In sqlx: a pool, or one with a `parent`.
@@ -60,18 +62,15 @@ impl<C: Depth + Drop, O: Drop, H: Ledger, L: Loans> Drop for FamilyPoolOf<C, O, 
 }
 
 impl<C: Depth + Drop, O: Drop, H: Ledger, L: Loans> FamilyPoolOf<C, O, H, L> {
-    /// A root with no connection yet and without children, and the tally of its family's loans with every part. The two
-    /// blanks are the ledgers of the connections that are held and of the loans, in whichever pool.
+    /// A root with no connection yet and without children, and the tally of its family's loans with every part.
     pub fn root(
         alloc: Global,
         options: PoolOptions,
         connect: O,
-        held: Blank,
-        loans: Blank,
+        blanks: FamilyBlanksOf<C, O>,
     ) -> Result<(Self, Tally<L>), OutOfMemory>
         requires options { IsOpenable options L.max }
-        requires held { (held.name ≡ H.name) × (held.parts ≡ H.parts) × (held.parts ≡ 2 ^ 32) }
-        requires loans { (loans.name ≡ L.name) × (loans.parts ≡ L.parts) × (1 ≤ loans.parts) }
+        requires blanks { (blanks.held.name ≡ H.name) × (H.parts ≡ 2 ^ 32) × (blanks.loans.name ≡ L.name) × (L.parts ≡ 2 ^ 32) × (blanks.opened.seen.book ≡ L.book) }
         ensures name { IfOk result (λ made. made.0.name ≡ 0) }
         ensures options { IfOk result (λ made. made.0.options ≡ options) }
         ensures tally { IfOk result (λ made. made.1 ≡ record { parts = L.parts; loans = 0 }) }
@@ -79,9 +78,13 @@ impl<C: Depth + Drop, O: Drop, H: Ledger, L: Loans> FamilyPoolOf<C, O, H, L> {
         let Ok(connect) = Arc::new(alloc, connect) else {
             return Err(OutOfMemory);
         };
+        let (held, loans, opened) = blanks.into_parts();
         let (locked, tally) = LockedFamily::new(alloc, options, connect, held, loans)?;
+        let kept = KeptFamily::new(locked, opened);
+        let unseen = kept.front();
         let shared = Shared {
-            locked: Mutex::new(locked),
+            kept: Mutex::new(kept),
+            unseen,
             sleepers: Sleepers::new(),
         };
         match Arc::new(alloc, shared) {
@@ -117,38 +120,21 @@ impl<C: Depth + Drop, O: Drop, H: Ledger, L: Loans> FamilyPoolOf<C, O, H, L> {
         requires root { self.now.name ≡ 0 }
         requires options { IsChildOf options L.max }
         ensures name { IfOk result (λ child. 1 ≤ child.name) }
-        ensures added { IfOk result (λ child. SawFamily C.levels L.max L.cuts (λ state. child.name ≡ length state.family.pools)) }
-        ensures fresh { IfOk result (λ child. SawFamily C.levels L.max L.cuts (λ state. entry_of child.name state.family ≡ new_pool options 0)) }
         ensures options { IfOk result (λ child. child.options ≡ options) }
-        ensures full { (result ≡ Err Error.Exhausted) → SawFamily C.levels L.max L.cuts (λ state. length state.family.pools ≡ 2 ^ 32 - 1) }
         ensures causes { IfErr result (λ e. (e ≡ Error.Exhausted) ⊎ (e ≡ Error.OutOfMemory)) }
     {
-        let Ok(shared) = Arc::try_clone(&self.shared) else {
-            return Err(Error::OutOfMemory);
-        };
-        let added = self.lock(rt).seen_child(alloc, options);
-        match added {
-            Ok(name) => Ok(FamilyPoolOf {
-                shared,
-                name,
-                options,
-            }),
-            Err(error) => {
-                drop(shared);
-                Err(error)
-            }
-        }
+        self.child_seen(rt, alloc, options, &mut self.front())
     }
 
     // Takes the lock.
     pub(crate) fn lock<R: Wait>(&self, rt: &R) -> Guard<'_, C, O, H, L> {
-        self.shared.locked.lock(rt)
+        self.shared.kept.lock(rt)
     }
 
     // Takes the lock, and cuts the pool's log where it is long: before each step that reserves room for marks.
     pub(crate) fn lock_and_cut<R: Wait>(&self, rt: &R) -> Guard<'_, C, O, H, L> {
         let mut guard = self.lock(rt);
-        guard.cut_if_long(self.name);
+        guard.cut_if_long(rt, self.name);
         guard
     }
 
@@ -164,6 +150,14 @@ impl<C: Depth + Drop, O: Drop, H: Ledger, L: Loans> FamilyPoolOf<C, O, H, L> {
         self.shared.sleepers.call_all();
     }
 
+    /// The front of a caller who has seen nothing of the family yet. Each call that ends in `_seen` is handed such a front,
+    /// which then ends with the state of which the call tells: what the front had seen before is the beginning.
+    pub fn front(&self) -> FamilyFrontOf<C, O, L>
+        ensures { result ≡ self.now.shared.value.unseen }
+    {
+        self.shared.unseen.again()
+    }
+
     /// Asks for a connection: a ticket at the end of the line, which is polled by the value that comes back.
     pub fn acquire<R: Wait>(
         &self,
@@ -172,22 +166,10 @@ impl<C: Depth + Drop, O: Drop, H: Ledger, L: Loans> FamilyPoolOf<C, O, H, L> {
         now: Moment,
         client: u32,
     ) -> Result<FamilyAcquiringOf<C, O, H, L>, Error>
-        ensures asked { IfOk result (λ waits. (waits.pool.name ≡ self.now.name) × (waits.client ≡ client) × SawFamily C.levels L.max L.cuts (IsNextTicket waits.ticket)) }
-        ensures refused { IfErr result (IsAskRefusal (SawFamily C.levels L.max L.cuts (IsClosedIn self.now.name)) (SawFamily C.levels L.max L.cuts AreTicketsUsed)) }
+        ensures asked { IfOk result (λ waits. (waits.pool.name ≡ self.now.name) × (waits.client ≡ client)) }
+        ensures refused { IfErr result MayRefuseAsk }
     {
-        let Ok(pool) = self.try_clone() else {
-            return Err(Error::OutOfMemory);
-        };
-        let asked = self
-            .lock_and_cut(rt)
-            .seen_ask(self.name, alloc, now, client);
-        match asked {
-            Ok(ticket) => Ok(FamilyAcquiringOf::new(pool, client, ticket)),
-            Err(error) => {
-                drop(pool);
-                Err(error)
-            }
-        }
+        self.acquire_seen(rt, alloc, now, client, &mut self.front())
     }
 
     /// The first idle connection, past the line and without a test: where the pool is open, a connection is idle, and
@@ -201,29 +183,12 @@ impl<C: Depth + Drop, O: Drop, H: Ledger, L: Loans> FamilyPoolOf<C, O, H, L> {
         client: u32,
         tally: &mut Tally<L>,
     ) -> Result<Option<FamilyConnectionOf<C, O, H, L>>, Error>
-        ensures saw { let name = self.now.name in IfOk result (λ lent. SawIn C.levels L.max L.cuts name (λ state. is_some lent ≡ is_some (try_lent_in name state.family))) }
         ensures tally { IfOk result (λ lent. CountsIf (is_some lent) tally.old tally.new) }
         ensures flat { IfOk result (λ lent. IfSome lent (λ conn. C.levels conn.raw ≡ 0)) }
-        ensures refused { IfErr result (IsTryRefusal (SawFamily C.levels L.max L.cuts AreLoansUsed)) }
+        ensures refused { IfErr result MayRefuseTry }
         ensures err { OnErr result (tally.new ≡ tally.old) }
     {
-        let Ok(pool) = self.try_clone() else {
-            return Err(Error::OutOfMemory);
-        };
-        let tried = self
-            .lock_and_cut(rt)
-            .seen_try(self.name, alloc, now, client, tally);
-        match tried {
-            Ok(Some((lent, held))) => Ok(Some(FamilyConnectionOf::new(pool, client, lent, held))),
-            Ok(None) => {
-                drop(pool);
-                Ok(None)
-            }
-            Err(error) => {
-                drop(pool);
-                Err(error)
-            }
-        }
+        self.try_acquire_seen(rt, alloc, now, client, tally, &mut self.front())
     }
 
     /// How the pool was set up.
@@ -235,38 +200,29 @@ impl<C: Depth + Drop, O: Drop, H: Ledger, L: Loans> FamilyPoolOf<C, O, H, L> {
 
     /// How many permits the pool owns.
     pub fn owned<R: Wait>(&self, rt: &R) -> u32
-        ensures most { result ≤ L.max }
-        ensures saw { SawFamily C.levels L.max L.cuts (λ state. result ≡ owned_by self.now.name state.family) }
+        ensures { result ≤ L.max }
     {
-        self.lock(rt).seen_owned(self.name)
+        self.owned_seen(rt, &mut self.front())
     }
 
     /// How many connections there are or may be.
-    pub fn size<R: Wait>(&self, rt: &R) -> u32
-        ensures { SawFamily C.levels L.max L.cuts (λ state. result ≡ size (pool_in self.now.name state.family)) }
-    {
-        self.lock(rt).seen_size(self.name)
+    pub fn size<R: Wait>(&self, rt: &R) -> u32 {
+        self.size_seen(rt, &mut self.front())
     }
 
     /// How many connections are idle.
-    pub fn num_idle<R: Wait>(&self, rt: &R) -> usize
-        ensures { SawFamily C.levels L.max L.cuts (λ state. result ≡ length (pool_in self.now.name state.family).idle) }
-    {
-        self.lock(rt).seen_idle(self.name)
+    pub fn num_idle<R: Wait>(&self, rt: &R) -> usize {
+        self.num_idle_seen(rt, &mut self.front())
     }
 
     /// Whether the pool is closed: a close came to it, or to its root.
-    pub fn is_closed<R: Wait>(&self, rt: &R) -> bool
-        ensures { SawFamily C.levels L.max L.cuts (λ state. result ≡ counts_as_closed self.now.name state.family) }
-    {
-        self.lock(rt).seen_closed(self.name)
+    pub fn is_closed<R: Wait>(&self, rt: &R) -> bool {
+        self.is_closed_seen(rt, &mut self.front())
     }
 
     /// How far the pool is closed, by whether a close came to it, or to its root.
-    pub fn closing<R: Wait>(&self, rt: &R) -> CloseState
-        ensures { SawFamily C.levels L.max L.cuts (λ state. result ≡ closing_in self.now.name state.family) }
-    {
-        self.lock(rt).seen_closing(self.name)
+    pub fn closing<R: Wait>(&self, rt: &R) -> CloseState {
+        self.closing_seen(rt, &mut self.front())
     }
 
     /// What tells that the pool is closed.
@@ -282,7 +238,7 @@ impl<C: Depth + Drop, O: Drop, H: Ledger, L: Loans> FamilyPoolOf<C, O, H, L> {
     /// The options by which the connections of the family are opened.
     pub fn connect_options<R: Wait>(&self, rt: &R) -> Result<Arc<O, Global>, OutOfMemory> {
         let guard = self.lock(rt);
-        match Arc::try_clone(guard.connect_options()) {
+        match Arc::try_clone(guard.locked().connect_options()) {
             Ok(connect) => Ok(connect),
             Err(_) => Err(OutOfMemory),
         }
@@ -298,16 +254,14 @@ impl<C: Depth + Drop, O: Drop, H: Ledger, L: Loans> FamilyPoolOf<C, O, H, L> {
         let Ok(options) = Arc::new(alloc, options) else {
             return Err(OutOfMemory);
         };
-        let former = self.lock(rt).set_connect_options(options);
+        let former = self.lock(rt).set_connect_options(rt, options);
         drop(former);
         Ok(())
     }
 
     /// How many marks the pool's log has behind its start.
-    pub fn log_len<R: Wait>(&self, rt: &R) -> usize
-        ensures { SawFamily C.levels L.max L.cuts (λ state. result ≡ length (since_start_in state self.now.name)) }
-    {
-        self.lock(rt).seen_len(self.name)
+    pub fn log_len<R: Wait>(&self, rt: &R) -> usize {
+        self.log_len_seen(rt, &mut self.front())
     }
 
     /// Cuts the pool's log: the marks that later ones still look at become its start, and the others are forgotten. It
@@ -315,7 +269,7 @@ impl<C: Depth + Drop, O: Drop, H: Ledger, L: Loans> FamilyPoolOf<C, O, H, L> {
     pub fn cut_log<R: Wait>(&self, rt: &R)
         requires { L.cuts ≡ true }
     {
-        self.lock(rt).cut(self.name);
+        self.lock(rt).cut(rt, self.name);
     }
 
     /// Sets that the pool cuts its log by itself, before a step that reserves room for marks, where behind the start there
@@ -323,17 +277,16 @@ impl<C: Depth + Drop, O: Drop, H: Ledger, L: Loans> FamilyPoolOf<C, O, H, L> {
     pub fn set_log_limit<R: Wait>(&self, rt: &R, limit: Option<usize>)
         requires { L.cuts ≡ true }
     {
-        self.lock(rt).set_log_limit(self.name, limit);
+        self.lock(rt).set_log_limit(rt, self.name, limit);
     }
 
     /// The pool's maximum, and a copy of its log, which is safe behind its start for that maximum. The start is empty
     /// where logs may not be cut.
     pub fn read_log<R: Wait>(&self, rt: &R, alloc: Global) -> Result<(u32, MarkLog), OutOfMemory>
-        ensures saw { IfOk result (λ read. SawFamily C.levels L.max L.cuts (IsLogOf self.now.name read.1)) }
         ensures uncut { IfOk result (λ read. L.cuts ≡ false → IsUncut read.1) }
         ensures safe { IfOk result (λ read. IsSafe read.0 read.1.start.items read.1.marks.items) }
     {
-        self.lock(rt).seen_log(self.name, alloc)
+        self.read_log_seen(rt, alloc, &mut self.front())
     }
 
     /// A copy of the log of each pool of the family, by the pools' names, by the tally with every part: they have as many
@@ -348,6 +301,6 @@ impl<C: Depth + Drop, O: Drop, H: Ledger, L: Loans> FamilyPoolOf<C, O, H, L> {
         ensures counted { IfOk result (λ logs. sum_by loans_told logs.items ≡ all.old.loans) }
         ensures same { all.new ≡ all.old }
     {
-        self.lock(rt).audited(alloc, all)
+        self.lock(rt).audit(rt, alloc, all)
     }
 }

@@ -4,7 +4,8 @@
 ghost use Rattle.std.specs.Prelude.{◌≡◌, ◌^◌, ◌<◌, ◌≤◌, true};
 
 use crate::handles::{Conns, give, lend};
-use crate::outside::Plain;
+use crate::outside::{Conn, Plain};
+use sqlx_family_pool::FamilyBlanksOf;
 use sqlx_pool::{Loans, Mark, MarkLog, Step, Tally};
 use sqlx_pool_core::{CloseState, PoolOptions};
 use sqlx_text::Moment;
@@ -12,7 +13,7 @@ use std::alloc::Global;
 use std::marker::Brand;
 use std::process::Abort;
 use std::sync::Wait;
-use std::sync::ledger::{Blank, Ledger};
+use std::sync::ledger::Ledger;
 use std::test::*;
 
 // How many loans these marks make.
@@ -62,16 +63,14 @@ fn a_loan<H: Ledger, L: Loans, R: Wait + Abort>(
 fn a_hundred<H: Ledger, L: Loans, R: Wait + Abort>(
     rt: &R,
     alloc: Global,
-    held: Blank,
-    loans: Blank,
+    blanks: FamilyBlanksOf<Conn, ()>,
 ) -> Result<(), Fail>
     requires max { L.max ≡ 2 }
     requires cuts { L.cuts ≡ true }
-    requires held { (held.name ≡ H.name) × (held.parts ≡ H.parts) × (held.parts ≡ 2 ^ 32) }
-    requires loans { (loans.name ≡ L.name) × (loans.parts ≡ L.parts) × (loans.parts ≡ 2 ^ 32) }
+    requires blanks { (blanks.held.name ≡ H.name) × (H.parts ≡ 2 ^ 32) × (blanks.loans.name ≡ L.name) × (L.parts ≡ 2 ^ 32) × (blanks.opened.seen.book ≡ L.book) }
 {
     let options = PoolOptions::new().max_connections(2);
-    let (root, mut tally) = Conns::<H, L>::root(alloc, options, (), held, loans)?;
+    let (root, mut tally) = Conns::<H, L>::root(alloc, options, (), blanks)?;
     let child = root.child(rt, alloc, options.max_connections(1))?;
     let mut out = Plain { closed: 0 };
     for _ in 0..50 {
@@ -92,28 +91,21 @@ fn a_hundred<H: Ledger, L: Loans, R: Wait + Abort>(
 
 #[test]
 fn logs_that_are_cut_after_each_loan(rt: HostRuntime) -> Result<(), Fail> {
-    a_hundred::<Brand, Brand, HostRuntime>(
-        &rt,
-        rt.alloc(),
-        Blank::new(1 << 32),
-        Blank::new(1 << 32),
-    )
+    a_hundred::<Brand, Brand, HostRuntime>(&rt, rt.alloc(), FamilyBlanksOf::new())
 }
 
 // A root that cuts its log by itself, as its child doesn't: the child's log grows.
 fn by_itself<H: Ledger, L: Loans, R: Wait + Abort>(
     rt: &R,
     alloc: Global,
-    held: Blank,
-    loans: Blank,
+    blanks: FamilyBlanksOf<Conn, ()>,
 ) -> Result<(), Fail>
     requires max { L.max ≡ 2 }
     requires cuts { L.cuts ≡ true }
-    requires held { (held.name ≡ H.name) × (held.parts ≡ H.parts) × (held.parts ≡ 2 ^ 32) }
-    requires loans { (loans.name ≡ L.name) × (loans.parts ≡ L.parts) × (loans.parts ≡ 2 ^ 32) }
+    requires blanks { (blanks.held.name ≡ H.name) × (H.parts ≡ 2 ^ 32) × (blanks.loans.name ≡ L.name) × (L.parts ≡ 2 ^ 32) × (blanks.opened.seen.book ≡ L.book) }
 {
     let options = PoolOptions::new().max_connections(2);
-    let (root, mut tally) = Conns::<H, L>::root(alloc, options, (), held, loans)?;
+    let (root, mut tally) = Conns::<H, L>::root(alloc, options, (), blanks)?;
     let child = root.child(rt, alloc, options.max_connections(1))?;
     let mut out = Plain { closed: 0 };
     root.set_log_limit(rt, Some(60));
@@ -132,12 +124,7 @@ fn by_itself<H: Ledger, L: Loans, R: Wait + Abort>(
 
 #[test]
 fn a_root_that_cuts_its_log(rt: HostRuntime) -> Result<(), Fail> {
-    by_itself::<Brand, Brand, HostRuntime>(
-        &rt,
-        rt.alloc(),
-        Blank::new(1 << 32),
-        Blank::new(1 << 32),
-    )
+    by_itself::<Brand, Brand, HostRuntime>(&rt, rt.alloc(), FamilyBlanksOf::new())
 }
 
 // A piece of work that is never done.
@@ -156,15 +143,13 @@ impl Step for Never {
 fn told_of<H: Ledger, L: Loans, R: Wait + Abort>(
     rt: &R,
     alloc: Global,
-    held: Blank,
-    loans: Blank,
+    blanks: FamilyBlanksOf<Conn, ()>,
 ) -> Result<(), Fail>
     requires max { L.max ≡ 2 }
-    requires held { (held.name ≡ H.name) × (held.parts ≡ H.parts) × (held.parts ≡ 2 ^ 32) }
-    requires loans { (loans.name ≡ L.name) × (loans.parts ≡ L.parts) × (loans.parts ≡ 2 ^ 32) }
+    requires blanks { (blanks.held.name ≡ H.name) × (H.parts ≡ 2 ^ 32) × (blanks.loans.name ≡ L.name) × (L.parts ≡ 2 ^ 32) × (blanks.opened.seen.book ≡ L.book) }
 {
     let options = PoolOptions::new().max_connections(2);
-    let (root, mut tally) = Conns::<H, L>::root(alloc, options, (), held, loans)?;
+    let (root, mut tally) = Conns::<H, L>::root(alloc, options, (), blanks)?;
     let child = root.child(rt, alloc, options)?;
     let mut out = Plain { closed: 0 };
     let mut event = child.close_event()?;
@@ -193,22 +178,20 @@ fn told_of<H: Ledger, L: Loans, R: Wait + Abort>(
 
 #[test]
 fn a_close_of_the_root_is_told(rt: HostRuntime) -> Result<(), Fail> {
-    told_of::<Brand, Brand, HostRuntime>(&rt, rt.alloc(), Blank::new(1 << 32), Blank::new(1 << 32))
+    told_of::<Brand, Brand, HostRuntime>(&rt, rt.alloc(), FamilyBlanksOf::new())
 }
 
 // Two children with a budget each: one that has used its own up waits, and the other is served all the same.
 fn budgets<H: Ledger, L: Loans, R: Wait + Abort>(
     rt: &R,
     alloc: Global,
-    held: Blank,
-    loans: Blank,
+    blanks: FamilyBlanksOf<Conn, ()>,
 ) -> Result<(), Fail>
     requires max { L.max ≡ 3 }
-    requires held { (held.name ≡ H.name) × (held.parts ≡ H.parts) × (held.parts ≡ 2 ^ 32) }
-    requires loans { (loans.name ≡ L.name) × (loans.parts ≡ L.parts) × (loans.parts ≡ 2 ^ 32) }
+    requires blanks { (blanks.held.name ≡ H.name) × (H.parts ≡ 2 ^ 32) × (blanks.loans.name ≡ L.name) × (L.parts ≡ 2 ^ 32) × (blanks.opened.seen.book ≡ L.book) }
 {
     let options = PoolOptions::new().max_connections(3);
-    let (root, mut tally) = Conns::<H, L>::root(alloc, options, (), held, loans)?;
+    let (root, mut tally) = Conns::<H, L>::root(alloc, options, (), blanks)?;
     let first = root.child(rt, alloc, options.max_connections(1))?;
     let second = root.child(rt, alloc, options.max_connections(2))?;
     let mut out = Plain { closed: 0 };
@@ -235,19 +218,17 @@ fn budgets<H: Ledger, L: Loans, R: Wait + Abort>(
 
 #[test]
 fn two_children_with_a_budget_each(rt: HostRuntime) -> Result<(), Fail> {
-    budgets::<Brand, Brand, HostRuntime>(&rt, rt.alloc(), Blank::new(1 << 32), Blank::new(1 << 32))
+    budgets::<Brand, Brand, HostRuntime>(&rt, rt.alloc(), FamilyBlanksOf::new())
 }
 
 // A root whose minimum is two opens two connections before any client asks, and its child none.
 fn first_ones<H: Ledger, L: Loans, R: Wait + Abort>(
     rt: &R,
     alloc: Global,
-    held: Blank,
-    loans: Blank,
+    blanks: FamilyBlanksOf<Conn, ()>,
 ) -> Result<(), Fail>
     requires max { L.max ≡ 3 }
-    requires held { (held.name ≡ H.name) × (held.parts ≡ H.parts) × (held.parts ≡ 2 ^ 32) }
-    requires loans { (loans.name ≡ L.name) × (loans.parts ≡ L.parts) × (loans.parts ≡ 2 ^ 32) }
+    requires blanks { (blanks.held.name ≡ H.name) × (H.parts ≡ 2 ^ 32) × (blanks.loans.name ≡ L.name) × (L.parts ≡ 2 ^ 32) × (blanks.opened.seen.book ≡ L.book) }
 {
     let options = PoolOptions::new().max_connections(3).min_connections(2);
     let mut out = Plain { closed: 0 };
@@ -258,8 +239,7 @@ fn first_ones<H: Ledger, L: Loans, R: Wait + Abort>(
         (),
         Moment(0),
         &mut out,
-        held,
-        loans,
+        blanks,
     )?;
     let child = root.child(rt, alloc, options.max_connections(2))?;
     assert_eq!(rt; [root.num_idle(rt), child.num_idle(rt)], [2, 0]);
@@ -269,10 +249,5 @@ fn first_ones<H: Ledger, L: Loans, R: Wait + Abort>(
 
 #[test]
 fn a_root_that_opens_its_first_connections(rt: HostRuntime) -> Result<(), Fail> {
-    first_ones::<Brand, Brand, HostRuntime>(
-        &rt,
-        rt.alloc(),
-        Blank::new(1 << 32),
-        Blank::new(1 << 32),
-    )
+    first_ones::<Brand, Brand, HostRuntime>(&rt, rt.alloc(), FamilyBlanksOf::new())
 }

@@ -3,7 +3,7 @@
 ghost use Rattle.std.specs.Prelude.{◌≡◌, ◌^◌, ◌<◌, ◌≤◌};
 
 use crate::outside::{Conn, Plain};
-use sqlx_family_pool::{FamilyConnectionOf, FamilyPoolOf};
+use sqlx_family_pool::{FamilyBlanksOf, FamilyConnectionOf, FamilyPoolOf};
 use sqlx_pool::stage::Why;
 use sqlx_pool::{Loans, Polling, Returned, Tally};
 use sqlx_pool_core::PoolOptions;
@@ -12,7 +12,7 @@ use std::alloc::Global;
 use std::marker::Brand;
 use std::process::Abort;
 use std::sync::Wait;
-use std::sync::ledger::{Blank, Ledger};
+use std::sync::ledger::Ledger;
 use std::test::*;
 
 pub type Conns<H, L> = FamilyPoolOf<Conn, (), H, L>;
@@ -65,13 +65,14 @@ pub fn give<H: Ledger, L: Loans, R: Wait>(
     }
 }
 
-// How many permits the root and the child own.
+// How many permits the root and the child own, as one front sees it.
 fn owned<H: Ledger, L: Loans, R: Wait>(
     rt: &R,
     root: &Conns<H, L>,
     child: &Conns<H, L>,
 ) -> [u32; 2] {
-    [root.owned(rt), child.owned(rt)]
+    let mut me = root.front();
+    [root.owned_seen(rt, &mut me), child.owned_seen(rt, &mut me)]
 }
 
 // The child's two tickets are served, and a third waits. After both connections are given back the child still owns its
@@ -109,21 +110,13 @@ fn shares<H: Ledger, L: Loans, R: Wait + Abort>(
 fn family<H: Ledger, L: Loans, R: Wait + Abort>(
     rt: &R,
     alloc: Global,
-    held: Blank,
-    loans: Blank,
+    blanks: FamilyBlanksOf<Conn, ()>,
 ) -> Result<(), Fail>
     requires max { L.max ≡ 3 }
-    requires held { (held.name ≡ H.name) × (held.parts ≡ H.parts) × (held.parts ≡ 2 ^ 32) }
-    requires loans { (loans.name ≡ L.name) × (loans.parts ≡ L.parts) × (loans.parts ≡ 2 ^ 32) }
+    requires blanks { (blanks.held.name ≡ H.name) × (H.parts ≡ 2 ^ 32) × (blanks.loans.name ≡ L.name) × (L.parts ≡ 2 ^ 32) × (blanks.opened.seen.book ≡ L.book) }
 {
     let options = PoolOptions::new();
-    let (root, mut tally) = Conns::<H, L>::root(
-        alloc,
-        options.max_connections(3),
-        (),
-        held,
-        loans,
-    )?;
+    let (root, mut tally) = Conns::<H, L>::root(alloc, options.max_connections(3), (), blanks)?;
     let child = root.child(rt, alloc, options.max_connections(2))?;
     let mut out = Plain { closed: 0 };
     shares(rt, alloc, &root, &child, &mut out, &mut tally);
@@ -134,5 +127,5 @@ fn family<H: Ledger, L: Loans, R: Wait + Abort>(
 
 #[test]
 fn a_root_of_three_and_a_child_of_two(rt: HostRuntime) -> Result<(), Fail> {
-    family::<Brand, Brand, HostRuntime>(&rt, rt.alloc(), Blank::new(1 << 32), Blank::new(1 << 32))
+    family::<Brand, Brand, HostRuntime>(&rt, rt.alloc(), FamilyBlanksOf::new())
 }

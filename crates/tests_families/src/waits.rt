@@ -3,14 +3,14 @@
 ghost use Rattle.std.specs.Prelude.{◌≡◌, ℕ, ◌^◌, ◌<◌, ◌≤◌, IfOk};
 
 use crate::outside::{Conn, Plain};
-use sqlx_family_pool::{FamilyConnectionOf, FamilyPoolOf};
+use sqlx_family_pool::{FamilyBlanksOf, FamilyConnectionOf, FamilyPoolOf};
 use sqlx_pool::{FixedClock, Loans, Tally};
 use sqlx_pool_core::PoolOptions;
 use sqlx_text::Moment;
 use std::alloc::Global;
 use std::marker::Brand;
 use std::sync::Wait;
-use std::sync::ledger::{Blank, Ledger};
+use std::sync::ledger::Ledger;
 use std::test::*;
 use std::thread::{Threads, join};
 
@@ -194,17 +194,15 @@ fn comes<H: Ledger, L: Loans, R: Wait>(
 fn both<H: Ledger, L: Loans, R: Wait>(
     rt: &R,
     alloc: Global,
-    held: Blank,
-    loans: Blank,
+    blanks: FamilyBlanksOf<Conn, ()>,
 ) -> Result<(Conns<H, L>, Conns<H, L>, Tally<L>), Fail>
     requires max { L.max ≡ 1 }
-    requires held { (held.name ≡ H.name) × (held.parts ≡ H.parts) × (held.parts ≡ 2 ^ 32) }
-    requires loans { (loans.name ≡ L.name) × (loans.parts ≡ L.parts) × (loans.parts ≡ 2 ^ 32) }
+    requires blanks { (blanks.held.name ≡ H.name) × (H.parts ≡ 2 ^ 32) × (blanks.loans.name ≡ L.name) × (L.parts ≡ 2 ^ 32) × (blanks.opened.seen.book ≡ L.book) }
     ensures child { IfOk result (λ made. 1 ≤ made.1.name) }
     ensures parts { IfOk result (λ made. made.2.parts ≡ 2 ^ 32) }
 {
     let options = PoolOptions::new().max_connections(1);
-    let (root, tally) = Conns::<H, L>::root(alloc, options, (), held, loans)?;
+    let (root, tally) = Conns::<H, L>::root(alloc, options, (), blanks)?;
     let child = root.child(rt, alloc, options)?;
     Ok((root, child, tally))
 }
@@ -215,14 +213,12 @@ fn woken<H: Ledger + Send + Sync, L: Loans + Send + Sync, R: Wait + Threads + Sy
     rt: &R,
     alloc: Global,
     freeing: Freeing,
-    held: Blank,
-    loans: Blank,
+    blanks: FamilyBlanksOf<Conn, ()>,
 ) -> Result<(bool, bool), Fail>
     requires max { L.max ≡ 1 }
-    requires held { (held.name ≡ H.name) × (held.parts ≡ H.parts) × (held.parts ≡ 2 ^ 32) }
-    requires loans { (loans.name ≡ L.name) × (loans.parts ≡ L.parts) × (loans.parts ≡ 2 ^ 32) }
+    requires blanks { (blanks.held.name ≡ H.name) × (H.parts ≡ 2 ^ 32) × (blanks.loans.name ≡ L.name) × (L.parts ≡ 2 ^ 32) × (blanks.opened.seen.book ≡ L.book) }
 {
-    let (root, child, mut all) = both::<H, L, R>(rt, alloc, held, loans)?;
+    let (root, child, mut all) = both::<H, L, R>(rt, alloc, blanks)?;
     let one = all.split();
     let other = all.split();
     let root = &root;
@@ -245,7 +241,7 @@ fn woken_by<R: Wait + Threads + Sync>(
     alloc: Global,
     freeing: Freeing,
 ) -> Result<(bool, bool), Fail> {
-    woken::<Brand, Brand, R>(rt, alloc, freeing, Blank::new(1 << 32), Blank::new(1 << 32))
+    woken::<Brand, Brand, R>(rt, alloc, freeing, FamilyBlanksOf::new())
 }
 
 #[test]

@@ -45,7 +45,7 @@ impl<C: Depth + Drop, O: Drop, H: Ledger, L: Loans> FamilyPoolOf<C, O, H, L> {
 
     // When a ticket that is asked for now has no time left.
     fn deadline<R: Wait>(&self, rt: &R, now: Moment) -> u128 {
-        let moment = self.lock(rt).moment(now);
+        let moment = self.lock(rt).locked().moment(now);
         u128::from(moment.0) + u128::from(self.options.get_acquire_timeout())
     }
 
@@ -124,6 +124,7 @@ impl<C: Depth + Drop, O: Drop, H: Ledger, L: Loans> FamilyAcquiringOf<C, O, H, L
         let now = clock.now();
         let mut guard = self.pool.lock(rt);
         let begun = guard.begin(
+            rt,
             self.pool.name,
             &self.pool.options,
             self.client,

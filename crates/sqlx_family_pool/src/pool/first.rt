@@ -7,6 +7,7 @@ ghost use Rattle.sqlx_pool_parts.specs.Opened.{IsOpenable, IsOpenRefusal};
 ghost use Rattle.url.specs.Parser.{parse_url};
 
 use super::FamilyPoolOf;
+use crate::FamilyBlanksOf;
 use sqlx_pool::{Loans, Tally};
 use sqlx_pool_core::idle_check::Check;
 use sqlx_pool_core::{Outside, PoolOptions};
@@ -16,7 +17,7 @@ use sqlx_text::{Depth, Error, Moment};
 use sqlx_traits::ConnectOptions;
 use std::alloc::Global;
 use std::sync::Wait;
-use std::sync::ledger::{Blank, Ledger};
+use std::sync::ledger::Ledger;
 
 // Sets a new connection up by its hook, where it is set. A level that is left open is `BeginFailed`.
 #[tactic(auto, using(sqlx_pool::proofs::RefusalLemmas::left_open))]
@@ -53,18 +54,16 @@ impl<C: Depth + Drop, O: Drop, H: Ledger, L: Loans> FamilyPoolOf<C, O, H, L> {
         connect: O,
         now: Moment,
         out: &mut X,
-        held: Blank,
-        loans: Blank,
+        blanks: FamilyBlanksOf<C, O>,
     ) -> Result<(Self, Tally<L>), Error>
         requires options { IsOpenable options L.max }
-        requires held { (held.name ≡ H.name) × (held.parts ≡ H.parts) × (held.parts ≡ 2 ^ 32) }
-        requires loans { (loans.name ≡ L.name) × (loans.parts ≡ L.parts) × (1 ≤ loans.parts) }
+        requires blanks { (blanks.held.name ≡ H.name) × (H.parts ≡ 2 ^ 32) × (blanks.loans.name ≡ L.name) × (L.parts ≡ 2 ^ 32) × (blanks.opened.seen.book ≡ L.book) }
         ensures name { IfOk result (λ made. made.0.name ≡ 0) }
         ensures options { IfOk result (λ made. made.0.options ≡ options) }
         ensures tally { IfOk result (λ made. made.1 ≡ record { parts = L.parts; loans = 0 }) }
         ensures refused { IfErr result (IsOpenRefusal X.depth C.levels (X.faults out.old) (X.refusals out.old) (X.faults out.new) (X.refusals out.new)) }
     {
-        let (root, tally) = FamilyPoolOf::root(alloc, options, connect, held, loans)?;
+        let (root, tally) = FamilyPoolOf::root(alloc, options, connect, blanks)?;
         match root.connect_all::<R, X>(rt, alloc, now, out) {
             Ok(()) => Ok((root, tally)),
             Err(error) => {
@@ -89,7 +88,7 @@ impl<C: Depth + Drop, O: Drop, H: Ledger, L: Loans> FamilyPoolOf<C, O, H, L> {
     {
         let opened = self.open_first::<R, X>(rt, alloc, now, out);
         if opened.is_err() {
-            let idle = self.lock(rt).close(self.name, alloc);
+            let idle = self.lock(rt).close(rt, self.name, alloc, &mut self.front());
             self.notify();
             close_all::<C, O, X>(Check::CloseHard, idle, out);
         }
@@ -130,12 +129,12 @@ impl<C: Depth + Drop, O: Drop, H: Ledger, L: Loans> FamilyPoolOf<C, O, H, L> {
         ensures counts { (X.faults out.old ≤ X.faults out.new) × (X.refusals out.old ≤ X.refusals out.new) }
         ensures refused { IfErr result (IsOpenRefusal X.depth C.levels (X.faults out.old) (X.refusals out.old) (X.faults out.new) (X.refusals out.new)) }
     {
-        let place = self.lock(rt).first_place(self.name, alloc);
+        let place = self.lock(rt).first_place(rt, self.name, alloc);
         match place {
             Ok(true) => match self.connect_first::<R, X>(rt, alloc, out) {
-                Ok(raw) => Ok(self.keep_new::<R, X>(rt, now, raw, out)),
+                Ok(raw) => Ok(self.keep_new::<R, X>(rt, now, raw, out, &mut self.front())),
                 Err(error) => {
-                    self.let_go(rt, now);
+                    self.let_go(rt, now, &mut self.front());
                     Err(error)
                 }
             },
@@ -173,19 +172,17 @@ impl<C: Depth + Drop, O: ConnectOptions + Drop, H: Ledger, L: Loans> FamilyPoolO
         alloc: Global,
         options: PoolOptions,
         url: &str,
-        held: Blank,
-        loans: Blank,
+        blanks: FamilyBlanksOf<C, O>,
     ) -> Result<(Self, Tally<L>), Error>
         requires options { IsOpenable options L.max }
-        requires held { (held.name ≡ H.name) × (held.parts ≡ H.parts) × (held.parts ≡ 2 ^ 32) }
-        requires loans { (loans.name ≡ L.name) × (loans.parts ≡ L.parts) × (1 ≤ loans.parts) }
+        requires blanks { (blanks.held.name ≡ H.name) × (H.parts ≡ 2 ^ 32) × (blanks.loans.name ≡ L.name) × (L.parts ≡ 2 ^ 32) × (blanks.opened.seen.book ≡ L.book) }
         ensures name { IfOk result (λ made. made.0.name ≡ 0) }
         ensures options { IfOk result (λ made. made.0.options ≡ options) }
         ensures tally { IfOk result (λ made. made.1 ≡ record { parts = L.parts; loans = 0 }) }
         ensures refused { IfErr result (λ e. (e ≡ Error.OutOfMemory) ⊎ ReadsText (parse_url None url.now) O.reads (Err e)) }
     {
         let connect = O::parse(alloc, url)?;
-        Ok(FamilyPoolOf::root(alloc, options, connect, held, loans)?)
+        Ok(FamilyPoolOf::root(alloc, options, connect, blanks)?)
     }
 
     /// As `connect_with`, by the options of a URL.
@@ -196,18 +193,16 @@ impl<C: Depth + Drop, O: ConnectOptions + Drop, H: Ledger, L: Loans> FamilyPoolO
         url: &str,
         now: Moment,
         out: &mut X,
-        held: Blank,
-        loans: Blank,
+        blanks: FamilyBlanksOf<C, O>,
     ) -> Result<(Self, Tally<L>), Error>
         requires options { IsOpenable options L.max }
-        requires held { (held.name ≡ H.name) × (held.parts ≡ H.parts) × (held.parts ≡ 2 ^ 32) }
-        requires loans { (loans.name ≡ L.name) × (loans.parts ≡ L.parts) × (1 ≤ loans.parts) }
+        requires blanks { (blanks.held.name ≡ H.name) × (H.parts ≡ 2 ^ 32) × (blanks.loans.name ≡ L.name) × (L.parts ≡ 2 ^ 32) × (blanks.opened.seen.book ≡ L.book) }
         ensures name { IfOk result (λ made. made.0.name ≡ 0) }
         ensures options { IfOk result (λ made. made.0.options ≡ options) }
         ensures tally { IfOk result (λ made. made.1 ≡ record { parts = L.parts; loans = 0 }) }
         ensures refused { IfErr result (λ e. IsOpenRefusal X.depth C.levels (X.faults out.old) (X.refusals out.old) (X.faults out.new) (X.refusals out.new) e ⊎ ReadsText (parse_url None url.now) O.reads (Err e)) }
     {
         let connect = O::parse(alloc, url)?;
-        FamilyPoolOf::connect_with::<R, X>(rt, alloc, options, connect, now, out, held, loans)
+        FamilyPoolOf::connect_with::<R, X>(rt, alloc, options, connect, now, out, blanks)
     }
 }

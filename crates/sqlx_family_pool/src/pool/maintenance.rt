@@ -1,16 +1,18 @@
 //! What keeps a pool in shape, closing it and retiring it: one locked step a connection, with the connects and closes
 //! between.
 
-ghost use Rattle.std.specs.Prelude.{◌≡◌, ◌⊎◌, ℕ, ◌≤◌, true, false, None, length};
+ghost use Rattle.std.specs.Prelude.{◌≡◌, ◌⊎◌, ℕ, ◌≤◌, true, false, None};
+ghost use mathlib.Core.List.{IsPrefix};
 ghost use Rattle.sqlx_pool_core.specs.Giving.{is_pass};
 ghost use Rattle.sqlx_pool_parts.specs.Checks.{IfPassed};
 ghost use Rattle.sqlx_pool_parts.specs.Opened.{IsCounted, TellsLevels};
 ghost use Rattle.sqlx_pool.specs.Upkeep.{EndsKeeping, IfUnfilled};
-ghost use Rattle.sqlx_family_pool.specs.Seen.{SawIn};
-ghost use Rattle.sqlx_family_pool.specs.Upkeep.{IsFilledIn, to_close_in, to_reap_in};
+ghost use Rattle.sqlx_family_pool.specs.Seen.{HasSeenIn};
+ghost use Rattle.sqlx_family_pool.specs.Upkeep.{IsFilledIn, to_reap_in};
 
 use super::FamilyPoolOf;
 use crate::LockedFamily;
+use crate::stood::FamilyFrontOf;
 use sqlx_pool::Loans;
 use sqlx_pool_core::idle_check::{Check, Opening};
 use sqlx_pool_core::{Openings, Outside, PoolConnectionMetadata};
@@ -23,7 +25,7 @@ use std::sync::ledger::Ledger;
 
 impl<C: Depth, O, H: Ledger, L: Loans> LockedFamily<C, O, H, L> {
     // The moment at which a connection that comes back to a pool is tested; None where it is to be closed anyway.
-    fn tests_at(&self, pool: u32, created: Moment, now: Moment) -> Option<Moment> {
+    pub(crate) fn tests_at(&self, pool: u32, created: Moment, now: Moment) -> Option<Moment> {
         if self.must_close(pool, created, now) {
             None
         } else {
@@ -50,7 +52,7 @@ impl<C: Depth + Drop, O: Drop, H: Ledger, L: Loans> FamilyPoolOf<C, O, H, L> {
         if closes {
             return Check::Close;
         }
-        let tests_at = self.lock(rt).tests_at(self.name, created, now);
+        let tests_at = self.lock(rt).locked().tests_at(self.name, created, now);
         match tests_at {
             None => Check::Close,
             Some(moment) => {
@@ -67,26 +69,18 @@ impl<C: Depth + Drop, O: Drop, H: Ledger, L: Loans> FamilyPoolOf<C, O, H, L> {
     /// number comes back. A second close gives 0. Where it is the root, each child counts as closed from now on; a child's
     /// idle connections stay until its own close.
     pub fn close<R: Wait, X: Outside<C, O>>(&self, rt: &R, alloc: Global, out: &mut X) -> usize
-        ensures saw { SawIn C.levels L.max L.cuts self.now.name (λ state. result ≡ length (to_close_in self.now.name state)) }
         ensures counts { (X.faults out.old ≤ X.faults out.new) × (X.refusals out.old ≤ X.refusals out.new) }
     {
-        let mut guard = self.lock(rt);
-        let idle = guard.seen_close(self.name, alloc);
-        self.unlock(guard);
-        checks::close_all::<C, O, X>(Check::Close, idle, out)
+        self.close_seen::<R, X>(rt, alloc, out, &mut self.front())
     }
 
     /// Closes a child, as `close`, and hands its free permits to the root; a permit that it frees later goes there at
     /// once. The idle connections are closed; their number comes back.
     pub fn retire<R: Wait, X: Outside<C, O>>(&self, rt: &R, alloc: Global, out: &mut X) -> usize
         requires child { 1 ≤ self.now.name }
-        ensures saw { SawIn C.levels L.max L.cuts self.now.name (λ state. result ≡ length (to_close_in self.now.name state)) }
         ensures counts { (X.faults out.old ≤ X.faults out.new) × (X.refusals out.old ≤ X.refusals out.new) }
     {
-        let mut guard = self.lock(rt);
-        let idle = guard.seen_retire(self.name, alloc);
-        self.unlock(guard);
-        checks::close_all::<C, O, X>(Check::Close, idle, out)
+        self.retire_seen::<R, X>(rt, alloc, out, &mut self.front())
     }
 
     /// Closes the idle connections that rest for longer than the idle limit or are older than the lifetime, at most as
@@ -99,23 +93,47 @@ impl<C: Depth + Drop, O: Drop, H: Ledger, L: Loans> FamilyPoolOf<C, O, H, L> {
         out: &mut X,
     ) -> (u32, Openings)
         ensures most { (result.0 ≤ self.now.options.max_connections) × (result.1.opened ≤ self.now.options.max_connections) }
-        ensures reaped { (result.0 ≡ self.now.options.max_connections) ⊎ SawIn C.levels L.max L.cuts self.now.name (λ state. to_reap_in self.now.name now state ≡ None) }
-        ensures ends { TellsLevels X.depth C.levels → EndsKeeping self.now.options (SawIn C.levels L.max L.cuts self.now.name (IsFilledIn self.now.name)) (IsCounted X.faults X.refusals out.old out.new) result.1 }
         ensures counts { (X.faults out.old ≤ X.faults out.new) × (X.refusals out.old ≤ X.refusals out.new) }
     {
-        let reaped = self.reap_all::<R, X>(rt, now, out);
-        (reaped, self.keep_minimum::<R, X>(rt, alloc, now, out))
+        self.reap_seen::<R, X>(rt, alloc, now, out, &mut self.front())
+    }
+
+    /// As `reap`.
+    pub fn reap_seen<R: Wait, X: Outside<C, O>>(
+        &self,
+        rt: &R,
+        alloc: Global,
+        now: Moment,
+        out: &mut X,
+        me: &mut FamilyFrontOf<C, O, L>,
+    ) -> (u32, Openings)
+        ensures most { (result.0 ≤ self.now.options.max_connections) × (result.1.opened ≤ self.now.options.max_connections) }
+        ensures reaped { (result.0 ≡ self.now.options.max_connections) ⊎ HasSeenIn C.levels L.max L.cuts self.now.name me.old me.new (λ state. to_reap_in self.now.name now state ≡ None) }
+        ensures ends { TellsLevels X.depth C.levels → EndsKeeping self.now.options (HasSeenIn C.levels L.max L.cuts self.now.name me.old me.new (IsFilledIn self.now.name)) (IsCounted X.faults X.refusals out.old out.new) result.1 }
+        ensures later { IsPrefix me.old me.new }
+        ensures counts { (X.faults out.old ≤ X.faults out.new) × (X.refusals out.old ≤ X.refusals out.new) }
+    {
+        let reaped = self.reap_all::<R, X>(rt, now, out, me);
+        let openings = self.keep_minimum_seen::<R, X>(rt, alloc, now, out, me);
+        (reaped, openings)
     }
 
     // Closes what is to be reaped.
-    fn reap_all<R: Wait, X: Outside<C, O>>(&self, rt: &R, now: Moment, out: &mut X) -> u32
+    fn reap_all<R: Wait, X: Outside<C, O>>(
+        &self,
+        rt: &R,
+        now: Moment,
+        out: &mut X,
+        me: &mut FamilyFrontOf<C, O, L>,
+    ) -> u32
         ensures most { result ≤ self.now.options.max_connections }
-        ensures ends { (result ≡ self.now.options.max_connections) ⊎ SawIn C.levels L.max L.cuts self.now.name (λ state. to_reap_in self.now.name now state ≡ None) }
+        ensures ends { (result ≡ self.now.options.max_connections) ⊎ HasSeenIn C.levels L.max L.cuts self.now.name me.old me.new (λ state. to_reap_in self.now.name now state ≡ None) }
+        ensures later { IsPrefix me.old me.new }
         ensures counts { (X.faults out.old ≤ X.faults out.new) × (X.refusals out.old ≤ X.refusals out.new) }
     {
         let max = self.options.get_max_connections();
         for reaped in 0..max {
-            let idle = self.lock(rt).seen_reap(self.name, now);
+            let idle = self.lock(rt).reap(rt, self.name, now, me);
             match idle {
                 Some(idle) => checks::close_by::<C, O, X>(Check::Close, idle.lent.raw, out),
                 None => return reaped,
@@ -158,17 +176,39 @@ impl<C: Depth + Drop, O: Drop, H: Ledger, L: Loans> FamilyPoolOf<C, O, H, L> {
         out: &mut X,
     ) -> Openings
         ensures most { result.opened ≤ self.now.options.max_connections }
-        ensures ends { TellsLevels X.depth C.levels → EndsKeeping self.now.options (SawIn C.levels L.max L.cuts self.now.name (IsFilledIn self.now.name)) (IsCounted X.faults X.refusals out.old out.new) result }
+        ensures counts { (X.faults out.old ≤ X.faults out.new) × (X.refusals out.old ≤ X.refusals out.new) }
+    {
+        self.keep_minimum_seen::<R, X>(rt, alloc, now, out, &mut self.front())
+    }
+
+    /// As `keep_minimum`.
+    pub fn keep_minimum_seen<R: Wait, X: Outside<C, O>>(
+        &self,
+        rt: &R,
+        alloc: Global,
+        now: Moment,
+        out: &mut X,
+        me: &mut FamilyFrontOf<C, O, L>,
+    ) -> Openings
+        ensures most { result.opened ≤ self.now.options.max_connections }
+        ensures ends { TellsLevels X.depth C.levels → EndsKeeping self.now.options (HasSeenIn C.levels L.max L.cuts self.now.name me.old me.new (IsFilledIn self.now.name)) (IsCounted X.faults X.refusals out.old out.new) result }
+        ensures later { IsPrefix me.old me.new }
         ensures counts { (X.faults out.old ≤ X.faults out.new) × (X.refusals out.old ≤ X.refusals out.new) }
     {
         let max = self.options.get_max_connections();
         for opened in 0..max {
-            match self.open_one::<R, X>(rt, alloc, now, out) {
+            match self.open_one::<R, X>(rt, alloc, now, out, me) {
                 Filled::Opened => {}
-                filled => {
+                Filled::Short => {
                     return Openings {
                         opened,
-                        short: filled == Filled::Short,
+                        short: true,
+                    };
+                }
+                Filled::Full | Filled::Refused => {
+                    return Openings {
+                        opened,
+                        short: false,
                     };
                 }
             }
@@ -186,13 +226,17 @@ impl<C: Depth + Drop, O: Drop, H: Ledger, L: Loans> FamilyPoolOf<C, O, H, L> {
         alloc: Global,
         now: Moment,
         out: &mut X,
+        me: &mut FamilyFrontOf<C, O, L>,
     ) -> Filled
-        ensures unfilled { TellsLevels X.depth C.levels → IfUnfilled result (SawIn C.levels L.max L.cuts self.now.name (IsFilledIn self.now.name)) (IsCounted X.faults X.refusals out.old out.new) }
+        ensures unfilled { TellsLevels X.depth C.levels → IfUnfilled result (HasSeenIn C.levels L.max L.cuts self.now.name me.old me.new (IsFilledIn self.now.name)) (IsCounted X.faults X.refusals out.old out.new) }
+        ensures later { IsPrefix me.old me.new }
         ensures counts { (X.faults out.old ≤ X.faults out.new) × (X.refusals out.old ≤ X.refusals out.new) }
     {
-        let place = self.lock_and_cut(rt).seen_place(self.name, alloc);
+        let place = self
+            .lock_and_cut(rt)
+            .minimum_place(rt, self.name, alloc, me);
         match place {
-            Ok(true) => self.fill_place::<R, X>(rt, alloc, now, out),
+            Ok(true) => self.fill_place::<R, X>(rt, alloc, now, out, me),
             Ok(false) => Filled::Full,
             Err(_) => Filled::Short,
         }
@@ -205,18 +249,20 @@ impl<C: Depth + Drop, O: Drop, H: Ledger, L: Loans> FamilyPoolOf<C, O, H, L> {
         alloc: Global,
         now: Moment,
         out: &mut X,
+        me: &mut FamilyFrontOf<C, O, L>,
     ) -> Filled
-        ensures unfilled { TellsLevels X.depth C.levels → IfUnfilled result (SawIn C.levels L.max L.cuts self.now.name (IsFilledIn self.now.name)) (IsCounted X.faults X.refusals out.old out.new) }
+        ensures unfilled { TellsLevels X.depth C.levels → IfUnfilled result (HasSeenIn C.levels L.max L.cuts self.now.name me.old me.new (IsFilledIn self.now.name)) (IsCounted X.faults X.refusals out.old out.new) }
+        ensures later { IsPrefix me.old me.new }
         ensures counts { (X.faults out.old ≤ X.faults out.new) × (X.refusals out.old ≤ X.refusals out.new) }
     {
         match self.open::<R, X>(rt, alloc, out) {
-            Opening::Opened(raw) => self.keep_new::<R, X>(rt, now, raw, out),
+            Opening::Opened(raw) => self.keep_new::<R, X>(rt, now, raw, out, me),
             Opening::Rejected | Opening::Transient => {
-                self.let_go(rt, now);
+                self.let_go(rt, now, me);
                 Filled::Refused
             }
             Opening::Failed(error) => {
-                self.let_go(rt, now);
+                self.let_go(rt, now, me);
                 let filled = match &error {
                     Error::OutOfMemory => Filled::Short,
                     _ => Filled::Refused,
@@ -234,13 +280,15 @@ impl<C: Depth + Drop, O: Drop, H: Ledger, L: Loans> FamilyPoolOf<C, O, H, L> {
         now: Moment,
         raw: C,
         out: &mut X,
+        me: &mut FamilyFrontOf<C, O, L>,
     ) -> Filled
         requires { C.levels raw ≡ 0 }
-        ensures unfilled { IfUnfilled result (SawIn C.levels L.max L.cuts self.now.name (IsFilledIn self.now.name)) (IsCounted X.faults X.refusals out.old out.new) }
+        ensures unfilled { IfUnfilled result (HasSeenIn C.levels L.max L.cuts self.now.name me.old me.new (IsFilledIn self.now.name)) (IsCounted X.faults X.refusals out.old out.new) }
+        ensures later { IsPrefix me.old me.new }
         ensures counts { (X.faults out.old ≤ X.faults out.new) × (X.refusals out.old ≤ X.refusals out.new) }
     {
         let mut guard = self.lock(rt);
-        let back = guard.seen_done(self.name, now, raw);
+        let back = guard.minimum_done(rt, self.name, now, Some(raw), me);
         self.unlock(guard);
         match back {
             None => Filled::Opened,
@@ -252,9 +300,11 @@ impl<C: Depth + Drop, O: Drop, H: Ledger, L: Loans> FamilyPoolOf<C, O, H, L> {
     }
 
     // Gives a place back for which nothing was opened.
-    pub(crate) fn let_go<R: Wait>(&self, rt: &R, now: Moment) {
+    pub(crate) fn let_go<R: Wait>(&self, rt: &R, now: Moment, me: &mut FamilyFrontOf<C, O, L>)
+        ensures { IsPrefix me.old me.new }
+    {
         let mut guard = self.lock(rt);
-        let back = guard.minimum_done(self.name, now, None);
+        let back = guard.minimum_done(rt, self.name, now, None, me);
         self.unlock(guard);
         drop(back);
     }

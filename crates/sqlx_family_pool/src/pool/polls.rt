@@ -10,66 +10,15 @@ ghost use Rattle.sqlx_pool.specs.Refusals.{IsEnd, IsPollRefusal};
 ghost use Rattle.sqlx_pool.specs.Stage.{has_lent, IfLent, IfEnded, wants_test, wants_connect};
 
 use super::FamilyPoolOf;
-use crate::LockedFamily;
-use sqlx_pool::stage::{Stage, after_start, after_test, after_try};
+use sqlx_pool::stage::{Stage, after_test, after_try};
 use sqlx_pool::{Held, Loans, Tally};
 use sqlx_pool_core::idle_check::Opening;
-use sqlx_pool_core::{AfterConnect, Idle, Outside, PoolOptions, Tried, Verdict};
+use sqlx_pool_core::{AfterConnect, Idle, Outside, Tried};
 use sqlx_pool_parts::checks;
 use sqlx_text::{Depth, Error, Moment};
 use std::alloc::Global;
 use std::sync::Wait;
 use std::sync::ledger::Ledger;
-
-impl<C: Depth, O, H: Ledger, L: Loans> LockedFamily<C, O, H, L> {
-    // Begins a poll of a pool with these options. Where the test of an idle connection asks nothing of the outside, it is
-    // lent at once.
-    pub(crate) fn begin(
-        &mut self,
-        pool: u32,
-        options: &PoolOptions,
-        client: u32,
-        ticket: u64,
-        now: Moment,
-        tally: &mut Tally<L>,
-    ) -> Stage<C, Held<H>>
-        ensures tally { CountsIf (has_lent result) tally.old tally.new }
-        ensures flat { IfLent result (λ lent. C.levels lent.raw ≡ 0) }
-        ensures causes { IfEnded result IsEnd }
-    {
-        let start = self.start(pool, client, ticket, now);
-        match after_start(start, self.moment(now)) {
-            Stage::Test(idle, moment) => {
-                if checks::tests_nothing(options) && idle.lent.raw.depth() == 0 {
-                    self.lend(pool, client, ticket, idle, moment, tally)
-                } else {
-                    Stage::Test(idle, moment)
-                }
-            }
-            stage => stage,
-        }
-    }
-
-    // Lends an idle connection without a test; it has no level open.
-    fn lend(
-        &mut self,
-        pool: u32,
-        client: u32,
-        ticket: u64,
-        idle: Idle<C>,
-        moment: Moment,
-        tally: &mut Tally<L>,
-    ) -> Stage<C, Held<H>>
-        requires flat { C.levels idle.lent.raw ≡ 0 }
-        ensures tally { CountsIf (has_lent result) tally.old tally.new }
-        ensures flat { IfLent result (λ lent. C.levels lent.raw ≡ 0) }
-        ensures causes { IfEnded result IsEnd }
-    {
-        let accepted = Verdict::Accepted(idle.lent);
-        let (after, held) = self.finish_test(pool, client, ticket, accepted, tally);
-        after_test(after, held, moment)
-    }
-}
 
 impl<C: Depth + Drop, O: Drop, H: Ledger, L: Loans> FamilyPoolOf<C, O, H, L> {
     // Wakes those that wait, where a child's ticket left the line: those behind it in the root's line come forward.
@@ -138,7 +87,7 @@ impl<C: Depth + Drop, O: Drop, H: Ledger, L: Loans> FamilyPoolOf<C, O, H, L> {
         let verdict = checks::judge::<C, O, X>(&self.options, idle, moment, out);
         let finished = self
             .lock(rt)
-            .finish_test(self.name, client, ticket, verdict, tally);
+            .finish_test(rt, self.name, client, ticket, verdict, tally);
         let (after, held) = finished;
         after_test(after, held, moment)
     }
@@ -183,7 +132,7 @@ impl<C: Depth + Drop, O: Drop, H: Ledger, L: Loans> FamilyPoolOf<C, O, H, L> {
     {
         let finished = self
             .lock(rt)
-            .finish_connect(self.name, client, ticket, now, tried, tally);
+            .finish_connect(rt, self.name, client, ticket, now, tried, tally);
         let (after, held) = finished;
         after_try(after, held)
     }
@@ -206,7 +155,7 @@ impl<C: Depth + Drop, O: Drop, H: Ledger, L: Loans> FamilyPoolOf<C, O, H, L> {
     {
         let finished = self
             .lock(rt)
-            .finish_connect(self.name, client, ticket, now, Tried::Fatal, tally);
+            .finish_connect(rt, self.name, client, ticket, now, Tried::Fatal, tally);
         let (after, held) = finished;
         match after {
             AfterConnect::Ended => Stage::Failed(error),

@@ -10,6 +10,6 @@ ghosts-one_permit-L-Ledger g a = record { name = a.loans.name; parts = a.loans.p
 abbrev pub ghosts-one_permit-L-Loans : goal.ghosts-one_permit-L-Loans
 ghosts-one_permit-L-Loans g a = record { max = 2; cuts = false }
 
--- no history stands beside a family
+-- no history stands beside the value
 abbrev pub ghosts-one_permit-L-Naming : goal.ghosts-one_permit-L-Naming
 ghosts-one_permit-L-Naming g a = record { book = record { number = 0; log_name = 0; cells_name = 0 } }
