@@ -9,7 +9,7 @@ mod writer;
 use note::{Conn, Note};
 use sqlite_driver::Sqlite;
 use sqlx_any::AnyConnectOptions;
-use sqlx_pool::{Blanks, Loans, PoolClients, PoolConnect, PoolOptions};
+use sqlx_pool::{Blanks, Loans, LoneOf, PoolClients, PoolConnect, PoolOptions};
 use sqlx_text::Error;
 use std::marker::Brand;
 use std::sync::Wait;
@@ -32,7 +32,7 @@ fn write_and_read<H: Ledger, L: Loans, R: Wait>(
     requires blanks { (blanks.held.name ≡ H.name) × (H.parts ≡ 2 ^ 32) × (blanks.loans.name ≡ L.name) × (L.parts ≡ 2 ^ 32) × (blanks.opened.seen.book ≡ L.book) }
 {
     let options = PoolOptions::new().max_connections(1);
-    let (pool, tally) = options.connect_lazy::<Conn, AnyConnectOptions, H, L>(
+    let (pool, tally) = options.connect_lazy::<Conn, AnyConnectOptions, LoneOf<Sqlite, H, L>>(
         host.alloc(),
         URL,
         blanks,

@@ -20,8 +20,8 @@ use Rattle.sqlx_family.specs.NoPool.{no_pool}
 use Rattle.sqlx_family.specs.Pools.{Pools, entry_of, counts_as_closed, pool_in}
 use Rattle.sqlx_family.specs.RootLine.{is_entitled, is_entitled_alone, is_entitled_by_root, takes_permit}
 use Rattle.sqlx_family.specs.Permits.{owned_by, owning, with_less, moved, granted}
-use Rattle.sqlx_family.specs.FamilyLogs.{StandTogether, MakesTogether, FamilyLogs}
-use Rattle.sqlx_family.proofs.LogLemmas.{stand-moved}
+use Rattle.sqlx_family.specs.FamilyLogs.{StandTogether, Numbered, MakesTogether, FamilyLogs}
+use Rattle.sqlx_family.proofs.LogLemmas.{stand-moved, moved-alike, numbered-along}
 
 -- ---- a pool whose family's permits moved is the same but for its own permits
 
@@ -55,6 +55,10 @@ pool-granted false q f lt = ((pool_in q f).permits, refl)
 stand-granted : {C : Type 0} (b : Bool) (q : ℕ) (f : Pools C) (logs : ℕ → List Mark) → q < length f.pools → StandTogether f logs → StandTogether (granted b q f) logs
 stand-granted true q f logs lt s = stand-moved 0 q 1 f logs (omega (arith, lt)) lt s
 stand-granted false q f logs lt s = s
+
+numbered-granted : {C : Type 0} (b : Bool) (q : ℕ) (f : Pools C) (logs : ℕ → List Mark) → Numbered f logs → Numbered (granted b q f) logs
+numbered-granted true q f logs s = numbered-along f (moved 0 q 1 f) logs (moved-alike 0 q 1 f) s
+numbered-granted false q f logs s = s
 
 -- ---- the permit that an entitled ticket needs
 
@@ -107,5 +111,6 @@ module _ {C : Type 0} (q k t m : ℕ) (f : Pools C) (lt : q < length f.pools) (t
   -- The marks of the poll are those of the pool as it was.
   pub start-logged : (new : Pools C) → FamilyLogs (granted takes q f) q (start_marks t (phase_for k t (pool_in q (granted takes q f)).tickets) r) new → FamilyLogs f q (start_marks t (phase_for k t (pool_in q f).tickets) r) new
   start-logged new makes logs s =
-      subst (λ (c : Core C). MakesTogether c.options.max_connections q logs (start_marks t (phase_for k t c.tickets) r) new) (pool-granted takes q f lt).1
-      (makes logs (stand-granted takes q f logs lt s))
+      let now_made = subst (λ (c : Core C). MakesTogether c.options.max_connections q logs (start_marks t (phase_for k t c.tickets) r) (granted takes q f) new) (pool-granted takes q f lt).1
+      (makes logs (stand-granted takes q f logs lt s)) in
+      record { stand = now_made.stand; numbered = λ known. now_made.numbered (numbered-granted takes q f logs known); safe = now_made.safe }

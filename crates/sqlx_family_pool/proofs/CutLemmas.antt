@@ -18,6 +18,7 @@ use Rattle.sqlx_pool_parts.specs.Booked.{Booked}
 use Rattle.sqlx_pool_parts.specs.State.{no_start}
 use Rattle.sqlx_family.specs.Pools.{Pools, pool_in}
 use Rattle.sqlx_family.specs.IsFamily.{IsFamily}
+use Rattle.sqlx_family.proofs.LogLemmas.{numbered-same}
 use Rattle.sqlx_family_steps.specs.FamilyCut.{FamilyCuts, cut_in, start_cut, with_cut}
 use Rattle.sqlx_family_pool.specs.FamilyState.{FamilyState, IsWithinLimitIn, cut_at, limited_at, since_start_in, family_state, forgotten, start_at, log_of, IsStanding, IsKept}
 use Rattle.sqlx_family_pool.proofs.StepLemmas.{items-at, capacity-at, in-logs}
@@ -97,7 +98,8 @@ module _ {C O : Type 0} {levels : C → ℕ} {max : ℕ} {cuts : Bool} {f : Pool
       standing = record {
         each = let a = length-set (map marks_of logs) q (marks_of now) in let b = kept.standing.each in omega (arith, a, b);
         each_start = let a = length-set starts q after in let b = kept.standing.each_start in omega (arith, a, b);
-        stand = λ p below. subst (StandsIn (pool_in p f)) (sym (cut_of_all p)) (stands of kept.standing.stand p below);
+        stand = λ p below. subst (StandsIn (pool_in p f)) (sym (cut_of_all p)) ((stands of kept.standing.stand).0 p below);
+        numbered = numbered-same f (with_cut f.shared q of) (λ p. get_or cut_logs p []) (λ p below. cut_of_all p) ((stands of kept.standing.stand).1 kept.standing.numbered);
         safe = each-pool (λ p (s : LogStart) l. IsSafe (pool_in p f).options.max_connections (take s.len l) (drop s.len l))
             (subst (IsSafe (pool_in q f).options.max_connections (take after.len (marks_of now))) (sym (ap (λ (n : ℕ). drop n (marks_of now)) long ∙ drop-length (marks_of now))) tt)
             (λ p ne below. kept.standing.safe p below);
@@ -105,6 +107,7 @@ module _ {C O : Type 0} {levels : C → ℕ} {max : ℕ} {cuts : Bool} {f : Pool
         uncut = λ never. absurd (let f = sym may ∙ never in cc);
         rest = kept.standing.rest;
         most = kept.standing.most;
+        fits = kept.standing.fits;
         owned = kept.standing.owned;
         made = let a = sum_by-set forgotten starts q after no_start in-starts in let b = sum_by-set lents (map marks_of logs) q (marks_of now) [] within in
             let c = ap forgotten (start-is start begun) in let d = ap lents log_here in let e = kept.standing.made in omega (arith, a, b, c, d, e, loans);
@@ -150,6 +153,7 @@ module _ {C O : Type 0} {levels : C → ℕ} {max : ℕ} {cuts : Bool} {f : Pool
         each = kept.standing.each;
         each_start = let a = length-set starts q limited in let b = kept.standing.each_start in omega (arith, a, b);
         stand = kept.standing.stand;
+        numbered = kept.standing.numbered;
         safe = limits (λ p (s : LogStart). IsSafe (pool_in p f).options.max_connections (take s.len (get_or (map marks_of logs) p [])) (drop s.len (get_or (map marks_of logs) p [])))
             (subst (λ (s : LogStart). IsSafe (pool_in q f).options.max_connections (take s.len (get_or (map marks_of logs) q [])) (drop s.len (get_or (map marks_of logs) q []))) (start-is start begun) (kept.standing.safe q lt))
             (λ p ne below. kept.standing.safe p below);
@@ -157,6 +161,7 @@ module _ {C O : Type 0} {levels : C → ℕ} {max : ℕ} {cuts : Bool} {f : Pool
         uncut = λ never. absurd (let f = sym may ∙ never in cc);
         rest = kept.standing.rest;
         most = kept.standing.most;
+        fits = kept.standing.fits;
         owned = kept.standing.owned;
         made = let a = sum_by-set forgotten starts q limited no_start in-starts in let c = ap forgotten (start-is start begun) in let e = kept.standing.made in omega (arith, a, c, e);
       };

@@ -1,5 +1,5 @@
 -- A new family, a new child, and a pool that only heard of its family or whose log only got room.
-use Rattle.std.proofs.Common.{◌≡◌, ◌⊎◌, ℕ, zero, suc, Result, Ok, Err, OnErr, ◌+◌, ◌<◌, ◌≤◌, ◌||◌, inl, inr, Bool, false, List, [], ◌∷◌, ◌++◌, map, length, get_or, take, drop, refl, sym, ap, ◌∙◌, subst, arith}
+use Rattle.std.proofs.Common.{◌≡◌, ◌⊎◌, ℕ, zero, suc, ◌+◌, ◌<◌, ◌≤◌, ◌||◌, inl, inr, Bool, false, List, [], ◌∷◌, ◌++◌, map, length, get_or, le_of_eq, take, drop, refl, sym, ap, ◌∙◌, subst, arith}
 use Rattle.std.specs.Prelude.{slice_set}
 use Rattle.std.proofs.lemmas.Bool.Decides.{eqb_tells}
 use Rattle.std.proofs.lemmas.List.{get_or-set_same, get_or-set_other, get_or_append_left, get_or_push, map-set, length-map, length-append, append-nil, get_or-map, map-append}
@@ -7,6 +7,7 @@ use Rattle.std.proofs.Math.Seq.{map-set_same}
 use Rattle.std.proofs.lemmas.List.Elements.{All-nil}
 use Rattle.std.proofs.lemmas.List.Sums.{sum_by_push}
 use Rattle.sqlx_pool_marks.specs.declared.mark.Mark.{Mark}
+use Rattle.sqlx_pool_marks.specs.Marks.{next_ticket, next_conn}
 use Rattle.sqlx_pool_marks.specs.FairLog.{IsSafe}
 use Rattle.sqlx_pool_log.specs.PackedLog.{PackedRow, marks_of, room_of}
 use Rattle.sqlx_pool_lists.specs.declared.shared.Shared.{Shared}
@@ -19,8 +20,8 @@ use Rattle.sqlx_family.specs.declared.family.FamilyPool.{FamilyPool}
 use Rattle.sqlx_family.specs.NoPool.{no_pool}
 use Rattle.sqlx_family.specs.Pools.{Pools, entry_of, root_of, counts_as_closed, pool_in, with_pool, new_pool, new_family, with_child}
 use Rattle.sqlx_family.specs.IsFamily.{IsFamily}
-use Rattle.sqlx_family.specs.FamilyLogs.{FamilyLogs}
-use Rattle.sqlx_family.proofs.LogLemmas.{stand-stepped}
+use Rattle.sqlx_family.specs.FamilyLogs.{IsNext, FamilyLogs}
+use Rattle.sqlx_family.proofs.LogLemmas.{stand-stepped, numbered-stepped, numbered-of, numbered-by}
 use Rattle.sqlx_pool_parts.specs.Booked.{Booked}
 use Rattle.sqlx_pool_parts.specs.declared.log_start.LogStart.{LogStart}
 use Rattle.sqlx_pool_parts.specs.State.{RestFlat, no_start}
@@ -58,11 +59,13 @@ module _ {C O : Type 0} (levels : C → ℕ) (max : ℕ) (cuts : Bool) (connect 
           each = refl;
           each_start = refl;
           stand = λ q below. stands q below;
+          numbered = numbered-of (new_family {C = C} options) (λ q. get_or ([] ∷ []) q []) (first next_ticket refl, first next_conn refl);
           safe = λ q below. safe q below;
           begins = λ q below. begins q below;
           uncut = λ never q below. uncut q below;
           rest = λ q below. rest q below;
           most = most;
+          fits = λ q below. fits q below;
           owned = owned;
           made = made;
         };
@@ -75,6 +78,13 @@ module _ {C O : Type 0} (levels : C → ℕ) (max : ℕ) (cuts : Bool) (connect 
       stands zero below = new-stands options options.max_connections (counts_as_closed 0 (new_family {C = C} options)) (new_family {C = C} options).shared (omega arith) (omega arith)
       stands (suc q) below = absurd (omega (arith, below))
 
+      first : (next : List Mark → ℕ) → next [] ≡ 1 → IsNext next (λ q. get_or ([] ∷ []) q []) 1 1
+      first next none = record { most = λ q below. least q below; one = (0, (omega arith, none)) }
+        where
+          least : (q : ℕ) → q < 1 → next (get_or ([] ∷ []) q []) ≤ 1
+          least zero below = le_of_eq none
+          least (suc q) below = absurd (omega (arith, below))
+
       safe : (q : ℕ) → q < 1 → IsSafe (pool_in q (new_family {C = C} options)).options.max_connections (take (get_or (no_start ∷ []) q no_start).len (get_or ([] ∷ []) q [])) (drop (get_or (no_start ∷ []) q no_start).len (get_or ([] ∷ []) q []))
       safe zero below = tt
       safe (suc q) below = absurd (omega (arith, below))
@@ -86,6 +96,10 @@ module _ {C O : Type 0} (levels : C → ℕ) (max : ℕ) (cuts : Bool) (connect 
       uncut : (q : ℕ) → q < 1 → get_or (no_start ∷ []) q no_start ≡ no_start
       uncut zero below = refl
       uncut (suc q) below = absurd (omega (arith, below))
+
+      fits : (q : ℕ) → q < 1 → (pool_in q (new_family {C = C} options)).options.max_connections ≤ max
+      fits zero below = le_of_eq most
+      fits (suc q) below = absurd (omega (arith, below))
 
       rest : (q : ℕ) → q < 1 → RestFlat levels (pool_in q (new_family {C = C} options)).idle
       rest zero below = All-nil _
@@ -105,7 +119,7 @@ module _ {C O : Type 0} (levels : C → ℕ) (max : ℕ) (cuts : Bool) (connect 
       (subst (λ (l : List Mark). IsKept levels max cuts (family_state (new_family options) (l ∷ []) (no_start ∷ []) connect booked) (room_of log ∷ [])) (sym none) (begun-so levels max cuts connect booked options most empty (room_of log) due)))) enough
 
   -- a family with one child more
-  module _ (f : Pools C) (logs : List (PackedRow)) {starts : List LogStart} (kept : IsKept levels max cuts (family_state f (map marks_of logs) starts connect booked) (map room_of logs)) (bounds : IsFamily f) (options : PoolOptions) (log : PackedRow) (none : marks_of log ≡ []) (some : 1 ≤ room_of log) where
+  module _ (f : Pools C) (logs : List (PackedRow)) {starts : List LogStart} (kept : IsKept levels max cuts (family_state f (map marks_of logs) starts connect booked) (map room_of logs)) (bounds : IsFamily f) (options : PoolOptions) (small : options.max_connections ≤ max) (log : PackedRow) (none : marks_of log ≡ []) (some : 1 ≤ room_of log) where
     entry-old : (p : ℕ) → p < length f.pools → entry_of p (with_child options f) ≡ entry_of p f
     entry-old p lt = get_or_append_left f.pools (new_pool options 0 ∷ []) no_pool p lt
 
@@ -136,17 +150,33 @@ module _ {C O : Type 0} (levels : C → ℕ) (max : ℕ) (cuts : Bool) (connect 
           (subst (P (get_or starts p no_start) (pool_in p f) (get_or (map marks_of logs) p [])) (sym (get_or_append_left (map room_of logs) (room_of log ∷ []) 0 p (omega (arith, lt, a, b, c)))) (rest p lt))))
     ]
 
+    -- a log with no mark tells no number
+    next-child : (next : List Mark → ℕ) (n : ℕ) → next [] ≤ n → IsNext next (λ p. get_or (map marks_of logs) p []) (length f.pools) n → IsNext next (λ p. get_or (map marks_of logs ++ [] ∷ []) p []) (length (with_child options f).pools) n
+    next-child next n none known = record {
+      most = each-pool (λ s k l m. next l ≤ n) (λ p lt. known.most p lt) (λ c. none);
+      one = (
+        known.one.0,
+        (
+          let long = length-append f.pools (new_pool {C = C} options 0 ∷ []) in let below = known.one.1.0 in omega (arith, below, long),
+          ap next (get_or_append_left (map marks_of logs) ([] ∷ []) [] known.one.0 (let a = kept.standing.each in let below = known.one.1.0 in omega (arith, a, below))) ∙ known.one.1.1,
+        ),
+      );
+    }
+
     grown : IsKept levels max cuts (family_state (with_child options f) (map marks_of logs ++ [] ∷ []) (starts ++ no_start ∷ []) connect booked) (map room_of logs ++ room_of log ∷ [])
     grown = record {
       standing = record {
         each = let a = length-append (map marks_of logs) ([] ∷ []) in let b = length-append f.pools (new_pool {C = C} options 0 ∷ []) in let c = kept.standing.each in omega (arith, a, b, c);
         each_start = let a = length-append starts (no_start ∷ []) in let b = length-append f.pools (new_pool {C = C} options 0 ∷ []) in let c = kept.standing.each_start in omega (arith, a, b, c);
         stand = each-pool (λ s k l n. StandsIn k l) (λ p lt. kept.standing.stand p lt) (λ c. new-stands options 0 c f.shared bounds.first_ticket bounds.first_conn);
+        numbered = let known = numbered-by f (λ p. get_or (map marks_of logs) p []) kept.standing.numbered in
+            numbered-of (with_child options f) (λ p. get_or (map marks_of logs ++ [] ∷ []) p []) (next-child next_ticket f.shared.next_ticket bounds.first_ticket known.0, next-child next_conn f.shared.next_conn bounds.first_conn known.1);
         safe = each-pool (λ (s : LogStart) k l n. IsSafe k.options.max_connections (take s.len l) (drop s.len l)) (λ p lt. kept.standing.safe p lt) (λ c. tt);
         begins = each-pool (λ (s : LogStart) k l n. s.len ≤ length l) (λ p lt. kept.standing.begins p lt) (λ c. omega arith);
         uncut = λ never. each-pool (λ (s : LogStart) k l n. s ≡ no_start) (λ p lt. kept.standing.uncut never p lt) (λ c. refl);
         rest = each-pool (λ s k l n. RestFlat levels k.idle) (λ p lt. kept.standing.rest p lt) (λ c. All-nil _);
         most = ap (λ (e : FamilyPool C). e.core.options.max_connections) (entry-old 0 (let s = bounds.some in omega (arith, s))) ∙ kept.standing.most;
+        fits = each-pool (λ s k l n. k.options.max_connections ≤ max) (λ p lt. kept.standing.fits p lt) (λ c. small);
         owned = let a = sum_by_push held_in f.pools (new_pool {C = C} options 0) in let b = kept.standing.owned in omega (arith, a, b);
         made = let a = sum_by_push lents (map marks_of logs) [] in let b = kept.standing.made in let c = sum_by_push forgotten starts no_start in omega (arith, a, b, c);
       };
@@ -166,11 +196,6 @@ module _ {C O : Type 0} (levels : C → ℕ) (max : ℕ) (cuts : Bool) (connect 
         (subst (λ (l : List ℕ). IsKept levels max cuts (family_state (with_child options f) (map marks_of logs ++ [] ∷ []) (starts ++ no_start ∷ []) connect booked) l) (sym (map-append room_of logs (log ∷ []))) grown)))
 
 -- ---- a log that only got room
-
--- what holds anyhow holds where the result is an error
-pub on-err : {T E P : Type 0} (r : Result T E) → P → OnErr r P
-on-err (Ok t) p = tt
-on-err (Err e) p = p
 
 pub reserved : {C O : Type 0} {levels : C → ℕ} {max : ℕ} {cuts : Bool} {f : Pools C} {starts : List LogStart} {connect : O} {booked : Booked} (logs : List (PackedRow)) → IsKept levels max cuts (family_state f (map marks_of logs) starts connect booked) (map room_of logs)
     → (q : ℕ) (log now : PackedRow) → q < length logs → log ≡ get_or logs q log → marks_of now ≡ marks_of log → room_of log ≤ room_of now
@@ -206,6 +231,7 @@ module _ {C : Type 0} (q : ℕ) (f : Pools C) (lt : q < length f.pools) where
   pub heard-makes : FamilyLogs f q [] (with_pool q (pool_in q f) f)
   heard-makes logs s = record {
     stand = stand-stepped f q (pool_in q f) [] logs lt s (subst (StandsIn (pool_in q f)) (sym (append-nil (logs q))) (s q lt)) (omega arith) (omega arith);
+    numbered = λ known. numbered-stepped f q (pool_in q f) [] logs lt s (subst (StandsIn (pool_in q f)) (sym (append-nil (logs q))) (s q lt)) (omega arith) (omega arith) refl refl known;
     safe = tt;
   }
 

@@ -1,5 +1,5 @@
 -- The value under the lock stands after a step of one pool whose marks were written behind that pool's log.
-use Rattle.std.proofs.Common.{◌≡◌, ◌≢◌, ◌==◌, not, ℕ, ◌+◌, ◌^◌, ◌<◌, ◌≤◌, ◌⊎◌, inl, inr, Bool, true, false, Option, Some, None, List, [], ◌∷◌, ◌++◌, map, length, get_or, sum_by, take, drop, All, refl, sym, ap, ◌∙◌, subst, arith}
+use Rattle.std.proofs.Common.{◌≡◌, ◌≢◌, ◌==◌, not, nat_lt, ℕ, ◌+◌, ◌^◌, ◌<◌, ◌≤◌, ◌⊎◌, inl, inr, Bool, true, false, Option, Some, None, List, [], ◌∷◌, ◌++◌, map, length, get_or, sum_by, take, drop, All, refl, sym, ap, ◌∙◌, subst, arith}
 use Rattle.std.specs.Prelude.{slice_set}
 use Rattle.std.proofs.lemmas.Bool.Decides.{eqb_tells}
 use Rattle.std.proofs.lemmas.List.{take-append-drop, take-append-le, drop-append-le, get_or-set_same, get_or-set_other, get_or-map, map-set, length-set, length-map, length-append}
@@ -28,7 +28,7 @@ use Rattle.sqlx_family.specs.NoPool.{no_pool}
 use Rattle.sqlx_family.specs.Pools.{Pools, entry_of, pool_in}
 use Rattle.sqlx_family.specs.IsFamily.{permits_of, Joins, IsFamily, maximum_of}
 use Rattle.sqlx_family.specs.FamilyLogs.{with_marks, MakesTogether, FamilyLogs}
-use Rattle.sqlx_family.proofs.LogLemmas.{same, other}
+use Rattle.sqlx_family.proofs.LogLemmas.{same, other, numbered-same}
 use Rattle.sqlx_pool_parts.specs.Booked.{Booked}
 use Rattle.sqlx_pool.specs.Places.{done_if_marks}
 use Rattle.sqlx_pool_parts.specs.declared.log_start.LogStart.{LogStart}
@@ -80,6 +80,10 @@ grows-at q made logs lt p = elim (eqb_tells p q) [
   | inr is ↦ get_or-set_other logs q p (get_or logs q [] ++ made) [] is.1 ∙ sym (other q p made (λ r. get_or logs r []) is.1)
 ]
 
+-- a name that isn't refused is a pool's
+pub is-named : {q n : ℕ} {b : Bool} → b ≡ nat_lt q n → b ≡ true → q < n
+is-named e is = grind arith
+
 -- ---- a step
 
 -- marks that come behind a log are safe behind its start
@@ -100,7 +104,7 @@ module _ {C O : Type 0} {levels : C → ℕ} {max : ℕ} {cuts : Bool} {f : Pool
     abbrev begin : ℕ → ℕ
     begin r = (get_or starts r no_start).len
 
-    together : MakesTogether (pool_in q f).options.max_connections q of made g
+    together : MakesTogether (pool_in q f).options.max_connections q of made f g
     together = makes of kept.standing.stand
 
     lt_logs : q < length logs
@@ -169,6 +173,11 @@ module _ {C O : Type 0} {levels : C → ℕ} {max : ℕ} {cuts : Bool} {f : Pool
       | inr is ↦ ap (λ (o : PoolOptions). o.max_connections) (other_options 0 is.1) ∙ kept.standing.most
     ]
 
+    fits : (p : ℕ) → p < length g.pools → (pool_in p g).options.max_connections ≤ max
+    fits = each-pool (λ (p : ℕ) (c : Core C) l. c.options.max_connections ≤ max)
+        (let a = ap (λ (o : PoolOptions). o.max_connections) own_options in let b = kept.standing.fits q lt in omega (arith, a, b))
+        (λ p ne below. let a = ap (λ (o : PoolOptions). o.max_connections) (other_options p ne) in let b = kept.standing.fits p below in omega (arith, a, b))
+
     held : sum_by held_in g.pools + held_in (entry_of q f) ≡ sum_by held_in f.pools + held_in (entry_of q g)
     held = sum-but held_in no_pool f.pools g.pools q lt replaces.names (λ p ne. ap (λ (c : Core C). length c.held) (replaces.others p ne).1)
 
@@ -191,11 +200,13 @@ module _ {C O : Type 0} {levels : C → ℕ} {max : ℕ} {cuts : Bool} {f : Pool
         each = let a = length-set logs q (of q ++ made) in let b = kept.standing.each in let c = replaces.names in omega (arith, a, b, c);
         each_start = let b = kept.standing.each_start in let c = replaces.names in omega (arith, b, c);
         stand = λ p below. subst (StandsIn (pool_in p g)) (sym (grown p)) (together.stand p below);
+        numbered = numbered-same g (with_marks q made of) (λ r. get_or (with_made q made logs) r []) (λ p below. grown p) (together.numbered kept.standing.numbered);
         safe = safe;
         begins = begins;
         uncut = λ never p below. kept.standing.uncut never p (was_named p below);
         rest = rest;
         most = most;
+        fits = fits;
         owned = let a = books.owned in let b = kept.standing.owned in let c = balance.held in let d = held in omega (arith, a, b, c, d);
         made = let a = books.made_is in let b = kept.standing.made in let c = loans in let d = count-append is_lent (of q) made in omega (arith, a, b, c, d);
       };

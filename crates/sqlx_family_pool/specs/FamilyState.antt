@@ -6,7 +6,7 @@ use Rattle.sqlx_pool_lists.specs.Balance.{lents, marks_due}
 use Rattle.sqlx_family.specs.declared.family.FamilyPool.{FamilyPool}
 use Rattle.sqlx_family.specs.Pools.{Pools, pool_in}
 use Rattle.sqlx_family.specs.IsFamily.{maximum_of}
-use Rattle.sqlx_family.specs.FamilyLogs.{StandTogether}
+use Rattle.sqlx_family.specs.FamilyLogs.{StandTogether, Numbered}
 use Rattle.sqlx_pool_parts.specs.declared.log_start.LogStart.{LogStart}
 use Rattle.sqlx_pool_parts.specs.declared.mark_log.MarkLog.{MarkLog}
 use Rattle.sqlx_pool_parts.specs.Booked.{Booked}
@@ -83,7 +83,7 @@ forgotten start = start.lent_before
 abbrev pub loans_told : MarkLog → ℕ
 loans_told log = log.lent_before + lents (log.start.items ++ log.marks.items)
 
--- What holds whenever the lock is free: each pool stands for its own log, which is safe behind its start for a pool of its maximum; where logs can't be cut no log has a start or a limit; no idle connection has a level open; the root has this maximum; and the books are the counts over all pools.
+-- What holds whenever the lock is free: each pool stands for its own log, which is safe behind its start for a pool of its maximum; where logs can't be cut no log has a start or a limit; no idle connection has a level open; the root has this maximum, and no pool a greater one; the books are the counts over all pools; and the numbers that come next are one more than the greatest in any log.
 pub record IsStanding {C O : Type 0} (levels : C → ℕ) (max : ℕ) (cuts : Bool) (state : FamilyState C O) : Type 0 where
   pub each : length state.logs ≡ length state.family.pools
   pub each_start : length state.starts ≡ length state.family.pools
@@ -93,8 +93,10 @@ pub record IsStanding {C O : Type 0} (levels : C → ℕ) (max : ℕ) (cuts : Bo
   pub uncut : cuts ≡ false → (q : ℕ) → IsNamed q state → start_at state q ≡ no_start
   pub rest : (q : ℕ) → IsNamed q state → RestFlat levels (pool_in q state.family).idle
   pub most : maximum_of state.family ≡ max
+  pub fits : (q : ℕ) → IsNamed q state → (pool_in q state.family).options.max_connections ≤ max
   pub owned : state.booked.owned ≡ sum_by held_in state.family.pools
   pub made : state.booked.made ≡ sum_by forgotten state.starts + sum_by lents state.logs
+  pub numbered : Numbered state.family (log_of state)
 
 -- It stands, its numbers have bounds, and each log has memory for all marks that are due.
 pub record IsKept {C O : Type 0} (levels : C → ℕ) (max : ℕ) (cuts : Bool) (state : FamilyState C O) (capacities : List ℕ) : Type 0 where

@@ -1,10 +1,10 @@
 -- What a pool of a family has to reap, to open and to close, which ticket an ask gets, what a copy of its log says, and why an ask or a loan past the line is refused.
-use Rattle.std.specs.Prelude.{◌≡◌, ◌⊎◌, ◌^◌, ◌<◌, ◌≤◌, ℕ, Bool, true, false, List, Option}
+use Rattle.std.specs.Prelude.{◌≡◌, ◌⊎◌, ◌^◌, ◌<◌, ◌≤◌, ℕ, Bool, false, List, Option}
 use Rattle.sqlx_text.specs.declared.Moment.{Moment}
 use Rattle.sqlx_pool_lists.specs.declared.steps.Idle.{Idle}
 use Rattle.sqlx_pool_core.specs.Logs.{moment_of}
 use Rattle.sqlx_pool_lists.specs.MaintenanceSteps.{close_answer, has_place_if, reap_answer}
-use Rattle.sqlx_family.specs.Pools.{counts_as_closed, pool_in}
+use Rattle.sqlx_family.specs.Pools.{pool_in}
 use Rattle.sqlx_family.specs.RootLine.{passes_in}
 use Rattle.sqlx_pool.specs.Places.{holds_place}
 use Rattle.sqlx_pool_parts.specs.declared.mark_log.MarkLog.{MarkLog}
@@ -26,10 +26,6 @@ module _ {C O : Type 0} where
   -- the idle connections that a close of a pool gives back
   abbrev pub to_close_in : ℕ → FamilyState C O → List (Idle C)
   to_close_in pool state = let core = pool_in pool state.family in close_answer core.shut core.idle
-
-  -- the pool counts as closed
-  abbrev pub IsClosedIn : ℕ → FamilyState C O → Type 0
-  IsClosedIn pool state = counts_as_closed pool state.family ≡ true
 
   -- the ticket of an ask: it is the one that comes next in the family
   abbrev pub IsNextTicket : ℕ → FamilyState C O → Type 0

@@ -45,6 +45,8 @@ pub struct LockedFamily<C: Depth, O, H: Ledger, L: Loans> {
     starts: Vec<LogStart>,
     connect: O,
     books: Books<H, L>,
+    // What the answer of a close is made by that has no idle connection.
+    alloc: Global,
 }
 
 impl<C: Depth + Drop, O: Drop, H: Ledger, L: Loans> Drop for LockedFamily<C, O, H, L> {
@@ -55,6 +57,7 @@ impl<C: Depth + Drop, O: Drop, H: Ledger, L: Loans> Drop for LockedFamily<C, O, 
             starts,
             connect,
             books,
+            alloc: _,
         } = self;
         drop(family);
         drop(logs);
@@ -116,6 +119,7 @@ impl<C: Depth + Drop, O: Drop, H: Ledger, L: Loans> LockedFamily<C, O, H, L> {
             starts,
             connect,
             books,
+            alloc,
         };
         Ok((locked, tally))
     }

@@ -3,12 +3,10 @@
 use crate::LockedFamily;
 use sqlx_family::Family;
 use sqlx_pool::{Loans, LogStart};
-use sqlx_pool_history::{Chained, Front, Stands};
+use sqlx_pool_history::{Chained, Stands};
 use sqlx_pool_log::PackedLog;
 use sqlx_text::Depth;
-use std::alloc::Global;
 use std::marker::Model;
-use std::sync::Arc;
 use std::sync::ledger::Ledger;
 
 /// A state in which a family stood. It is what contracts see of `LockedFamily`, without the names of its ledgers; no value
@@ -42,6 +40,3 @@ impl<C: Depth, O> Chained for FamilyStood<C, O> {
 impl<C: Depth, O, H: Ledger, L: Loans> Stands<FamilyStood<C, O>> for LockedFamily<C, O, H, L> {
     ghost state = { λ locked. locked };
 }
-
-/// What a caller has seen of a family: the states up to one in which it stood. It takes eight bytes, and no memory.
-pub type FamilyFrontOf<C, O, L> = Front<FamilyStood<C, Arc<O, Global>>, L>;

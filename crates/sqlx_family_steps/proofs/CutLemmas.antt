@@ -1,6 +1,7 @@
 -- A pool of a family stands for its log where that is cut by the family's numbers. Each mark that would draw the last of these numbers is put behind the log, so that the cut is that of a pool that is alone, and taken away again.
-use Rattle.std.proofs.Common.{◌≡◌, ℕ, ◌+◌, ◌-◌, ◌≤◌, ◌||◌, ◌==◌, not, Bool, true, false, cond, Option, Some, None, option_map, find, List, [], ◌∷◌, ◌++◌, All, refl, sym, ap, ◌∙◌, subst, append_assoc, arith}
+use Rattle.std.proofs.Common.{◌≡◌, ℕ, ◌+◌, ◌-◌, ◌<◌, ◌≤◌, ◌||◌, ◌==◌, not, Bool, true, false, cond, Option, Some, None, option_map, unwrap_or, find, List, [], ◌∷◌, ◌++◌, All, length, refl, sym, ap, ◌∙◌, subst, append_assoc, arith}
 use Rattle.std.specs.List.{list_any}
+use Rattle.std.proofs.lemmas.Bool.{eq-eqb}
 use Rattle.std.proofs.lemmas.List.{append_cancel_right}
 use Rattle.std.proofs.lemmas.List.Elements.{All-head, All-tail, All-weaker}
 use Rattle.sqlx_pool_marks.specs.declared.mark.Mark.{Mark}
@@ -22,7 +23,9 @@ use Rattle.sqlx_pool_lists.specs.Core.{Core}
 use Rattle.sqlx_pool_lists.specs.StandsFor.{StandsIn, IsTestedBorn}
 use Rattle.sqlx_family.specs.Pools.{Pools, pool_in}
 use Rattle.sqlx_family.specs.IsFamily.{IsFamily}
-use Rattle.sqlx_family_steps.specs.FamilyCut.{FamilyCuts, cut_in}
+use Rattle.sqlx_family.specs.FamilyLogs.{StandTogether, IsNext, Numbered}
+use Rattle.sqlx_family.proofs.LogLemmas.{numbered-of, numbered-by}
+use Rattle.sqlx_family_steps.specs.FamilyCut.{FamilyCuts, cut_in, with_cut}
 
 -- ---- two marks that draw the last numbers, behind others
 
@@ -173,10 +176,55 @@ stands-needed {C} core marks ticket conn s =
     tested cut born phase.Connecting b = tt
     tested cut born (phase.Backoff until) b = tt
 
+-- ---- the last numbers stay
+
+-- a mark that tells the last number is needed
+last-asked : (t c : ℕ) (m : Mark) (later : List Mark) (u : ℕ) → asked_number m ≡ Some u → u + 1 ≡ t → is_needed t c m later ≡ true
+last-asked t c (Asked v k d) later u is e = ap (λ (b : Bool). b || not (list_any (is_ended v) later)) (eq-eqb (v + 1) t (ap (λ (o : Option ℕ). unwrap_or o v + 1) is ∙ e))
+last-asked t c m later u is e = absurd cc
+
+last-opened : (t c : ℕ) (m : Mark) (later : List Mark) (u : ℕ) → opened_number m ≡ Some u → u + 1 ≡ c → is_needed t c m later ≡ true
+last-opened t c (Opened v d) later u is e = ap (λ (b : Bool). b || not (list_any (ends_conn v) later)) (eq-eqb (v + 1) c (ap (λ (o : Option ℕ). unwrap_or o v + 1) is ∙ e))
+last-opened t c m later u is e = absurd cc
+
+module _ (t c next : ℕ) (draws : Mark → Option ℕ) (last : (m : Mark) (later : List Mark) (u : ℕ) → draws m ≡ Some u → u + 1 ≡ next → is_needed t c m later ≡ true) where
+  last-needed : (a b : ℕ) (marks : List Mark) → (a ≡ next → b ≡ next) → next_number draws a marks ≡ next → next_number draws b (needed_of t c marks) ≡ next
+  last-needed a b [] same e = same e
+  last-needed a b (m ∷ later) same e = by (λ x y. last-needed x y later) (draws m) refl e (is_needed t c m later) refl
+    where
+      by : ((x y : ℕ) → (x ≡ next → y ≡ next) → next_number draws x later ≡ next → next_number draws y (needed_of t c later) ≡ next)
+          → (o : Option ℕ) → draws m ≡ o → next_number draws (next_after o a) later ≡ next → (n : Bool) → is_needed t c m later ≡ n → next_number draws b (cond n (m ∷ needed_of t c later) (needed_of t c later)) ≡ next
+      by rest None is e true needs = ap (λ (o : Option ℕ). next_number draws (next_after o b) (needed_of t c later)) is ∙ rest a b same e
+      by rest (Some u) is e true needs = ap (λ (o : Option ℕ). next_number draws (next_after o b) (needed_of t c later)) is ∙ rest (u + 1) (u + 1) (λ n. n) e
+      by rest None is e false needs = rest a b same e
+      by rest (Some u) is e false needs = rest (u + 1) b (λ n. absurd (let f = sym (last m later u is n) ∙ needs in cc)) e
+
 -- the pools of a family stand for their logs where that of one of them is cut
+module _ {C : Type 0} (f : Pools C) (q : ℕ) (is : IsFamily f) (logs : ℕ → List Mark) (s : StandTogether f logs) where
+  stands-cut : StandTogether f (with_cut f.shared q logs)
+  stands-cut p below = by (p == q)
+    where
+      by : (b : Bool) → StandsIn (pool_in p f) (cond b (cut_in f.shared (logs p)) (logs p))
+      by true = stands-needed (pool_in p f) (logs p) is.first_ticket is.first_conn (s p below)
+      by false = s p below
+
+  -- the log that tells the last number of a kind tells it behind the cut
+  next-cut : (draws : Mark → Option ℕ) (n : ℕ) → ((m : Mark) (later : List Mark) (u : ℕ) → draws m ≡ Some u → u + 1 ≡ n → is_needed f.shared.next_ticket f.shared.next_conn m later ≡ true)
+      → ((p : ℕ) → p < length f.pools → next_number draws 1 (with_cut f.shared q logs p) ≤ n) → IsNext (next_number draws 1) logs (length f.pools) n → IsNext (next_number draws 1) (with_cut f.shared q logs) (length f.pools) n
+  next-cut draws n last most known = record { most = most; one = (known.one.0, (known.one.1.0, by (known.one.0 == q))) }
+    where
+      by : (b : Bool) → next_number draws 1 (cond b (cut_in f.shared (logs known.one.0)) (logs known.one.0)) ≡ n
+      by true = last-needed f.shared.next_ticket f.shared.next_conn n draws last 1 1 (logs known.one.0) (λ e. e) known.one.1.1
+      by false = known.one.1.1
+
+  family-cut : StandTogether f (with_cut f.shared q logs) × (Numbered f logs → Numbered f (with_cut f.shared q logs))
+  family-cut = (
+    stands-cut,
+    λ known. numbered-of f (with_cut f.shared q logs) (
+      next-cut asked_number f.shared.next_ticket (last-asked f.shared.next_ticket f.shared.next_conn) (λ p below. (stands-cut p below).ticket_number) (numbered-by f logs known).0,
+      next-cut opened_number f.shared.next_conn (last-opened f.shared.next_ticket f.shared.next_conn) (λ p below. (stands-cut p below).conn_number) (numbered-by f logs known).1,
+    ),
+  )
+
 pub family-cuts : {C : Type 0} (f : Pools C) (q : ℕ) → IsFamily f → FamilyCuts f q
-family-cuts f q is logs s p below = by (p == q)
-  where
-    by : (b : Bool) → StandsIn (pool_in p f) (cond b (cut_in f.shared (logs p)) (logs p))
-    by true = stands-needed (pool_in p f) (logs p) is.first_ticket is.first_conn (s p below)
-    by false = s p below
+family-cuts f q is logs s = family-cut f q is logs s

@@ -6,7 +6,7 @@ use Rattle.sqlx_pool_lists.specs.declared.shared.Shared.{Shared}
 use Rattle.sqlx_pool_lists.specs.Balance.{lents}
 use Rattle.sqlx_pool_parts.specs.declared.log_start.LogStart.{LogStart}
 use Rattle.sqlx_family.specs.Pools.{Pools}
-use Rattle.sqlx_family.specs.FamilyLogs.{StandTogether}
+use Rattle.sqlx_family.specs.FamilyLogs.{StandTogether, Numbered}
 
 -- the marks of a pool's log that later ones still look at, where these numbers come next in the family
 abbrev pub cut_in : Shared → List Mark → List Mark
@@ -20,6 +20,6 @@ start_cut start marks left = record start { len = length left; lent_before = sta
 abbrev pub with_cut : Shared → ℕ → (ℕ → List Mark) → ℕ → List Mark
 with_cut shared q logs p = if p == q then cut_in shared (logs p) else logs p
 
--- Whatever logs the pools stand for, they stand for them with that of one pool cut.
+-- Whatever logs the pools stand for, they stand for them with that of one pool cut, and where the next numbers were one more than the greatest, they are.
 abbrev pub FamilyCuts : {C : Type 0} → Pools C → ℕ → Type 0
-FamilyCuts f q = (logs : ℕ → List Mark) → StandTogether f logs → StandTogether f (with_cut f.shared q logs)
+FamilyCuts f q = (logs : ℕ → List Mark) → StandTogether f logs → StandTogether f (with_cut f.shared q logs) × (Numbered f logs → Numbered f (with_cut f.shared q logs))

@@ -7,7 +7,7 @@ use crate::audited;
 use crate::jobs::{Job, Part, gather, jobs_of, work_off};
 use mem_driver::{SharedMem, SharedMemConnection};
 use sqlx_any::{AnyConnectOptions, AnyConnection, ConnectOptions};
-use sqlx_pool::{BlanksOf, Loans, Pool, PoolConnect, PoolOptions, Tally};
+use sqlx_pool::{Blanks, Loans, LoneOf, Pool, PoolConnect, PoolOptions, Tally};
 use sqlx_pool_core::Outside;
 use sqlx_text::{Error, OutOfMemory};
 use std::alloc::Global;
@@ -16,7 +16,7 @@ use std::sync::ledger::Ledger;
 use std::thread::{self, Threads};
 
 /// What the pool of a crowd is made with.
-pub type CrowdBlanks<R> = BlanksOf<AnyConnection<SharedMemConnection<R>>, AnyConnectOptions>;
+pub type CrowdBlanks<R> = Blanks<SharedMem<R>>;
 
 /// What a crowd left.
 #[derive(Drop)]
@@ -126,8 +126,7 @@ pub fn crowd_with<
     let (pool, tally) = options.connect_lazy_with::<
         AnyConnection<SharedMemConnection<R>>,
         AnyConnectOptions,
-        H,
-        L,
+        LoneOf<SharedMem<R>, H, L>,
     >(alloc, connect, blanks)?;
     crowd_on::<H, L, R, X>(rt, alloc, &pool, loans, outs, tally)
 }

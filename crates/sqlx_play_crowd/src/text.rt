@@ -6,7 +6,7 @@ ghost use Rattle.sqlx_play_crowd.specs.Crowd.{LeavesLog};
 ghost use Rattle.sqlx_play_crowd.specs.LogText as spec;
 
 use crate::line::Line;
-use sqlx_pool::{Loans, Mark, PoolOf, Tally};
+use sqlx_pool::{Loans, Lone, Mark, PoolOf, Tally};
 use sqlx_text::{Depth, OutOfMemory};
 use std::alloc::{AllocError, Global};
 use std::sync::Wait;
@@ -53,7 +53,7 @@ fn crowd_text(alloc: Global, marks: &[Mark], loans: u64) -> Result<String, Alloc
 pub fn audited<C: Depth + Drop, O: Drop, H: Ledger, L: Loans, R: Wait>(
     rt: &R,
     alloc: Global,
-    pool: &PoolOf<C, O, H, L>,
+    pool: &PoolOf<C, O, Lone<C, O, H, L>>,
     all: &mut Tally<L>,
 ) -> Result<String, OutOfMemory>
     requires parts { all.old.parts ≡ L.parts }

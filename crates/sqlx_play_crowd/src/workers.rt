@@ -4,7 +4,7 @@ ghost use Rattle.std.specs.Prelude.{◌≡◌, ℕ, ◌+◌, ◌<◌, ◌≤◌,
 ghost use Rattle.sqlx_pool_lists.specs.Balance.{one_if};
 ghost use Rattle.sqlx_pool_parts.specs.Booked.{CountsIf};
 
-use sqlx_pool::{Clock, Loans, Pool, PoolConnection, Tally};
+use sqlx_pool::{Clock, Loans, Pool, Tally};
 use sqlx_pool_core::Outside;
 use sqlx_text::{Error, OutOfMemory};
 use sqlx_traits::{Database, Executor};
@@ -37,31 +37,6 @@ where
     }
 }
 
-// Uses a connection that was lent, and returns it.
-fn use_and_return<
-    DB: Database,
-    H: Ledger,
-    L: Loans,
-    R: Wait,
-    K: Clock,
-    X: Outside<DB::Connection, DB::Options>,
->(
-    rt: &R,
-    alloc: Global,
-    conn: PoolConnection<DB, H, L>,
-    clock: &mut K,
-    out: &mut X,
-) -> Result<(), OutOfMemory>
-where
-    DB::Connection: Executor<DB> + Drop,
-{
-    let mut conn = conn;
-    let done = select_one::<DB>(alloc, Hold::<DB>::conn_mut(&mut conn));
-    let now = clock.now();
-    let _ = conn.return_to_pool::<R, X>(rt, alloc, now, out);
-    done
-}
-
 // Waits for a connection, uses and returns it: whether one came.
 fn try_loan<
     DB: Database,
@@ -86,10 +61,16 @@ where
     ensures parts { tally.new.parts ≡ tally.old.parts }
 {
     match pool.acquire_wait::<R, K, X>(rt, alloc, clock, client, out, tally) {
-        Ok(conn) => match use_and_return::<DB, H, L, R, K, X>(rt, alloc, conn, clock, out) {
-            Ok(()) => Ok(true),
-            Err(short) => Err(short),
-        },
+        Ok(lent) => {
+            let mut conn = lent;
+            let done = select_one::<DB>(alloc, Hold::<DB>::conn_mut(&mut conn));
+            let now = clock.now();
+            let _ = conn.return_to_pool::<R, X>(rt, alloc, now, out);
+            match done {
+                Ok(()) => Ok(true),
+                Err(short) => Err(short),
+            }
+        }
         Err(error) => match only_memory(error) {
             Ok(()) => Ok(false),
             Err(short) => Err(short),

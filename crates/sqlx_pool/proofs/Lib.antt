@@ -3,7 +3,7 @@ pub mod CutLemmas
 pub mod LeavesLemmas
 pub mod RefusalLemmas
 pub mod SeenLemmas
-pub mod KeptLemmas
+pub mod LoneLemmas
 pub mod UpkeepLemmas
 pub mod AskLemmas
 pub mod EndLemmas

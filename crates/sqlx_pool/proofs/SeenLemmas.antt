@@ -46,6 +46,11 @@ pub log-copied : {C O : Type 0} (state : PoolState C O) (r : Result MarkLog OutO
 log-copied state (Ok log) start before marks = record { start = start; before = before; marks = marks }
 log-copied state (Err e) start before marks = tt
 
+-- what isn't some is none
+pub is_none : {T : Type 0} (o : Option T) → is_some o ≡ false → o ≡ None
+is_none None e = refl
+is_none (Some x) e = absurd cc
+
 -- a share of what is lent past the line doesn't change whether it is lent
 pub some-alone : {C S : Type 0} (lent : Option (Lent C × S)) → is_some (lent_alone lent) ≡ is_some lent
 some-alone None = refl

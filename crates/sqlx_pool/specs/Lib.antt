@@ -5,6 +5,8 @@ pub use Rattle.sqlx_pool_parts.specs.Answers
 pub use Rattle.sqlx_pool_parts.specs.Checks
 pub use Rattle.sqlx_pool_parts.specs.Opened
 pub use Rattle.sqlx_pool_parts.specs.MarkLog
+pub mod Calls
+pub mod Lent
 pub mod Places
 pub mod Stage
 pub mod Polling
@@ -12,9 +14,11 @@ pub mod Refusals
 pub mod Returned
 pub mod Seen
 pub mod Steps
+pub mod Lone
 pub mod PollChain
 pub mod Upkeep
 pub mod Begun
 pub mod Maybe
 pub mod Acquired
 pub mod Handle
+pub mod Families

@@ -17,15 +17,14 @@ use Rattle.sqlx_pool_lists.specs.declared.steps.Tried.TheVariants as tried
 use Rattle.sqlx_pool_lists.specs.declared.steps.Verdict.{Verdict}
 use Rattle.sqlx_pool_lists.specs.declared.steps.Verdict.TheVariants as verdict
 use Rattle.sqlx_pool_core.specs.Calls.{Call}
-use Rattle.sqlx_pool_core.specs.Logs.{moment_of}
 use Rattle.sqlx_pool_core.specs.Walk.{tried_of}
 use Rattle.sqlx_pool_core.specs.declared.idle_check.Check.TheVariants as check
 use Rattle.sqlx_pool_core.specs.declared.idle_check.Opening.{Opening}
 use Rattle.sqlx_pool_core.specs.declared.idle_check.Opening.TheVariants as opening
 use Rattle.sqlx_pool_parts.specs.Checks.{Closes, TestsFlat, TriesFlat}
-use Rattle.sqlx_pool_parts.specs.State.{PoolState}
+use Rattle.sqlx_pool.specs.Calls.{Step}
+use Rattle.sqlx_pool.specs.Calls as call
 use Rattle.sqlx_pool.specs.Seen.{SeesStep}
-use Rattle.sqlx_pool.specs.Steps.{EndsTest, EndsTry, ServesPolled, Starts}
 use Rattle.sqlx_pool.specs.declared.acquiring.Polling.{Polling}
 use Rattle.sqlx_pool.specs.declared.acquiring.Polling.TheVariants as polling
 use Rattle.sqlx_pool.specs.declared.stage.Stage.{Stage}
@@ -124,7 +123,7 @@ module _ {C : Type 0} where
 -- Where a poll stands: what the pool answered last, what the caller's front has seen, and the outside.
 pub record Point (C S X : Type 0) : Type 0 where
   pub told : Told C
-  pub seen : List (PoolState C S)
+  pub seen : List S
   pub out : X
 
 -- P of an idle connection that is to be tested; and Q, where there is none
@@ -136,28 +135,28 @@ IfTested None P Q = Q
 abbrev pub TestsNothing : PoolOptions → Type 0
 TestsNothing options = (options.test_before_acquire ≡ false) × (options.before_acquire ≡ false)
 
--- an idle connection is to be tested at m; or the pool was told that it is accepted, since its test asks nothing of the outside
-abbrev pub LendsUntested : {C S H : Type 0} → (C → ℕ) → ℕ → Bool → ℕ → ℕ → Idle C → Moment → List (PoolState C S) → List (PoolState C S) → Stage C H → Type 0
-LendsUntested {C = C} levels max cuts client ticket i m seen seen_now came = ((alone came ≡ stage.Test i m) × (seen_now ≡ seen)) ⊎
-    ((answer : AfterTest C) × (alone came ≡ tested_stage m answer) × SeesStep levels max cuts seen seen_now (λ before after. TestsNothing before.core.options × EndsTest client ticket (verdict.Accepted i.lent) answer before after))
+-- of the pool's steps: what holds of each state, what a step does, and which pool it is
+module _ {C N S : Type 0} (stands : S → Type 0) (steps : Step C N → S → S → Type 0) (name : N) (client ticket : ℕ) where
+  -- the pool was told that an idle connection, to be tested at m, is accepted, and the poll is so far
+  abbrev pub LendsUntested : {H : Type 0} → Idle C → Moment → List S → List S → Stage C H → Type 0
+  LendsUntested i m seen seen_now came = (answer : AfterTest C) × (alone came ≡ tested_stage m answer) × SeesStep stands seen seen_now (steps (call.EndTest name client ticket (verdict.Accepted i.lent) answer))
 
-module _ {C S : Type 0} (max client ticket : ℕ) (now : Moment) where
-  -- the pool's step at which it answered so, m being its moment; without a test only where none is asked for
-  abbrev pub Tells : Moment → Told C → PoolState C S → PoolState C S → Type 0
-  Tells m (Began answer) before after = (m.0 ≡ moment_of before.core now) × Starts max client ticket now answer before after
-  Tells m (Served lent) before after = TestsNothing before.core.options × ServesPolled client ticket now lent before after
-  Tells m (Untested lent answer) before after = TestsNothing before.core.options × EndsTest client ticket (verdict.Accepted lent) answer before after
-  Tells m (ToldTest verdict answer) before after = EndsTest client ticket verdict answer before after
-  Tells m (ToldTry opening answer) before after = EndsTry client ticket now (tried_of opening) answer before after
+  module _ (now : Moment) where
+    -- the pool's step at which it answered so, m being its moment; without a test only where the options ask for none
+    abbrev pub Tells : PoolOptions → Moment → Told C → S → S → Type 0
+    Tells options m (Began answer) before after = steps (call.Begin name client ticket now m answer) before after
+    Tells options m (Served lent) before after = TestsNothing options × steps (call.ServePolled name client ticket now (Some lent)) before after
+    Tells options m (Untested lent answer) before after = TestsNothing options × steps (call.EndTest name client ticket (verdict.Accepted lent) answer) before after
+    Tells options m (ToldTest verdict answer) before after = steps (call.EndTest name client ticket verdict answer) before after
+    Tells options m (ToldTry opening answer) before after = steps (call.EndTry name client ticket now (tried_of opening) answer) before after
 
-  module _ (levels : C → ℕ) (cuts : Bool) where
     -- a poll began, and is so far
-    abbrev pub BeginsAs : {H : Type 0} → List (PoolState C S) → List (PoolState C S) → Stage C H → Type 0
-    BeginsAs seen seen_now stage = (m : Moment) × (told : Told C) × (alone stage ≡ stage_by m told) × SeesStep levels max cuts seen seen_now (Tells m told)
+    abbrev pub BeginsAs : {H : Type 0} → PoolOptions → List S → List S → Stage C H → Type 0
+    BeginsAs options seen seen_now stage = (m : Moment) × (told : Told C) × (alone stage ≡ stage_by m told) × SeesStep stands seen seen_now (Tells options m told)
 
     -- the pool was told of a try, and the poll is so far
-    abbrev pub TellsTry : {H : Type 0} → Opening C → Tried C → List (PoolState C S) → Stage C H → List (PoolState C S) → Type 0
-    TellsTry came_to told seen came seen_now = (answer : AfterConnect C) × (alone came ≡ tried_stage came_to answer) × SeesStep levels max cuts seen seen_now (EndsTry client ticket now told answer)
+    abbrev pub TellsTry : {H : Type 0} → Opening C → Tried C → List S → Stage C H → List S → Type 0
+    TellsTry came_to told seen came seen_now = (answer : AfterConnect C) × (alone came ≡ tried_stage came_to answer) × SeesStep stands seen seen_now (steps (call.EndTry name client ticket now told answer))
 
 module _ {C O X : Type 0} (does : Call C O → X → X → Type 0) (depth : X → C → ℕ) (levels : C → ℕ) where
   -- what the poll answers at its last stage; what is left is closed
@@ -173,13 +172,13 @@ module _ {C O X : Type 0} (does : Call C O → X → X → Type 0) (depth : X �
   abbrev pub TriesOrLacks : Bool → Opening C → X → X → Type 0
   TriesOrLacks hook came old new = ((connect : O) × TriesFlat does depth levels hook connect came old new) ⊎ ((came ≡ opening.Failed error.OutOfMemory) × (new ≡ old))
 
-  module _ {S : Type 0} (max : ℕ) (cuts : Bool) (client ticket : ℕ) where
+  module _ {N S : Type 0} (stands : S → Type 0) (steps : Step C N → S → S → Type 0) (name : N) (client ticket : ℕ) where
     -- An idle connection was tested at m, and the pool told.
     pub record TestsOne (options : PoolOptions) (m : Moment) (i : Idle C) (p q : Point C S X) : Type 0 where
       pub verdict : Verdict C
       pub answer : AfterTest C
       pub tests : TestsFlat does depth levels options m.0 i verdict p.out q.out
-      pub tells : SeesStep levels max cuts p.seen q.seen (EndsTest client ticket verdict answer)
+      pub tells : SeesStep stands p.seen q.seen (steps (call.EndTest name client ticket verdict answer))
       pub told : q.told ≡ ToldTest verdict answer
 
     -- Idle connections were tested one after another, as the pool asked for it: at most so many.
@@ -188,11 +187,11 @@ module _ {C O X : Type 0} (does : Call C O → X → X → Type 0) (depth : X �
     Tests (suc left) options m p q = IfTested (next_test p.told) (λ i. (r : Point C S X) × TestsOne options m i p r × Tests left options m r q) (q ≡ p)
 
     -- the test of an idle connection at m was made and the pool told, and the poll is so far
-    abbrev pub TestsTo : {H : Type 0} → PoolOptions → Moment → Idle C → List (PoolState C S) → X → Stage C H → List (PoolState C S) → X → Type 0
-    TestsTo options m i seen old came seen_now new = (verdict : Verdict C) × (answer : AfterTest C) × (alone came ≡ tested_stage m answer) × TestsFlat does depth levels options m.0 i verdict old new × SeesStep levels max cuts seen seen_now (EndsTest client ticket verdict answer)
+    abbrev pub TestsTo : {H : Type 0} → PoolOptions → Moment → Idle C → List S → X → Stage C H → List S → X → Type 0
+    TestsTo options m i seen old came seen_now new = (verdict : Verdict C) × (answer : AfterTest C) × (alone came ≡ tested_stage m answer) × TestsFlat does depth levels options m.0 i verdict old new × SeesStep stands seen seen_now (steps (call.EndTest name client ticket verdict answer))
 
     -- from each point at which the poll is so far, tests bring it to another
-    abbrev pub TestsFrom : {H : Type 0} → ℕ → PoolOptions → Stage C H → List (PoolState C S) → X → Stage C H → List (PoolState C S) → X → Type 0
+    abbrev pub TestsFrom : {H : Type 0} → ℕ → PoolOptions → Stage C H → List S → X → Stage C H → List S → X → Type 0
     TestsFrom left options stage seen old came seen_now new = (m : Moment) → (told : Told C) → alone stage ≡ stage_by m told →
         (last : Told C) × (alone came ≡ without_test (stage_by m last)) × Tests left options m (record { told = told; seen = seen; out = old }) (record { told = last; seen = seen_now; out = new })
 
@@ -202,7 +201,7 @@ module _ {C O X : Type 0} (does : Call C O → X → X → Type 0) (depth : X �
         pub opening : Opening C
         pub answer : AfterConnect C
         pub tries : TriesOrLacks options.after_connect opening p.out q.out
-        pub tells : SeesStep levels max cuts p.seen q.seen (EndsTry client ticket now (tried_of opening) answer)
+        pub tells : SeesStep stands p.seen q.seen (steps (call.EndTry name client ticket now (tried_of opening) answer))
         pub told : q.told ≡ ToldTry opening answer
 
       -- a try was made, where the pool asked for it
@@ -211,7 +210,7 @@ module _ {C O X : Type 0} (does : Call C O → X → X → Type 0) (depth : X �
 
       -- How a poll goes on from where it stands, testing at m: idle connections are tested and then one is opened, each as
       -- the pool asks for it, and it answers what the pool said last.
-      pub record GoesOn {T P : Type 0} (options : PoolOptions) (shows : T → Lent C) (m : Moment) (begun : Point C S X) (seen : List (PoolState C S)) (result : Polling T P) (new : X) : Type 0 where
+      pub record GoesOn {T P : Type 0} (options : PoolOptions) (shows : T → Lent C) (m : Moment) (begun : Point C S X) (seen : List S) (result : Polling T P) (new : X) : Type 0 where
         pub tried_for : Point C S X
         pub last : Point C S X
         pub tests : Tests options.idle_tries options m begun tried_for
@@ -220,23 +219,23 @@ module _ {C O X : Type 0} (does : Call C O → X → X → Type 0) (depth : X �
         pub ends : Ends shows (without_test (stage_by m last.told)) result last.out new
 
       -- A poll: it began, and went on.
-      pub record Polls {T P : Type 0} (options : PoolOptions) (shows : T → Lent C) (seen seen_now : List (PoolState C S)) (result : Polling T P) (old new : X) : Type 0 where
+      pub record Polls {T P : Type 0} (options : PoolOptions) (shows : T → Lent C) (seen seen_now : List S) (result : Polling T P) (old new : X) : Type 0 where
         pub moment : Moment
         pub begun : Told C
-        pub seen_then : List (PoolState C S)
-        pub begins : SeesStep levels max cuts seen seen_then (Tells max client ticket now moment begun)
+        pub seen_then : List S
+        pub begins : SeesStep stands seen seen_then (Tells stands steps name client ticket now options moment begun)
         pub goes : GoesOn options shows moment (record { told = begun; seen = seen_then; out = old }) seen_now result new
 
       -- it polled so, by a front that only saw this before
-      abbrev pub PollsUnseen : {T P : Type 0} → PoolOptions → (T → Lent C) → List (PoolState C S) → Polling T P → X → X → Type 0
-      PollsUnseen options shows seen result old new = (seen_now : List (PoolState C S)) × Polls options shows seen seen_now result old new
+      abbrev pub PollsUnseen : {T P : Type 0} → PoolOptions → (T → Lent C) → List S → Polling T P → X → X → Type 0
+      PollsUnseen options shows seen result old new = (seen_now : List S) × Polls options shows seen seen_now result old new
 
       -- from each such point a try brings it to another, or none is asked for
-      abbrev pub OpensFrom : {H : Type 0} → PoolOptions → Stage C H → List (PoolState C S) → X → Stage C H → List (PoolState C S) → X → Type 0
+      abbrev pub OpensFrom : {H : Type 0} → PoolOptions → Stage C H → List S → X → Stage C H → List S → X → Type 0
       OpensFrom options stage seen old came seen_now new = (m : Moment) → (told : Told C) → alone stage ≡ without_test (stage_by m told) →
           (last : Told C) × (alone came ≡ without_test (stage_by m last)) × Opens options (record { told = told; seen = seen; out = old }) (record { told = last; seen = seen_now; out = new })
 
       -- from each such point it goes on to its answer
-      abbrev pub GoesFrom : {H T P : Type 0} → PoolOptions → (T → Lent C) → Stage C H → List (PoolState C S) → X → List (PoolState C S) → Polling T P → X → Type 0
+      abbrev pub GoesFrom : {H T P : Type 0} → PoolOptions → (T → Lent C) → Stage C H → List S → X → List S → Polling T P → X → Type 0
       GoesFrom options shows stage seen old seen_now result new = (m : Moment) → (told : Told C) → alone stage ≡ stage_by m told →
           GoesOn options shows m (record { told = told; seen = seen; out = old }) seen_now result new

@@ -1,12 +1,12 @@
 -- What the steps of calls over a pool's lock do, from the state before to the one after.
-use Rattle.std.specs.Prelude.{◌≡◌, ◌⊎◌, ℕ, ◌+◌, Bool, true, List, ◌++◌, ◌∷◌, [], Option, Some, IfSome, length, map, option_map}
+use Rattle.std.specs.Prelude.{◌≡◌, ◌⊎◌, ℕ, ◌+◌, Bool, true, List, ◌++◌, ◌∷◌, [], Option, Some, is_some, IfSome, map, option_map, if◌then◌else◌}
 use Rattle.std.specs.List.{list_any}
 use Rattle.sqlx_text.specs.declared.Moment.{Moment}
 use Rattle.sqlx_pool_marks.specs.declared.mark.Mark.{Mark}
 use Rattle.sqlx_pool_marks.specs.declared.mark.Mark.TheVariants.{Asked}
 use Rattle.sqlx_pool_marks.specs.Answers.{lent_past_at, owns}
 use Rattle.sqlx_pool_marks.specs.Cut.{cut_of}
-use Rattle.sqlx_pool_marks.specs.EventTable.{closed_at}
+use Rattle.sqlx_pool_marks.specs.EventTable.{closed_at, has_place_at}
 use Rattle.sqlx_pool_marks.specs.Marks.{is_shut, next_conn, owner_of}
 use Rattle.sqlx_pool_lists.specs.declared.steps.AfterConnect.{AfterConnect}
 use Rattle.sqlx_pool_lists.specs.declared.steps.AfterTest.{AfterTest}
@@ -20,22 +20,21 @@ use Rattle.sqlx_pool_lists.specs.Core.{Core, loan_of, ticket_of}
 use Rattle.sqlx_pool_lists.specs.Edits.{at_moment, asked}
 use Rattle.sqlx_pool_lists.specs.Makes.{Makes}
 use Rattle.sqlx_pool_lists.specs.StandsFor.{StandsFor}
-use Rattle.sqlx_pool_lists.specs.MaintenanceSteps.{idle_conn, close_marks, closed_from}
-use Rattle.sqlx_pool_lists.specs.PollSteps.{phase_for, judged, start_answer, start_marks, started, test_marks, after_test, connect_answer, connect_marks, after_connect, may_cancel, cancel_marks, cancelled, try_lent, try_marks, after_try, first_marks, after_first}
+use Rattle.sqlx_pool_lists.specs.MaintenanceSteps.{idle_conn, reap_marks, reaped, placed, close_marks, closed_from}
+use Rattle.sqlx_pool_lists.specs.Limits.{limits_of}
+use Rattle.sqlx_pool_lists.specs.PollSteps.{phase_for, judged, start_answer, start_marks, started, test_marks, after_test, connect_answer, connect_marks, after_connect, may_cancel, cancel_marks, cancelled, try_lent, try_marks, after_try, first_marks, after_first, serve_marks, after_serve}
 use Rattle.sqlx_pool_lists.specs.PollTable.{phase_turn}
 use Rattle.sqlx_pool_core.specs.Answers.{lent_conn, ServesFirst}
 use Rattle.sqlx_pool_core.specs.Logs.{moment_of}
 use Rattle.sqlx_pool_core.specs.ReturnSteps.{give_answer, give_marks, core_after_give, end_marks, detach_marks, leak_marks, released, leaked}
 use Rattle.sqlx_pool_parts.specs.Answers.{IsNextTicket, test_answer_in}
 use Rattle.sqlx_pool_parts.specs.State.{PoolState}
+use Rattle.sqlx_pool.specs.Places.{holds_place, done_if, done_if_marks, back_if}
+use Rattle.sqlx_pool.specs.Upkeep.{to_reap}
 
 -- whatever marks the core stood for, it stands for them with these behind, where there is an answer
 abbrev pub LogsIf : {C T : Type 0} → Option T → Core C → (T → List Mark) → Core C → Type 0
 LogsIf answer old made new = (marks : List Mark) → StandsFor old marks → IfSome answer (λ x. Makes old.options.max_connections marks (made x) new)
-
--- a connection as it is lent
-abbrev pub lent_of : {C : Type 0} → ℕ → Moment → C → Lent C
-lent_of id created raw = record { id = id; created = created; raw = raw }
 
 module _ {C O : Type 0} where
   -- the log went on, or was cut
@@ -64,12 +63,12 @@ module _ {C O : Type 0} where
     pub marks : after.marks ≡ before.marks ++ start_marks ticket (phase_for client ticket before.core.tickets) start
     pub becomes : after.core ≡ started ticket (moment_of before.core now) start before.core
 
-  -- the first of all tickets, which waited, was lent the first idle connection at once
-  pub record ServesPolled (client ticket : ℕ) (now : Moment) (lent : Lent C) (before after : PoolState C O) : Type 0 where
-    pub serves : ServesFirst client ticket (moment_of before.core now) before.core
-    pub first : Some lent ≡ try_lent true before.core.idle
-    pub marks : after.marks ≡ before.marks ++ first_marks client ticket (Some lent)
-    pub becomes : after.core ≡ after_first client ticket (moment_of before.core now) (Some lent) before.core
+  -- the first of all tickets, which waited, was lent the first idle connection at once, or nothing was done
+  pub record ServesPolled (client ticket : ℕ) (now : Moment) (lent : Option (Lent C)) (before after : PoolState C O) : Type 0 where
+    pub serves : is_some lent ≡ true → ServesFirst client ticket (moment_of before.core now) before.core
+    pub first : IfSome lent (λ l. Some l ≡ try_lent true before.core.idle)
+    pub marks : after.marks ≡ before.marks ++ first_marks client ticket lent
+    pub becomes : after.core ≡ after_first client ticket (moment_of before.core now) lent before.core
 
   -- the pool was told what the test of an idle connection came to
   pub record EndsTest (client ticket : ℕ) (verdict : Verdict C) (answer : AfterTest C) (before after : PoolState C O) : Type 0 where
@@ -82,6 +81,12 @@ module _ {C O : Type 0} where
     pub answers : answer ≡ connect_answer (ticket_of client ticket before.core.tickets) (list_any is_shut before.marks) (next_conn before.marks) (moment_of before.core now) tried
     pub marks : after.marks ≡ before.marks ++ connect_marks client ticket (moment_of before.core now) answer
     pub becomes : after.core ≡ after_connect client ticket (moment_of before.core now) answer before.core
+
+  -- an ask was served at once with the first idle connection, or none was
+  pub record ServesNew (now : Moment) (client : ℕ) (lent : Option (Lent C)) (before after : PoolState C O) : Type 0 where
+    pub first : IfSome lent (λ l. Some l ≡ try_lent true before.core.idle)
+    pub marks : after.marks ≡ before.marks ++ serve_marks client before.core.next_ticket (deadline_at before now) lent
+    pub becomes : after.core ≡ after_serve client (moment_of before.core now) lent before.core
 
   -- a ticket ended, if it waited or was in backoff
   pub record Cancels (client ticket : ℕ) (ended : Bool) (before after : PoolState C O) : Type 0 where
@@ -113,13 +118,37 @@ module _ {C O : Type 0} where
   abbrev pub Leaks : ℕ → ℕ → Bool → PoolState C O → PoolState C O → Type 0
   Leaks = EndsLoan leak_marks leaked
 
+  -- this idle connection was taken to be closed, if one was to be
+  pub record Reaps (now : Moment) (idle : Option (Idle C)) (before after : PoolState C O) : Type 0 where
+    pub answer : option_map idle_conn idle ≡ to_reap now before
+    pub marks : after.marks ≡ before.marks ++ reap_marks idle
+    pub becomes : after.core ≡ reaped (moment_of before.core now) idle before.core
+
+  -- a place is held for a connection of so many, if one may be opened
+  pub record HoldsPlace (least : ℕ) (place : Bool) (before after : PoolState C O) : Type 0 where
+    pub answer : place ≡ has_place_at (limits_of before.core.options) before.core.places before.marks least
+    pub marks : after.marks ≡ before.marks
+    pub becomes : after.core ≡ placed place before.core
+
+  -- a place was used or given up, where one was held, and this came back
+  pub record Fills (now : Moment) (raw back : Option C) (before after : PoolState C O) : Type 0 where
+    pub answer : back ≡ back_if (holds_place before.core) (list_any is_shut before.marks) raw
+    pub marks : after.marks ≡ before.marks ++ done_if_marks (holds_place before.core) (list_any is_shut before.marks) (next_conn before.marks) (moment_of before.core now) raw
+    pub becomes : after.core ≡ done_if (holds_place before.core) (moment_of before.core now) raw before.core
+
+  -- the log was cut, if so
+  pub record CutsIf (cut : Bool) (before after : PoolState C O) : Type 0 where
+    pub marks : after.marks ≡ (if cut then cut_of before.marks else before.marks)
+    pub core : after.core ≡ before.core
+
+  -- neither the log nor the core changed
+  pub record Keeps (before after : PoolState C O) : Type 0 where
+    pub marks : after.marks ≡ before.marks
+    pub core : after.core ≡ before.core
+
   -- the pool closed, and gave back these idle connections
   pub record Closes (idle : List (Idle C)) (before after : PoolState C O) : Type 0 where
     pub answer : map idle_conn idle ≡ closed_at before.marks
     pub marks : after.marks ≡ before.marks ++ close_marks (list_any is_shut before.marks) idle
     pub becomes : after.core ≡ closed_from before.core.shut before.core
     pub closed : after.core.shut ≡ true
-
-  -- the pool closed, and this many idle connections are to be closed
-  abbrev pub ClosesMany : ℕ → PoolState C O → PoolState C O → Type 0
-  ClosesMany count before after = (idle : List (Idle C)) × (length idle ≡ count) × Closes idle before after

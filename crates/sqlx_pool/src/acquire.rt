@@ -4,12 +4,12 @@ ghost use Rattle.std.specs.Prelude.{◌≡◌, ⊤, None, Ok, Result};
 ghost use Rattle.sqlx_text.specs.declared.error.Error.{Error};
 ghost use Rattle.sqlx_pool.specs.Acquired.{Holds, BeginsOn};
 
-use crate::{Loans, PoolConnectionOf};
+use crate::PoolConnectionOf;
+use crate::steps::PoolSteps;
 use sqlx_text::Error;
 use sqlx_traits::Database;
 use sqlx_tx::{Borrowed, Hold, Transaction};
 use std::alloc::Global;
-use std::sync::ledger::Ledger;
 
 /// From what a connection may be had: one that is borrowed, as by a transaction that lends it, or one of a pool.
 pub trait Acquire<DB: Database>: Sized {
@@ -50,8 +50,8 @@ impl<'c, DB: Database> Acquire<DB> for Borrowed<'c, DB> {
     }
 }
 
-impl<'c, DB: Database, H: Ledger, L: Loans> Acquire<DB>
-    for &'c mut PoolConnectionOf<DB::Connection, DB::Options, H, L> {
+impl<'c, DB: Database, S: PoolSteps<DB::Connection, DB::Options>> Acquire<DB>
+    for &'c mut PoolConnectionOf<DB::Connection, DB::Options, S> {
     type Holder = Borrowed<'c, DB>;
 
     ghost acquires = { λ lent result. Holds lent.now.raw (λ holder. holder.0.now) result };
@@ -71,8 +71,8 @@ impl<'c, 'd, DB: Database> Acquire<DB> for &'c mut Transaction<DB, Borrowed<'d, 
     }
 }
 
-impl<'c, DB: Database, H: Ledger, L: Loans> Acquire<DB>
-    for &'c mut Transaction<DB, PoolConnectionOf<DB::Connection, DB::Options, H, L>> {
+impl<'c, DB: Database, S: PoolSteps<DB::Connection, DB::Options>> Acquire<DB>
+    for &'c mut Transaction<DB, PoolConnectionOf<DB::Connection, DB::Options, S>> {
     type Holder = Borrowed<'c, DB>;
 
     ghost acquires = { λ level result. Holds level.now.raw (λ holder. holder.0.now) result };

@@ -3,24 +3,25 @@
 ghost use Rattle.std.specs.Prelude.{◌≡◌, ℕ, ◌+◌, ◌<◌, ◌≤◌, false};
 ghost use Rattle.sqlx_pool_lists.specs.Balance.{one_if};
 ghost use Rattle.sqlx_pool_parts.specs.Booked.{CountsIf};
+ghost use Rattle.sqlx_pool.specs.Calls as call;
 ghost use Rattle.sqlx_pool.specs.PollChain.{GoesFrom, Polls, PollsUnseen};
 ghost use Rattle.sqlx_pool.specs.Polling.{is_ready, IfReady, IfFailed, IfPending};
 ghost use Rattle.sqlx_pool.specs.Refusals.{IsEnd, IsPollRefusal};
 ghost use Rattle.sqlx_pool.specs.Seen.{SeesStep};
 ghost use Rattle.sqlx_pool.specs.Stage.{has_lent, IfLent, IfEnded};
-ghost use Rattle.sqlx_pool.specs.Steps.{Cancels, lent_of};
+ghost use Rattle.sqlx_pool.specs.Lent.{lent_of};
 
 mod waits;
 
 use crate::stage::{Stage, Why};
+use crate::steps::PoolSteps;
 use crate::stood::FrontOf;
-use crate::{Held, Loans, PoolConnectionOf, PoolOf, Tally};
+use crate::{PoolConnectionOf, PoolOf};
 use sqlx_pool_core::Outside;
 use sqlx_pool_parts::checks::close_left;
 use sqlx_text::{Depth, Error, Moment};
 use std::alloc::Global;
 use std::sync::Wait;
-use std::sync::ledger::Ledger;
 
 /// What a poll came to.
 pub enum Polling<T, P> {
@@ -33,19 +34,20 @@ pub enum Polling<T, P> {
 }
 
 /// What a poll of a pool came to.
-pub type PoolPollOf<C, O, H, L> = Polling<PoolConnectionOf<C, O, H, L>, AcquiringOf<C, O, H, L>>;
+pub type PoolPollOf<C, O, S> = Polling<PoolConnectionOf<C, O, S>, AcquiringOf<C, O, S>>;
 
 /// A ticket of a client. It ends by a poll that answers a connection or an error, or by `cancel`; it can't be let go
 /// otherwise.
-pub struct AcquiringOf<C: Depth, O, H: Ledger, L: Loans> {
-    pool: PoolOf<C, O, H, L>,
+pub struct AcquiringOf<C: Depth, O, S: PoolSteps<C, O>> {
+    pub(crate) pool: PoolOf<C, O, S>,
     pub(crate) client: u32,
     pub(crate) ticket: u64,
 }
 
-impl<C: Depth + Drop, O: Drop, H: Ledger, L: Loans> AcquiringOf<C, O, H, L> {
-    pub(crate) fn new(pool: PoolOf<C, O, H, L>, client: u32, ticket: u64) -> Self
-        ensures { (result.client ≡ client) × (result.ticket ≡ ticket) }
+impl<C: Depth + Drop, O: Drop, S: PoolSteps<C, O>> AcquiringOf<C, O, S> {
+    pub(crate) fn new(pool: PoolOf<C, O, S>, client: u32, ticket: u64) -> Self
+        ensures ticket { (result.client ≡ client) × (result.ticket ≡ ticket) }
+        ensures pool { result.pool ≡ pool }
     {
         AcquiringOf {
             pool,
@@ -70,12 +72,12 @@ impl<C: Depth + Drop, O: Drop, H: Ledger, L: Loans> AcquiringOf<C, O, H, L> {
         alloc: Global,
         now: Moment,
         out: &mut X,
-        tally: &mut Tally<L>,
-    ) -> PoolPollOf<C, O, H, L>
-        ensures polls { PollsUnseen X.does X.depth C.levels L.max L.cuts self.client self.ticket now self.pool.shared.value.options (λ c. lent_of c.id c.created c.raw) self.pool.shared.value.unseen result out.old out.new }
-        ensures tally { CountsIf (is_ready result) tally.old tally.new }
+        tally: &mut S::Tally,
+    ) -> PoolPollOf<C, O, S>
+        ensures polls { PollsUnseen X.does X.depth C.levels S.stands S.does self.pool.shared.value.name self.client self.ticket now self.pool.shared.value.options (λ c. lent_of c.id c.created c.raw) self.pool.shared.value.unseen result out.old out.new }
+        ensures tally { CountsIf (is_ready result) (S.Tally.counted tally.old) (S.Tally.counted tally.new) }
         ensures flat { IfReady result (λ conn. C.levels conn.raw ≡ 0) }
-        ensures again { IfPending result (λ waits. (waits.client ≡ self.client) × (waits.ticket ≡ self.ticket)) }
+        ensures again { IfPending result (λ waits. (waits.pool.shared.value ≡ self.pool.shared.value) × (waits.client ≡ self.client) × (waits.ticket ≡ self.ticket)) }
         ensures causes { IfFailed result (IsPollRefusal (X.faults out.old) (X.faults out.new)) }
         ensures counts { (X.faults out.old ≤ X.faults out.new) × (X.refusals out.old ≤ X.refusals out.new) }
     {
@@ -90,19 +92,18 @@ impl<C: Depth + Drop, O: Drop, H: Ledger, L: Loans> AcquiringOf<C, O, H, L> {
         alloc: Global,
         now: Moment,
         out: &mut X,
-        tally: &mut Tally<L>,
-        me: &mut FrontOf<C, O, L>,
-    ) -> PoolPollOf<C, O, H, L>
-        ensures polls { Polls X.does X.depth C.levels L.max L.cuts self.client self.ticket now self.pool.shared.value.options (λ c. lent_of c.id c.created c.raw) me.old me.new result out.old out.new }
-        ensures tally { CountsIf (is_ready result) tally.old tally.new }
+        tally: &mut S::Tally,
+        me: &mut FrontOf<C, O, S>,
+    ) -> PoolPollOf<C, O, S>
+        ensures polls { Polls X.does X.depth C.levels S.stands S.does self.pool.shared.value.name self.client self.ticket now self.pool.shared.value.options (λ c. lent_of c.id c.created c.raw) me.old me.new result out.old out.new }
+        ensures tally { CountsIf (is_ready result) (S.Tally.counted tally.old) (S.Tally.counted tally.new) }
         ensures flat { IfReady result (λ conn. C.levels conn.raw ≡ 0) }
-        ensures again { IfPending result (λ waits. (waits.client ≡ self.client) × (waits.ticket ≡ self.ticket)) }
+        ensures again { IfPending result (λ waits. (waits.pool.shared.value ≡ self.pool.shared.value) × (waits.client ≡ self.client) × (waits.ticket ≡ self.ticket)) }
         ensures causes { IfFailed result (IsPollRefusal (X.faults out.old) (X.faults out.new)) }
         ensures counts { (X.faults out.old ≤ X.faults out.new) × (X.refusals out.old ≤ X.refusals out.new) }
     {
         let begun = self
             .pool
-            .lock(rt)
             .begin(rt, self.client, self.ticket, now, tally, me);
         self.go_on::<R, X>(rt, alloc, now, begun, out, tally, me)
     }
@@ -113,18 +114,18 @@ impl<C: Depth + Drop, O: Drop, H: Ledger, L: Loans> AcquiringOf<C, O, H, L> {
         rt: &R,
         alloc: Global,
         now: Moment,
-        begun: Stage<C, Held<H>>,
+        begun: Stage<C, S::Held>,
         out: &mut X,
-        tally: &mut Tally<L>,
-        me: &mut FrontOf<C, O, L>,
-    ) -> PoolPollOf<C, O, H, L>
+        tally: &mut S::Tally,
+        me: &mut FrontOf<C, O, S>,
+    ) -> PoolPollOf<C, O, S>
         requires flat { IfLent begun (λ lent. C.levels lent.raw ≡ 0) }
         requires causes { IfEnded begun IsEnd }
-        ensures goes { GoesFrom X.does X.depth C.levels L.max L.cuts self.client self.ticket now self.pool.shared.value.options (λ c. lent_of c.id c.created c.raw) begun me.old out.old me.new result out.new }
-        ensures parts { tally.new.parts ≡ tally.old.parts }
-        ensures loans { tally.new.loans + one_if (has_lent begun) ≡ tally.old.loans + one_if (is_ready result) }
+        ensures goes { GoesFrom X.does X.depth C.levels S.stands S.does self.pool.shared.value.name self.client self.ticket now self.pool.shared.value.options (λ c. lent_of c.id c.created c.raw) begun me.old out.old me.new result out.new }
+        ensures parts { (S.Tally.counted tally.new).parts ≡ (S.Tally.counted tally.old).parts }
+        ensures loans { (S.Tally.counted tally.new).loans + one_if (has_lent begun) ≡ (S.Tally.counted tally.old).loans + one_if (is_ready result) }
         ensures flat { IfReady result (λ conn. C.levels conn.raw ≡ 0) }
-        ensures again { IfPending result (λ waits. (waits.client ≡ self.client) × (waits.ticket ≡ self.ticket)) }
+        ensures again { IfPending result (λ waits. (waits.pool.shared.value ≡ self.pool.shared.value) × (waits.client ≡ self.client) × (waits.ticket ≡ self.ticket)) }
         ensures causes { IfFailed result (IsPollRefusal (X.faults out.old) (X.faults out.new)) }
         ensures counts { (X.faults out.old ≤ X.faults out.new) × (X.refusals out.old ≤ X.refusals out.new) }
     {
@@ -165,8 +166,8 @@ impl<C: Depth + Drop, O: Drop, H: Ledger, L: Loans> AcquiringOf<C, O, H, L> {
     }
 
     /// As `cancel`. The front of the caller then ends with the step.
-    pub fn cancel_seen<R: Wait>(self, rt: &R, me: &mut FrontOf<C, O, L>) -> bool
-        ensures { SeesStep C.levels L.max L.cuts me.old me.new (Cancels self.client self.ticket result) }
+    pub fn cancel_seen<R: Wait>(self, rt: &R, me: &mut FrontOf<C, O, S>) -> bool
+        ensures { SeesStep S.stands me.old me.new (S.does (call.Cancel self.pool.shared.value.name self.client self.ticket result)) }
     {
         let AcquiringOf {
             pool,

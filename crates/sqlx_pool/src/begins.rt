@@ -5,14 +5,14 @@ ghost use Rattle.sqlx_pool.specs.Begun.{Begins, BeginsLent, BegunOnLent, has_len
 ghost use Rattle.sqlx_pool_parts.specs.Booked.{CountsIf};
 ghost use Rattle.sqlx_pool.specs.Refusals.{IsPollRefusal, MayRefuseTry};
 
-use crate::{BeginRefused, Clock, Loans, Pool, PoolConnection, PoolOf, Tally};
+use crate::steps::PoolSteps;
+use crate::{Clock, PoolConnectionOf, PoolOf};
 use sqlx_pool_core::Outside;
 use sqlx_text::{Error, Moment, SqlStr};
 use sqlx_traits::Database;
 use sqlx_tx::Transaction;
 use std::alloc::Global;
 use std::sync::Wait;
-use std::sync::ledger::Ledger;
 
 /// Why no transaction was begun. The connection is there where one was lent and the begin on it was refused.
 pub struct BeginRefusedOf<P> {
@@ -21,11 +21,14 @@ pub struct BeginRefusedOf<P> {
 }
 
 // Begins on a connection that was lent.
-fn begin_on<DB: Database, H: Ledger, L: Loans>(
+fn begin_on<DB: Database, S: PoolSteps<DB::Connection, DB::Options>>(
     alloc: Global,
-    conn: PoolConnection<DB, H, L>,
+    conn: PoolConnectionOf<DB::Connection, DB::Options, S>,
     statement: Option<SqlStr>,
-) -> Result<Transaction<DB, PoolConnection<DB, H, L>>, (Error, PoolConnection<DB, H, L>)>
+) -> Result<
+    Transaction<DB, PoolConnectionOf<DB::Connection, DB::Options, S>>,
+    (Error, PoolConnectionOf<DB::Connection, DB::Options, S>),
+>
     requires flat { DB.Connection.levels conn.raw ≡ 0 }
     ensures begun { BegunOnLent DB.TransactionManager.does DB.Connection.levels DB.Connection.faults (λ lent. lent.raw) statement result }
 {
@@ -36,22 +39,25 @@ fn begin_on<DB: Database, H: Ledger, L: Loans>(
 }
 
 // Begins on the first idle connection, by the statement where one is given.
-fn try_begin_by<DB: Database, H: Ledger, L: Loans, R: Wait>(
-    pool: &Pool<DB, H, L>,
+fn try_begin_by<DB: Database, S: PoolSteps<DB::Connection, DB::Options>, R: Wait>(
+    pool: &PoolOf<DB::Connection, DB::Options, S>,
     rt: &R,
     alloc: Global,
     now: Moment,
     client: u32,
-    tally: &mut Tally<L>,
+    tally: &mut S::Tally,
     statement: Option<SqlStr>,
-) -> Result<Option<Transaction<DB, PoolConnection<DB, H, L>>>, BeginRefused<DB, H, L>>
+) -> Result<
+    Option<Transaction<DB, PoolConnectionOf<DB::Connection, DB::Options, S>>>,
+    BeginRefusedOf<PoolConnectionOf<DB::Connection, DB::Options, S>>,
+>
 where
     DB::Connection: Drop,
     ensures begins { Begins DB.TransactionManager.does DB.Connection.levels DB.Connection.faults (λ lent. lent.raw) MayRefuseTry statement result }
-    ensures tally { CountsIf (has_lent result) tally.old tally.new }
+    ensures tally { CountsIf (has_lent result) (S.Tally.counted tally.old) (S.Tally.counted tally.new) }
 {
     match pool.try_acquire(rt, alloc, now, client, tally) {
-        Ok(Some(conn)) => match begin_on::<DB, H, L>(alloc, conn, statement) {
+        Ok(Some(conn)) => match begin_on::<DB, S>(alloc, conn, statement) {
             Ok(begun) => Ok(Some(begun)),
             Err((error, conn)) => Err(BeginRefusedOf {
                 error,
@@ -69,29 +75,31 @@ where
 // Waits for a connection and begins on it, by the statement where one is given.
 fn begin_by<
     DB: Database,
-    H: Ledger,
-    L: Loans,
+    S: PoolSteps<DB::Connection, DB::Options>,
     R: Wait,
     K: Clock,
     X: Outside<DB::Connection, DB::Options>,
 >(
-    pool: &Pool<DB, H, L>,
+    pool: &PoolOf<DB::Connection, DB::Options, S>,
     rt: &R,
     alloc: Global,
     clock: &mut K,
     client: u32,
     out: &mut X,
-    tally: &mut Tally<L>,
+    tally: &mut S::Tally,
     statement: Option<SqlStr>,
-) -> Result<Transaction<DB, PoolConnection<DB, H, L>>, BeginRefused<DB, H, L>>
+) -> Result<
+    Transaction<DB, PoolConnectionOf<DB::Connection, DB::Options, S>>,
+    BeginRefusedOf<PoolConnectionOf<DB::Connection, DB::Options, S>>,
+>
 where
     DB::Connection: Drop,
     ensures begins { BeginsLent DB.TransactionManager.does DB.Connection.levels DB.Connection.faults (λ lent. lent.raw) (IsPollRefusal (X.faults out.old) (X.faults out.new)) statement result }
-    ensures tally { CountsIf (was_lent result) tally.old tally.new }
+    ensures tally { CountsIf (was_lent result) (S.Tally.counted tally.old) (S.Tally.counted tally.new) }
     ensures counts { (X.faults out.old ≤ X.faults out.new) × (X.refusals out.old ≤ X.refusals out.new) }
 {
     match pool.acquire_wait::<R, K, X>(rt, alloc, clock, client, out, tally) {
-        Ok(conn) => match begin_on::<DB, H, L>(alloc, conn, statement) {
+        Ok(conn) => match begin_on::<DB, S>(alloc, conn, statement) {
             Ok(begun) => Ok(begun),
             Err((error, conn)) => Err(BeginRefusedOf {
                 error,
@@ -106,7 +114,7 @@ where
 }
 
 /// Transactions on connections that the pool of a database lends. In sqlx: calls of `Pool`.
-pub trait PoolBegin<DB: Database, H: Ledger, L: Loans> {
+pub trait PoolBegin<DB: Database, S: PoolSteps<DB::Connection, DB::Options>> {
     /// Waits for a connection, as `acquire_wait`, and begins a transaction on it. Where the begin is refused, the
     /// connection comes back.
     fn begin<R: Wait, K: Clock, X: Outside<DB::Connection, DB::Options>>(
@@ -116,10 +124,13 @@ pub trait PoolBegin<DB: Database, H: Ledger, L: Loans> {
         clock: &mut K,
         client: u32,
         out: &mut X,
-        tally: &mut Tally<L>,
-    ) -> Result<Transaction<DB, PoolConnection<DB, H, L>>, BeginRefused<DB, H, L>>
+        tally: &mut S::Tally,
+    ) -> Result<
+        Transaction<DB, PoolConnectionOf<DB::Connection, DB::Options, S>>,
+        BeginRefusedOf<PoolConnectionOf<DB::Connection, DB::Options, S>>,
+    >
         ensures begins { BeginsLent DB.TransactionManager.does DB.Connection.levels DB.Connection.faults (λ lent. lent.raw) (IsPollRefusal (X.faults out.old) (X.faults out.new)) None result }
-        ensures tally { CountsIf (was_lent result) tally.old tally.new }
+        ensures tally { CountsIf (was_lent result) (S.Tally.counted tally.old) (S.Tally.counted tally.new) }
         ensures counts { (X.faults out.old ≤ X.faults out.new) × (X.refusals out.old ≤ X.refusals out.new) };
 
     /// As `begin`, by a statement of your own.
@@ -130,11 +141,14 @@ pub trait PoolBegin<DB: Database, H: Ledger, L: Loans> {
         clock: &mut K,
         client: u32,
         out: &mut X,
-        tally: &mut Tally<L>,
+        tally: &mut S::Tally,
         statement: SqlStr,
-    ) -> Result<Transaction<DB, PoolConnection<DB, H, L>>, BeginRefused<DB, H, L>>
+    ) -> Result<
+        Transaction<DB, PoolConnectionOf<DB::Connection, DB::Options, S>>,
+        BeginRefusedOf<PoolConnectionOf<DB::Connection, DB::Options, S>>,
+    >
         ensures begins { BeginsLent DB.TransactionManager.does DB.Connection.levels DB.Connection.faults (λ lent. lent.raw) (IsPollRefusal (X.faults out.old) (X.faults out.new)) (Some statement) result }
-        ensures tally { CountsIf (was_lent result) tally.old tally.new }
+        ensures tally { CountsIf (was_lent result) (S.Tally.counted tally.old) (S.Tally.counted tally.new) }
         ensures counts { (X.faults out.old ≤ X.faults out.new) × (X.refusals out.old ≤ X.refusals out.new) };
 
     /// Begins a transaction on the first idle connection, past the line and without a test, where `try_acquire` lends
@@ -145,10 +159,13 @@ pub trait PoolBegin<DB: Database, H: Ledger, L: Loans> {
         alloc: Global,
         now: Moment,
         client: u32,
-        tally: &mut Tally<L>,
-    ) -> Result<Option<Transaction<DB, PoolConnection<DB, H, L>>>, BeginRefused<DB, H, L>>
+        tally: &mut S::Tally,
+    ) -> Result<
+        Option<Transaction<DB, PoolConnectionOf<DB::Connection, DB::Options, S>>>,
+        BeginRefusedOf<PoolConnectionOf<DB::Connection, DB::Options, S>>,
+    >
         ensures begins { Begins DB.TransactionManager.does DB.Connection.levels DB.Connection.faults (λ lent. lent.raw) MayRefuseTry None result }
-        ensures tally { CountsIf (has_lent result) tally.old tally.new };
+        ensures tally { CountsIf (has_lent result) (S.Tally.counted tally.old) (S.Tally.counted tally.new) };
 
     /// As `try_begin`, by a statement of your own.
     fn try_begin_with<R: Wait>(
@@ -157,15 +174,18 @@ pub trait PoolBegin<DB: Database, H: Ledger, L: Loans> {
         alloc: Global,
         now: Moment,
         client: u32,
-        tally: &mut Tally<L>,
+        tally: &mut S::Tally,
         statement: SqlStr,
-    ) -> Result<Option<Transaction<DB, PoolConnection<DB, H, L>>>, BeginRefused<DB, H, L>>
+    ) -> Result<
+        Option<Transaction<DB, PoolConnectionOf<DB::Connection, DB::Options, S>>>,
+        BeginRefusedOf<PoolConnectionOf<DB::Connection, DB::Options, S>>,
+    >
         ensures begins { Begins DB.TransactionManager.does DB.Connection.levels DB.Connection.faults (λ lent. lent.raw) MayRefuseTry (Some statement) result }
-        ensures tally { CountsIf (has_lent result) tally.old tally.new };
+        ensures tally { CountsIf (has_lent result) (S.Tally.counted tally.old) (S.Tally.counted tally.new) };
 }
 
-impl<DB: Database, H: Ledger, L: Loans> PoolBegin<DB, H, L>
-    for PoolOf<DB::Connection, DB::Options, H, L>
+impl<DB: Database, S: PoolSteps<DB::Connection, DB::Options>> PoolBegin<DB, S>
+    for PoolOf<DB::Connection, DB::Options, S>
 where
     DB::Connection: Drop,
 {
@@ -176,9 +196,12 @@ where
         clock: &mut K,
         client: u32,
         out: &mut X,
-        tally: &mut Tally<L>,
-    ) -> Result<Transaction<DB, PoolConnection<DB, H, L>>, BeginRefused<DB, H, L>> {
-        begin_by::<DB, H, L, R, K, X>(self, rt, alloc, clock, client, out, tally, None)
+        tally: &mut S::Tally,
+    ) -> Result<
+        Transaction<DB, PoolConnectionOf<DB::Connection, DB::Options, S>>,
+        BeginRefusedOf<PoolConnectionOf<DB::Connection, DB::Options, S>>,
+    > {
+        begin_by::<DB, S, R, K, X>(self, rt, alloc, clock, client, out, tally, None)
     }
 
     fn begin_with<R: Wait, K: Clock, X: Outside<DB::Connection, DB::Options>>(
@@ -188,10 +211,13 @@ where
         clock: &mut K,
         client: u32,
         out: &mut X,
-        tally: &mut Tally<L>,
+        tally: &mut S::Tally,
         statement: SqlStr,
-    ) -> Result<Transaction<DB, PoolConnection<DB, H, L>>, BeginRefused<DB, H, L>> {
-        begin_by::<DB, H, L, R, K, X>(self, rt, alloc, clock, client, out, tally, Some(statement))
+    ) -> Result<
+        Transaction<DB, PoolConnectionOf<DB::Connection, DB::Options, S>>,
+        BeginRefusedOf<PoolConnectionOf<DB::Connection, DB::Options, S>>,
+    > {
+        begin_by::<DB, S, R, K, X>(self, rt, alloc, clock, client, out, tally, Some(statement))
     }
 
     fn try_begin<R: Wait>(
@@ -200,9 +226,12 @@ where
         alloc: Global,
         now: Moment,
         client: u32,
-        tally: &mut Tally<L>,
-    ) -> Result<Option<Transaction<DB, PoolConnection<DB, H, L>>>, BeginRefused<DB, H, L>> {
-        try_begin_by::<DB, H, L, R>(self, rt, alloc, now, client, tally, None)
+        tally: &mut S::Tally,
+    ) -> Result<
+        Option<Transaction<DB, PoolConnectionOf<DB::Connection, DB::Options, S>>>,
+        BeginRefusedOf<PoolConnectionOf<DB::Connection, DB::Options, S>>,
+    > {
+        try_begin_by::<DB, S, R>(self, rt, alloc, now, client, tally, None)
     }
 
     fn try_begin_with<R: Wait>(
@@ -211,9 +240,12 @@ where
         alloc: Global,
         now: Moment,
         client: u32,
-        tally: &mut Tally<L>,
+        tally: &mut S::Tally,
         statement: SqlStr,
-    ) -> Result<Option<Transaction<DB, PoolConnection<DB, H, L>>>, BeginRefused<DB, H, L>> {
-        try_begin_by::<DB, H, L, R>(self, rt, alloc, now, client, tally, Some(statement))
+    ) -> Result<
+        Option<Transaction<DB, PoolConnectionOf<DB::Connection, DB::Options, S>>>,
+        BeginRefusedOf<PoolConnectionOf<DB::Connection, DB::Options, S>>,
+    > {
+        try_begin_by::<DB, S, R>(self, rt, alloc, now, client, tally, Some(statement))
     }
 }

@@ -2,24 +2,20 @@
 
 ghost use Rattle.std.specs.Prelude.{◌≡◌, ◌^◌};
 
-use crate::stood::Stood;
-use sqlx_pool_history::Opened;
-use sqlx_text::Depth;
-use std::alloc::Global;
-use std::sync::Arc;
+use sqlx_pool_history::{Chained, Opened};
 use std::sync::ledger::Blank;
 
-/// The ledgers of the connections that are held and of the loans, of 2^32 parts each, and the history of the states of a
-/// pool: each is new, and none has its name yet. `H` and `L` of the pool that is made with them name them.
-pub struct BlanksOf<C: Depth, O> {
+/// The ledgers of the connections that are held and of the loans, of 2^32 parts each, and the history of the states `T` of
+/// a pool or a family: each is new, and none has its name yet. The types of the pool that is made with them name them.
+pub struct BlanksOf<T: Chained> {
     pub(crate) held: Blank,
     pub(crate) loans: Blank,
-    pub(crate) opened: Opened<Stood<C, Arc<O, Global>>>,
+    pub(crate) opened: Opened<T>,
     pub ghost held_parts: { held.parts ≡ 2 ^ 32 },
     pub ghost loan_parts: { loans.parts ≡ 2 ^ 32 },
 }
 
-impl<C: Depth, O> Drop for BlanksOf<C, O> {
+impl<T: Chained> Drop for BlanksOf<T> {
     fn drop(self) {
         let BlanksOf {
             held,
@@ -32,7 +28,7 @@ impl<C: Depth, O> Drop for BlanksOf<C, O> {
     }
 }
 
-impl<C: Depth, O> BlanksOf<C, O> {
+impl<T: Chained> BlanksOf<T> {
     /// New ones.
     pub fn new() -> Self {
         BlanksOf {
@@ -43,7 +39,7 @@ impl<C: Depth, O> BlanksOf<C, O> {
     }
 
     // The ledgers of the connections that are held and of the loans, and the history.
-    pub(crate) fn into_parts(self) -> (Blank, Blank, Opened<Stood<C, Arc<O, Global>>>)
+    pub(crate) fn into_parts(self) -> (Blank, Blank, Opened<T>)
         ensures held { (result.0 ≡ self.held) × (result.0.parts ≡ 2 ^ 32) }
         ensures loans { (result.1 ≡ self.loans) × (result.1.parts ≡ 2 ^ 32) }
         ensures opened { result.2 ≡ self.opened }

@@ -2,14 +2,14 @@
 
 ghost use Rattle.std.specs.Prelude.{◌≡◌, not, true};
 ghost use mathlib.Core.List.{IsPrefix};
-ghost use Rattle.sqlx_pool_marks.specs.Marks.{is_open};
+ghost use Rattle.sqlx_pool.specs.Calls as call;
 ghost use Rattle.sqlx_pool.specs.Seen.{HasSeen, Sees, Watched};
 
+use crate::PoolOf;
+use crate::steps::PoolSteps;
 use crate::stood::FrontOf;
-use crate::{Loans, PoolOf};
 use sqlx_text::{Depth, Error};
 use std::sync::Wait;
-use std::sync::ledger::Ledger;
 
 /// A piece of work that is polled until it has its output.
 pub trait Step {
@@ -20,16 +20,27 @@ pub trait Step {
 }
 
 /// What tells that a pool is closed. It keeps what it has seen of the pool.
-#[derive(Drop)]
-pub struct CloseEventOf<C: Depth, O, H: Ledger, L: Loans> {
-    pub(crate) pool: PoolOf<C, O, H, L>,
-    front: FrontOf<C, O, L>,
+pub struct CloseEventOf<C: Depth, O, S: PoolSteps<C, O>> {
+    pub(crate) pool: PoolOf<C, O, S>,
+    front: FrontOf<C, O, S>,
     // `do_until` was called.
     begun: bool,
 }
 
-impl<C: Depth + Drop, O: Drop, H: Ledger, L: Loans> CloseEventOf<C, O, H, L> {
-    pub(crate) fn new(pool: PoolOf<C, O, H, L>) -> Self
+impl<C: Depth + Drop, O: Drop, S: PoolSteps<C, O>> Drop for CloseEventOf<C, O, S> {
+    fn drop(self) {
+        let CloseEventOf {
+            pool,
+            front,
+            begun: _,
+        } = self;
+        drop(pool);
+        drop(front);
+    }
+}
+
+impl<C: Depth + Drop, O: Drop, S: PoolSteps<C, O>> CloseEventOf<C, O, S> {
+    pub(crate) fn new(pool: PoolOf<C, O, S>) -> Self
         ensures { result.pool ≡ pool }
     {
         let front = pool.front();
@@ -42,7 +53,7 @@ impl<C: Depth + Drop, O: Drop, H: Ledger, L: Loans> CloseEventOf<C, O, H, L> {
 
     /// Whether the pool is closed.
     pub fn poll<R: Wait>(&mut self, rt: &R) -> bool
-        ensures saw { Sees C.levels L.max L.cuts self.old.front self.new.front (λ state. is_open state.marks ≡ not result) }
+        ensures saw { Sees S.stands self.old.front self.new.front (S.tells (call.IsClosed self.old.pool.shared.value.name result)) }
         ensures same { (self.new.pool ≡ self.old.pool) × (self.new.begun ≡ self.old.begun) }
     {
         self.pool.is_closed_seen(rt, &mut self.front)
@@ -55,8 +66,9 @@ impl<C: Depth + Drop, O: Drop, H: Ledger, L: Loans> CloseEventOf<C, O, H, L> {
 
     // Whether the first call has found the pool closed; each other call asks nothing.
     fn is_closed_at_first<R: Wait>(&mut self, rt: &R) -> bool
+        ensures same { self.new.pool ≡ self.old.pool }
         ensures later { IsPrefix self.old.front self.new.front }
-        ensures saw { result ≡ true → Sees C.levels L.max L.cuts self.old.front self.new.front (λ state. is_open state.marks ≡ not result) }
+        ensures saw { result ≡ true → Sees S.stands self.old.front self.new.front (S.tells (call.IsClosed self.old.pool.shared.value.name result)) }
     {
         if self.begun {
             return false;
@@ -67,12 +79,12 @@ impl<C: Depth + Drop, O: Drop, H: Ledger, L: Loans> CloseEventOf<C, O, H, L> {
 
     /// Polls the step, and then the pool: the step's output, else `PoolClosed` where the pool is closed, else None. The
     /// first call asks the pool first.
-    pub fn do_until<R: Wait, S: Step>(
+    pub fn do_until<R: Wait, W: Step>(
         &mut self,
         rt: &R,
-        step: &mut S,
-    ) -> Option<Result<S::Output, Error>>
-        ensures { Watched (λ opened. HasSeen C.levels L.max L.cuts self.old.front self.new.front (λ state. is_open state.marks ≡ opened)) result }
+        step: &mut W,
+    ) -> Option<Result<W::Output, Error>>
+        ensures { Watched (λ opened. HasSeen S.stands self.old.front self.new.front (S.tells (call.IsClosed self.old.pool.shared.value.name (not opened)))) result }
     {
         if self.is_closed_at_first(rt) {
             return Some(Err(Error::PoolClosed));

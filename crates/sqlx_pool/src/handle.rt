@@ -7,30 +7,30 @@ ghost use Rattle.sqlx_pool.specs.Refusals.{IsPollRefusal};
 
 mod executor;
 
-use crate::{Acquire, Clock, Loans, PoolConnection, PoolConnectionOf, PoolOf, Tally};
+use crate::steps::PoolSteps;
+use crate::{Acquire, Clock, PoolConnectionOf, PoolOf};
 use sqlx_pool_core::Outside;
 use sqlx_text::{Depth, Error};
 use sqlx_traits::{Database, Faults};
 use std::alloc::Global;
 use std::sync::Wait;
-use std::sync::ledger::Ledger;
 
 /// A pool, with all that a call of it takes: what tells the time, the outside, and the tally of its loans. Each call as an
 /// executor waits for a connection, makes one call on it and returns it.
 #[derive(Drop)]
-pub struct PoolHandle<'p, P, L: Loans, R, K, X> {
+pub struct PoolHandle<'p, P, T, R, K, X> {
     pool: &'p P,
     rt: R,
     clock: K,
     client: u32,
     out: X,
-    tally: Tally<L>,
+    tally: T,
     // How many calls were made of it.
     calls: u64,
 }
 
 /// A pool that serves as an executor.
-pub trait PoolExecutor<L: Loans>: Sized {
+pub trait PoolExecutor<T>: Sized {
     /// The pool as an executor, for a client. In sqlx: `&pool`.
     final fn with<'p, R: Wait, K: Clock, X>(
         &'p self,
@@ -38,8 +38,8 @@ pub trait PoolExecutor<L: Loans>: Sized {
         clock: K,
         client: u32,
         out: X,
-        tally: Tally<L>,
-    ) -> PoolHandle<'p, Self, L, R, K, X>
+        tally: T,
+    ) -> PoolHandle<'p, Self, T, R, K, X>
         ensures clock { result.clock ≡ clock }
         ensures out { result.out ≡ out }
         ensures tally { result.tally ≡ tally }
@@ -56,9 +56,9 @@ pub trait PoolExecutor<L: Loans>: Sized {
     }
 }
 
-impl<C: Depth, O, H: Ledger, L: Loans> PoolExecutor<L> for PoolOf<C, O, H, L> {}
+impl<C: Depth, O, S: PoolSteps<C, O>> PoolExecutor<S::Tally> for PoolOf<C, O, S> {}
 
-impl<'p, P, L: Loans, R, K, X> Faults for PoolHandle<'p, P, L, R, K, X> {
+impl<'p, P, T, R, K, X> Faults for PoolHandle<'p, P, T, R, K, X> {
     ghost faults = { λ handle. handle.calls };
 }
 
@@ -66,14 +66,13 @@ impl<
     'p,
     C: Depth + Drop,
     O: Drop,
-    H: Ledger,
-    L: Loans,
+    S: PoolSteps<C, O>,
     R: Wait + Drop,
     K: Clock,
     X: Outside<C, O>,
-> PoolHandle<'p, PoolOf<C, O, H, L>, L, R, K, X> {
+> PoolHandle<'p, PoolOf<C, O, S>, S::Tally, R, K, X> {
     /// What tells the time, the outside, and the tally with the loans that were made.
-    pub fn into_parts(self) -> (K, X, Tally<L>)
+    pub fn into_parts(self) -> (K, X, S::Tally)
         ensures clock { result.0 ≡ self.entry.clock }
         ensures out { result.1 ≡ self.entry.out }
         ensures tally { result.2 ≡ self.entry.tally }
@@ -92,9 +91,9 @@ impl<
     }
 
     // Waits for a connection. Each call is counted, since it may be refused.
-    fn lend(&mut self, alloc: Global) -> Result<PoolConnectionOf<C, O, H, L>, Error>
-        ensures lent { OnOk result (CountsIf true self.old.tally self.new.tally) }
-        ensures refused { OnErr result (self.new.tally ≡ self.old.tally) }
+    fn lend(&mut self, alloc: Global) -> Result<PoolConnectionOf<C, O, S>, Error>
+        ensures lent { OnOk result (CountsIf true (S.Tally.counted self.old.tally) (S.Tally.counted self.new.tally)) }
+        ensures refused { OnErr result (S.Tally.counted self.new.tally ≡ S.Tally.counted self.old.tally) }
         ensures flat { IfOk result (λ conn. C.levels conn.raw ≡ 0) }
         ensures causes { IfErr result (IsPollRefusal (X.faults self.old.out) (X.faults self.new.out)) }
         ensures counted { HasRisen self.old.calls self.new.calls }
@@ -112,8 +111,8 @@ impl<
     }
 
     // Returns a connection.
-    fn give_back(&mut self, alloc: Global, conn: PoolConnectionOf<C, O, H, L>)
-        ensures tally { self.new.tally ≡ self.old.tally }
+    fn give_back(&mut self, alloc: Global, conn: PoolConnectionOf<C, O, S>)
+        ensures tally { S.Tally.counted self.new.tally ≡ S.Tally.counted self.old.tally }
         ensures calls { self.new.calls ≡ self.old.calls }
     {
         let now = self.clock.now();
@@ -125,22 +124,24 @@ impl<
     'h,
     'p,
     DB: Database,
-    H: Ledger,
-    L: Loans,
+    S: PoolSteps<DB::Connection, DB::Options>,
     R: Wait + Drop,
     K: Clock,
     X: Outside<DB::Connection, DB::Options>,
-> Acquire<DB> for &'h mut PoolHandle<'p, PoolOf<DB::Connection, DB::Options, H, L>, L, R, K, X>
+> Acquire<DB> for &'h mut PoolHandle<'p, PoolOf<DB::Connection, DB::Options, S>, S::Tally, R, K, X>
 where
     DB::Connection: Drop,
 {
-    type Holder = PoolConnection<DB, H, L>;
+    type Holder = PoolConnectionOf<DB::Connection, DB::Options, S>;
 
     ghost use Rattle.sqlx_pool.specs.Handle.{Lends};
 
     ghost acquires = { λ handle result. Lends DB.Connection.levels (λ lent. lent.raw) (X.faults handle.now.out) result };
 
-    fn acquire(self, alloc: Global) -> Result<PoolConnection<DB, H, L>, Error> {
+    fn acquire(
+        self,
+        alloc: Global,
+    ) -> Result<PoolConnectionOf<DB::Connection, DB::Options, S>, Error> {
         self.lend(alloc)
     }
 }

@@ -1,12 +1,12 @@
 //! A pool's connection holds its connection, as a transaction wants it.
 
-use crate::{Loans, PoolConnectionOf};
+use crate::PoolConnectionOf;
+use crate::steps::PoolSteps;
 use sqlx_traits::Database;
 use sqlx_tx::Hold;
-use std::sync::ledger::Ledger;
 
-impl<DB: Database, H: Ledger, L: Loans> Hold<DB>
-    for PoolConnectionOf<DB::Connection, DB::Options, H, L> {
+impl<DB: Database, S: PoolSteps<DB::Connection, DB::Options>> Hold<DB>
+    for PoolConnectionOf<DB::Connection, DB::Options, S> {
     ghost use Rattle.std.specs.Prelude.{refl};
 
     ghost held = { λ holder. holder.raw };

@@ -1,118 +1,178 @@
-//! The pool that threads share: a handle on one locked value. Each call takes the lock for one step at a time.
+//! The pool that threads share: a handle on one pool of a locked value. Each call takes the lock for one step at a time.
 
-ghost use Rattle.std.specs.Prelude.{◌≡◌, ℕ, ◌+◌, ◌^◌, ◌<◌, ◌≤◌, List, [], ◌++◌, true, false, is_some, IfOk, IfErr, IfSome, OnErr};
-ghost use Rattle.sqlx_pool_marks.specs.FairLog.{IsFair};
-ghost use Rattle.sqlx_pool_lists.specs.Balance.{lents};
+ghost use Rattle.std.specs.Prelude.{◌≡◌, ℕ, ◌≤◌, true, is_some, Ok, IfOk, IfErr, IfSome, OnErr};
 ghost use Rattle.sqlx_pool_parts.specs.Booked.{CountsIf};
 ghost use Rattle.sqlx_pool_parts.specs.Opened.{IsOpenable};
-ghost use Rattle.sqlx_pool_parts.specs.MarkLog.{IsUncut};
 ghost use Rattle.sqlx_pool.specs.Refusals.{MayRefuseAsk, MayRefuseTry};
 
+mod families;
 mod first;
 mod maintenance;
 mod polls;
 mod seen;
 mod steps;
 
+use crate::blanks::BlanksOf;
 use crate::kept::Kept;
+use crate::steps::{PoolSteps, Wakes};
 use crate::stood::FrontOf;
-use crate::{AcquiringOf, BlanksOf, CloseEventOf, Loans, Locked, MarkLog, PoolConnectionOf, Tally};
+use crate::{AcquiringOf, CloseEventOf, PoolConnectionOf};
 use sqlx_pool_core::{CloseState, PoolOptions};
 use sqlx_pool_parts::sleepers::Sleepers;
 use sqlx_text::{Depth, Error, Moment, OutOfMemory};
 use std::alloc::Global;
 use std::sync::atomic::AtomicBool;
-use std::sync::ledger::Ledger;
 use std::sync::{Arc, Mutex, MutexGuard, Wait};
 
-// What the handles of a pool share: what lies under its lock, and how the pool was set up.
-#[derive(Drop)]
-pub(crate) struct Shared<C: Depth, O, H: Ledger, L: Loans> {
-    pub(crate) kept: Mutex<Kept<C, Arc<O, Global>, H, L>>,
-    // The front of one that has seen nothing yet.
-    unseen: FrontOf<C, O, L>,
-    // Where those sleep that wait for their turn.
+// What all handles of a lone pool, or of a family, share: what lies under the lock.
+pub(crate) struct All<C: Depth, O, S: PoolSteps<C, O>> {
+    pub(crate) kept: Mutex<Kept<C, O, S>>,
+    // Where those sleep that wait for their turn, in whichever pool.
     pub(crate) sleepers: Sleepers,
-    // The pool was closed by `close`.
+    // Some pool was closed by `close`.
     pub(crate) closed: AtomicBool,
+}
+
+impl<C: Depth + Drop, O: Drop, S: PoolSteps<C, O>> Drop for All<C, O, S> {
+    fn drop(self) {
+        let All {
+            kept,
+            sleepers,
+            closed,
+        } = self;
+        drop(kept);
+        drop(sleepers);
+        drop(closed);
+    }
+}
+
+// What the handles of one pool share: what lies under the lock, which of its pools it is, and how that was set up.
+pub(crate) struct Shared<C: Depth, O, S: PoolSteps<C, O>> {
+    pub(crate) all: Arc<All<C, O, S>, Global>,
+    pub(crate) name: S::Name,
+    // The front of one that has seen nothing yet.
+    unseen: FrontOf<C, O, S>,
     pub(crate) options: PoolOptions,
 }
 
-// What is under the lock, while it is held.
-pub(crate) type Guard<'a, C, O, H, L> = MutexGuard<'a, Kept<C, Arc<O, Global>, H, L>>;
-
-/// A pool of connections of the type `C`, which are opened by options of the type `O`. Handles on it go into as many
-/// threads as need be.
-pub struct PoolOf<C: Depth, O, H: Ledger, L: Loans> {
-    pub(crate) shared: Arc<Shared<C, O, H, L>, Global>,
+impl<C: Depth + Drop, O: Drop, S: PoolSteps<C, O>> Drop for Shared<C, O, S> {
+    fn drop(self) {
+        let Shared {
+            all,
+            name: _,
+            unseen,
+            options: _,
+        } = self;
+        drop(all);
+        drop(unseen);
+    }
 }
 
-impl<C: Depth + Drop, O: Drop, H: Ledger, L: Loans> Drop for PoolOf<C, O, H, L> {
+// What is under the lock, while it is held.
+pub(crate) type Guard<'a, C, O, S> = MutexGuard<'a, Kept<C, O, S>>;
+
+/// A pool of connections of the type `C`, which are opened by options of the type `O`: a lone one, or one of a family, as
+/// `S` has its steps. Handles on it go into as many threads as need be.
+pub struct PoolOf<C: Depth, O, S: PoolSteps<C, O>> {
+    pub(crate) shared: Arc<Shared<C, O, S>, Global>,
+}
+
+impl<C: Depth + Drop, O: Drop, S: PoolSteps<C, O>> Drop for PoolOf<C, O, S> {
     fn drop(self) {
         let PoolOf { shared } = self;
         drop(shared);
     }
 }
 
-impl<C: Depth + Drop, O: Drop, H: Ledger, L: Loans> PoolOf<C, O, H, L> {
+impl<C: Depth + Drop, O: Drop, S: PoolSteps<C, O>> PoolOf<C, O, S> {
     // A pool with no connection yet, and the tally of its loans with every part.
     pub(crate) fn new(
         alloc: Global,
         options: PoolOptions,
         connect: O,
-        blanks: BlanksOf<C, O>,
-    ) -> Result<(Self, Tally<L>), OutOfMemory>
-        requires options { IsOpenable options L.max }
-        requires blanks { (blanks.held.name ≡ H.name) × (H.parts ≡ 2 ^ 32) × (blanks.loans.name ≡ L.name) × (L.parts ≡ 2 ^ 32) × (blanks.opened.seen.book ≡ L.book) }
+        blanks: BlanksOf<S::Stood>,
+    ) -> Result<(Self, S::Tally), OutOfMemory>
+        requires options { IsOpenable options S.max }
+        requires blanks { S.ledgers blanks.held.name blanks.loans.name × (blanks.opened.seen.book ≡ S.Book.book) }
+        ensures root { IfOk result (λ made. S.is_root made.0.shared.value.name) }
         ensures options { IfOk result (λ made. made.0.shared.value.options ≡ options) }
-        ensures tally { IfOk result (λ made. made.1 ≡ record { parts = L.parts; loans = 0 }) }
+        ensures tally { IfOk result (λ made. S.Tally.counted made.1 ≡ record { parts = S.parts; loans = 0 }) }
     {
         let Ok(connect) = Arc::new(alloc, connect) else {
             return Err(OutOfMemory);
         };
         let (held, loans, opened) = blanks.into_parts();
-        let (locked, tally) = Locked::new(alloc, options, connect, held, loans)?;
+        let (locked, tally) = S::open(alloc, options, connect, held, loans)?;
         let kept = Kept::new(locked, opened);
         let unseen = kept.front();
-        let shared = Shared {
+        let all = All {
             kept: Mutex::new(kept),
-            unseen,
             sleepers: Sleepers::new(),
             closed: AtomicBool::new(false),
+        };
+        let Ok(all) = Arc::new(alloc, all) else {
+            return Err(OutOfMemory);
+        };
+        let pool = PoolOf::over(alloc, all, S::first_name(), unseen, options)?;
+        Ok((pool, tally))
+    }
+
+    // The pool of this name.
+    fn over(
+        alloc: Global,
+        all: Arc<All<C, O, S>, Global>,
+        name: S::Name,
+        unseen: FrontOf<C, O, S>,
+        options: PoolOptions,
+    ) -> Result<Self, OutOfMemory>
+        ensures name { IfOk result (λ made. made.shared.value.name ≡ name) }
+        ensures options { IfOk result (λ made. made.shared.value.options ≡ options) }
+    {
+        let shared = Shared {
+            all,
+            name,
+            unseen,
             options,
         };
         match Arc::new(alloc, shared) {
-            Ok(shared) => Ok((PoolOf { shared }, tally)),
+            Ok(shared) => Ok(PoolOf { shared }),
             Err(_) => Err(OutOfMemory),
         }
     }
 
     // Takes the lock.
-    pub(crate) fn lock<R: Wait>(&self, rt: &R) -> Guard<'_, C, O, H, L> {
-        self.shared.kept.lock(rt)
+    pub(crate) fn lock<R: Wait>(&self, rt: &R) -> Guard<'_, C, O, S> {
+        self.shared.all.kept.lock(rt)
     }
 
     // Takes the lock, and cuts the log where it is long: before each step that reserves room for marks.
-    pub(crate) fn lock_and_cut<R: Wait>(&self, rt: &R) -> Guard<'_, C, O, H, L> {
+    pub(crate) fn lock_and_cut<R: Wait>(&self, rt: &R) -> Guard<'_, C, O, S> {
         let mut guard = self.lock(rt);
-        guard.cut_if_long(rt);
+        guard.cut_if_long(rt, self.shared.name);
         guard
     }
 
-    // Lets the lock go behind a step of a client that waits for nothing, and wakes the ticket that became entitled, if
-    // one did. A step that frees no permit for anybody wakes nobody.
-    pub(crate) fn unlock(&self, guard: Guard<'_, C, O, H, L>) {
+    // Lets the lock go behind a step of a client that waits for nothing, and wakes whom it may have let go on. A step
+    // that frees no permit for anybody wakes nobody.
+    pub(crate) fn unlock(&self, guard: Guard<'_, C, O, S>) {
         let mut guard = guard;
-        let entitled = guard.entitled();
+        let wakes = guard.wakes();
         drop(guard);
-        if let Some(ticket) = entitled {
-            self.shared.sleepers.call(ticket);
+        self.wake(wakes);
+    }
+
+    // Wakes those that may go on.
+    pub(crate) fn wake(&self, wakes: Wakes) {
+        match wakes {
+            Wakes::Nobody => {}
+            Wakes::One(ticket) => self.shared.all.sleepers.call(ticket),
+            Wakes::All => self.notify(),
         }
     }
 
-    // Wakes all that wait for their turn: after a step that closes the pool, or of which nobody asked whom it entitled.
+    // Wakes all that wait for their turn: after a step that closes the pool, or of which nobody asked whom it let go on.
     pub(crate) fn notify(&self) {
-        self.shared.sleepers.call_all();
+        self.shared.all.sleepers.call_all();
     }
 
     /// Another handle on the same pool. In sqlx: `clone`.
@@ -127,7 +187,7 @@ impl<C: Depth + Drop, O: Drop, H: Ledger, L: Loans> PoolOf<C, O, H, L> {
 
     /// The front of a caller who has seen nothing of the pool yet. Each call that ends in `_seen` is handed such a front,
     /// which then ends with the state of which the call tells: what the front had seen before is the beginning.
-    pub fn front(&self) -> FrontOf<C, O, L>
+    pub fn front(&self) -> FrontOf<C, O, S>
         ensures { result ≡ self.now.shared.value.unseen }
     {
         self.shared.unseen.again()
@@ -140,7 +200,7 @@ impl<C: Depth + Drop, O: Drop, H: Ledger, L: Loans> PoolOf<C, O, H, L> {
         alloc: Global,
         now: Moment,
         client: u32,
-    ) -> Result<AcquiringOf<C, O, H, L>, Error>
+    ) -> Result<AcquiringOf<C, O, S>, Error>
         ensures asked { IfOk result (λ waits. waits.client ≡ client) }
         ensures refused { IfErr result MayRefuseAsk }
     {
@@ -155,26 +215,26 @@ impl<C: Depth + Drop, O: Drop, H: Ledger, L: Loans> PoolOf<C, O, H, L> {
         alloc: Global,
         now: Moment,
         client: u32,
-        tally: &mut Tally<L>,
-    ) -> Result<Option<PoolConnectionOf<C, O, H, L>>, Error>
-        ensures tally { IfOk result (λ lent. CountsIf (is_some lent) tally.old tally.new) }
+        tally: &mut S::Tally,
+    ) -> Result<Option<PoolConnectionOf<C, O, S>>, Error>
+        ensures tally { IfOk result (λ lent. CountsIf (is_some lent) (S.Tally.counted tally.old) (S.Tally.counted tally.new)) }
         ensures flat { IfOk result (λ lent. IfSome lent (λ conn. C.levels conn.raw ≡ 0)) }
         ensures refused { IfErr result MayRefuseTry }
-        ensures err { OnErr result (tally.new ≡ tally.old) }
+        ensures err { OnErr result (S.Tally.counted tally.new ≡ S.Tally.counted tally.old) }
     {
         self.try_acquire_seen(rt, alloc, now, client, tally, &mut self.front())
     }
 
     /// How many connections there are or may be: at most the maximum.
     pub fn size<R: Wait>(&self, rt: &R) -> u32
-        ensures { result ≤ L.max }
+        ensures { result ≤ S.max }
     {
         self.size_seen(rt, &mut self.front())
     }
 
     /// How many connections are idle: at most the maximum.
     pub fn num_idle<R: Wait>(&self, rt: &R) -> usize
-        ensures { result ≤ L.max }
+        ensures { result ≤ S.max }
     {
         self.num_idle_seen(rt, &mut self.front())
     }
@@ -190,7 +250,7 @@ impl<C: Depth + Drop, O: Drop, H: Ledger, L: Loans> PoolOf<C, O, H, L> {
     }
 
     /// What tells that the pool is closed.
-    pub fn close_event(&self) -> Result<CloseEventOf<C, O, H, L>, OutOfMemory>
+    pub fn close_event(&self) -> Result<CloseEventOf<C, O, S>, OutOfMemory>
         ensures { IfOk result (λ event. event.pool.shared.value ≡ self.now.shared.value) }
     {
         match self.try_clone() {
@@ -206,7 +266,7 @@ impl<C: Depth + Drop, O: Drop, H: Ledger, L: Loans> PoolOf<C, O, H, L> {
         &self.shared.options
     }
 
-    /// The options by which connections are opened.
+    /// The options by which connections are opened, in whichever pool of a family.
     pub fn connect_options<R: Wait>(&self, rt: &R) -> Result<Arc<O, Global>, OutOfMemory> {
         let guard = self.lock(rt);
         match Arc::try_clone(guard.locked().connect_options()) {
@@ -215,7 +275,7 @@ impl<C: Depth + Drop, O: Drop, H: Ledger, L: Loans> PoolOf<C, O, H, L> {
         }
     }
 
-    /// Sets the options by which connections are opened from now on.
+    /// Sets the options by which connections are opened from now on, in whichever pool of a family.
     pub fn set_connect_options<R: Wait>(
         &self,
         rt: &R,
@@ -238,40 +298,37 @@ impl<C: Depth + Drop, O: Drop, H: Ledger, L: Loans> PoolOf<C, O, H, L> {
     /// Cuts the log: the marks that later ones still look at become its start, and the others are forgotten. It takes no
     /// memory, and gives none back: what it frees is room for the marks of later steps.
     pub fn cut_log<R: Wait>(&self, rt: &R)
-        requires { L.cuts ≡ true }
+        requires { S.cuts ≡ true }
     {
-        self.lock(rt).cut(rt);
+        self.lock(rt).cut(rt, self.shared.name);
     }
 
     /// Sets that the pool cuts its log by itself, before a step that reserves room for marks, where behind the start there
     /// are at least so many marks, and as many as the start has. None, as at first: it doesn't.
     pub fn set_log_limit<R: Wait>(&self, rt: &R, limit: Option<usize>)
-        requires { L.cuts ≡ true }
+        requires { S.cuts ≡ true }
     {
-        self.lock(rt).set_log_limit(rt, limit);
+        self.lock(rt).set_log_limit(rt, self.shared.name, limit);
     }
 
-    /// A copy of the log: fair behind its start, for a pool of this maximum. The start is empty where the log may not be
-    /// cut.
-    pub fn read_log<R: Wait>(&self, rt: &R, alloc: Global) -> Result<MarkLog, OutOfMemory>
-        ensures start { IfOk result (λ log. L.cuts ≡ false → IsUncut log) }
-        ensures fair { IfOk result (λ log. IsFair L.max log.start.items log.marks.items) }
+    /// A copy of the log: of a lone pool it is fair behind its start for a pool of this maximum, of one of a family it comes
+    /// beside the pool's maximum and is safe for that. The start is empty where logs may not be cut.
+    pub fn read_log<R: Wait>(&self, rt: &R, alloc: Global) -> Result<S::Log, OutOfMemory>
+        ensures { IfOk result (λ log. S.is_log log) }
     {
         self.read_log_seen(rt, alloc, &mut self.front())
     }
 
-    /// As `read_log`, by the tally with every part: the log has as many `Lent` marks as that has counted loans, however
-    /// many threads made them.
+    /// As `read_log`, by the tally with every part, and in a family the log of each pool, by the pools' names: with what cuts
+    /// forgot they have as many `Lent` marks as that has counted loans, however many threads made them.
     pub fn audit_log<R: Wait>(
         &self,
         rt: &R,
         alloc: Global,
-        all: &mut Tally<L>,
-    ) -> Result<MarkLog, OutOfMemory>
-        requires { all.old.parts ≡ L.parts }
-        ensures start { IfOk result (λ log. L.cuts ≡ false → IsUncut log) }
-        ensures fair { IfOk result (λ log. IsFair L.max log.start.items log.marks.items) }
-        ensures counted { IfOk result (λ log. log.lent_before + lents (log.start.items ++ log.marks.items) ≡ all.old.loans) }
+        all: &mut S::Tally,
+    ) -> Result<S::Logs, OutOfMemory>
+        requires { (S.Tally.counted all.old).parts ≡ S.parts }
+        ensures counted { IfOk result (λ logs. S.tells_loans logs (S.Tally.counted all.old).loans) }
         ensures same { all.new ≡ all.old }
     {
         self.lock(rt).audit(rt, alloc, all)

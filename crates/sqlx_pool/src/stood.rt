@@ -1,12 +1,11 @@
 //! The states of a pool, as they stand in its history.
 
+use crate::steps::PoolSteps;
 use crate::{Loans, Locked, LogStart};
 use sqlx_pool_core::{Mark, PoolCore};
 use sqlx_pool_history::{Chained, Front, Stands};
 use sqlx_text::Depth;
-use std::alloc::Global;
 use std::marker::Model;
-use std::sync::Arc;
 use std::sync::ledger::Ledger;
 
 /// A state in which a pool stood. It is what contracts see of `Locked`, without the names of its ledgers; no value of it
@@ -39,5 +38,6 @@ impl<C: Depth, O, H: Ledger, L: Loans> Stands<Stood<C, O>> for Locked<C, O, H, L
     ghost state = { λ locked. locked };
 }
 
-/// What a caller has seen of a pool: the states up to one in which it stood. It takes eight bytes, and no memory.
-pub type FrontOf<C, O, L> = Front<Stood<C, Arc<O, Global>>, L>;
+/// What a caller has seen of a pool, or of its family: the states up to one in which it stood. It takes eight bytes, and
+/// no memory.
+pub type FrontOf<C, O, S> = Front<<S as PoolSteps<C, O>>::Stood, <S as PoolSteps<C, O>>::Book>;

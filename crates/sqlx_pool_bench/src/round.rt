@@ -5,14 +5,14 @@ ghost use Rattle.std.specs.Prelude.{◌≡◌, ℕ, ◌+◌, ◌*◌, ◌^◌, �
 use crate::nanos;
 use crate::outside::{Conn, Opens};
 use crate::words::Words;
-use crate::worker::{Job, Part, work_off};
-use sqlx_pool::{BlanksOf, Loans, PoolConnect, PoolOf, PoolOptions, Tally};
+use crate::worker::{Job, Part, RoundPool, work_off};
+use sqlx_pool::{BlanksOf, Loans, Lone, PoolConnect, PoolOptions, Stood, Tally};
 use sqlx_text::Moment;
 use std::alloc::{AllocError, Global};
 use std::marker::Brand;
 use std::rt::Clock;
-use std::sync::Wait;
 use std::sync::ledger::Ledger;
+use std::sync::{Arc, Wait};
 use std::thread::{self, Threads};
 
 // How many marks the log of the pool has behind its start, when it is cut.
@@ -72,7 +72,7 @@ fn gather<L: Loans>(alloc: Global, parts: Vec<Part<L>>, all: &mut Tally<L>) -> V
 fn work_all<H: Ledger + Send + Sync, L: Loans + Send + Sync, R: Wait + Threads + Clock + Sync>(
     rt: &R,
     alloc: Global,
-    pool: &PoolOf<Conn, (), H, L>,
+    pool: &RoundPool<H, L>,
     words: Words,
     timed: bool,
     all: &mut Tally<L>,
@@ -103,7 +103,7 @@ fn counted<H: Ledger + Send + Sync, L: Loans + Send + Sync, R: Wait + Threads + 
     alloc: Global,
     words: Words,
     timed: bool,
-    blanks: BlanksOf<Conn, ()>,
+    blanks: BlanksOf<Stood<Conn, Arc<(), Global>>>,
 ) -> Result<Round, AllocError>
     requires workers { words.workers < 2 ^ 16 }
     requires maximum { 1 ≤ words.maximum }
@@ -116,7 +116,7 @@ fn counted<H: Ledger + Send + Sync, L: Loans + Send + Sync, R: Wait + Threads + 
         .min_connections(words.maximum)
         .test_before_acquire(false);
     let mut out = Opens;
-    let opened = options.connect_with::<Conn, (), H, L, R, Opens>(
+    let opened = options.connect_with::<Conn, (), Lone<Conn, (), H, L>, R, Opens>(
         rt,
         alloc,
         (),

@@ -4,12 +4,15 @@ ghost use Rattle.std.specs.Prelude.{◌≡◌, ◌+◌, ◌^◌, ◌<◌, ◌≤
 
 use crate::nanos;
 use crate::outside::{Conn, Opens};
-use sqlx_pool::{FixedClock, Loans, PoolOf, Tally};
+use sqlx_pool::{FixedClock, Loans, Lone, PoolOf, Tally};
 use sqlx_text::Moment;
 use std::alloc::Global;
 use std::rt::Clock;
 use std::sync::Wait;
 use std::sync::ledger::Ledger;
+
+/// A pool of a round.
+pub type RoundPool<H, L> = PoolOf<Conn, (), Lone<Conn, (), H, L>>;
 
 /// What a worker begins with.
 #[derive(Drop)]
@@ -33,7 +36,7 @@ pub struct Part<L: Loans> {
 fn one_loan<H: Ledger, L: Loans, R: Wait>(
     rt: &R,
     alloc: Global,
-    pool: &PoolOf<Conn, (), H, L>,
+    pool: &RoundPool<H, L>,
     client: u32,
     tally: &mut Tally<L>,
 )
@@ -56,7 +59,7 @@ fn one_loan<H: Ledger, L: Loans, R: Wait>(
 pub fn work_off<H: Ledger, L: Loans, R: Wait + Clock>(
     rt: &R,
     alloc: Global,
-    pool: &PoolOf<Conn, (), H, L>,
+    pool: &RoundPool<H, L>,
     loans: u32,
     timed: bool,
     job: Job<L>,

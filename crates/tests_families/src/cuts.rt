@@ -3,10 +3,11 @@
 
 ghost use Rattle.std.specs.Prelude.{◌≡◌, ◌^◌, ◌<◌, ◌≤◌, true};
 
-use crate::handles::{Conns, give, lend};
+use crate::handles::{give, lend};
 use crate::outside::{Conn, Plain};
-use sqlx_family_pool::FamilyBlanksOf;
-use sqlx_pool::{Loans, Mark, MarkLog, Step, Tally};
+use crate::setup::{ConnBlanks, Conns, root_of};
+use sqlx_family_pool::Family;
+use sqlx_pool::{BlanksOf, Loans, Mark, MarkLog, PoolConnect, Step, Tally};
 use sqlx_pool_core::{CloseState, PoolOptions};
 use sqlx_text::Moment;
 use std::alloc::Global;
@@ -63,14 +64,14 @@ fn a_loan<H: Ledger, L: Loans, R: Wait + Abort>(
 fn a_hundred<H: Ledger, L: Loans, R: Wait + Abort>(
     rt: &R,
     alloc: Global,
-    blanks: FamilyBlanksOf<Conn, ()>,
+    blanks: ConnBlanks,
 ) -> Result<(), Fail>
     requires max { L.max ≡ 2 }
     requires cuts { L.cuts ≡ true }
     requires blanks { (blanks.held.name ≡ H.name) × (H.parts ≡ 2 ^ 32) × (blanks.loans.name ≡ L.name) × (L.parts ≡ 2 ^ 32) × (blanks.opened.seen.book ≡ L.book) }
 {
     let options = PoolOptions::new().max_connections(2);
-    let (root, mut tally) = Conns::<H, L>::root(alloc, options, (), blanks)?;
+    let (root, mut tally) = root_of::<H, L>(alloc, options, blanks)?;
     let child = root.child(rt, alloc, options.max_connections(1))?;
     let mut out = Plain { closed: 0 };
     for _ in 0..50 {
@@ -91,21 +92,21 @@ fn a_hundred<H: Ledger, L: Loans, R: Wait + Abort>(
 
 #[test]
 fn logs_that_are_cut_after_each_loan(rt: HostRuntime) -> Result<(), Fail> {
-    a_hundred::<Brand, Brand, HostRuntime>(&rt, rt.alloc(), FamilyBlanksOf::new())
+    a_hundred::<Brand, Brand, HostRuntime>(&rt, rt.alloc(), BlanksOf::new())
 }
 
 // A root that cuts its log by itself, as its child doesn't: the child's log grows.
 fn by_itself<H: Ledger, L: Loans, R: Wait + Abort>(
     rt: &R,
     alloc: Global,
-    blanks: FamilyBlanksOf<Conn, ()>,
+    blanks: ConnBlanks,
 ) -> Result<(), Fail>
     requires max { L.max ≡ 2 }
     requires cuts { L.cuts ≡ true }
     requires blanks { (blanks.held.name ≡ H.name) × (H.parts ≡ 2 ^ 32) × (blanks.loans.name ≡ L.name) × (L.parts ≡ 2 ^ 32) × (blanks.opened.seen.book ≡ L.book) }
 {
     let options = PoolOptions::new().max_connections(2);
-    let (root, mut tally) = Conns::<H, L>::root(alloc, options, (), blanks)?;
+    let (root, mut tally) = root_of::<H, L>(alloc, options, blanks)?;
     let child = root.child(rt, alloc, options.max_connections(1))?;
     let mut out = Plain { closed: 0 };
     root.set_log_limit(rt, Some(60));
@@ -124,7 +125,7 @@ fn by_itself<H: Ledger, L: Loans, R: Wait + Abort>(
 
 #[test]
 fn a_root_that_cuts_its_log(rt: HostRuntime) -> Result<(), Fail> {
-    by_itself::<Brand, Brand, HostRuntime>(&rt, rt.alloc(), FamilyBlanksOf::new())
+    by_itself::<Brand, Brand, HostRuntime>(&rt, rt.alloc(), BlanksOf::new())
 }
 
 // A piece of work that is never done.
@@ -143,13 +144,13 @@ impl Step for Never {
 fn told_of<H: Ledger, L: Loans, R: Wait + Abort>(
     rt: &R,
     alloc: Global,
-    blanks: FamilyBlanksOf<Conn, ()>,
+    blanks: ConnBlanks,
 ) -> Result<(), Fail>
     requires max { L.max ≡ 2 }
     requires blanks { (blanks.held.name ≡ H.name) × (H.parts ≡ 2 ^ 32) × (blanks.loans.name ≡ L.name) × (L.parts ≡ 2 ^ 32) × (blanks.opened.seen.book ≡ L.book) }
 {
     let options = PoolOptions::new().max_connections(2);
-    let (root, mut tally) = Conns::<H, L>::root(alloc, options, (), blanks)?;
+    let (root, mut tally) = root_of::<H, L>(alloc, options, blanks)?;
     let child = root.child(rt, alloc, options)?;
     let mut out = Plain { closed: 0 };
     let mut event = child.close_event()?;
@@ -160,7 +161,7 @@ fn told_of<H: Ledger, L: Loans, R: Wait + Abort>(
         event.do_until(rt, &mut Never {}).is_none(),
         child.closing(rt),
     );
-    root.close::<R, Plain>(rt, alloc, &mut out);
+    root.close::<R, Plain>(rt, &mut out);
     let closed = (
         event.is_terminated(rt),
         event.do_until(rt, &mut Never {}).is_some(),
@@ -178,20 +179,20 @@ fn told_of<H: Ledger, L: Loans, R: Wait + Abort>(
 
 #[test]
 fn a_close_of_the_root_is_told(rt: HostRuntime) -> Result<(), Fail> {
-    told_of::<Brand, Brand, HostRuntime>(&rt, rt.alloc(), FamilyBlanksOf::new())
+    told_of::<Brand, Brand, HostRuntime>(&rt, rt.alloc(), BlanksOf::new())
 }
 
 // Two children with a budget each: one that has used its own up waits, and the other is served all the same.
 fn budgets<H: Ledger, L: Loans, R: Wait + Abort>(
     rt: &R,
     alloc: Global,
-    blanks: FamilyBlanksOf<Conn, ()>,
+    blanks: ConnBlanks,
 ) -> Result<(), Fail>
     requires max { L.max ≡ 3 }
     requires blanks { (blanks.held.name ≡ H.name) × (H.parts ≡ 2 ^ 32) × (blanks.loans.name ≡ L.name) × (L.parts ≡ 2 ^ 32) × (blanks.opened.seen.book ≡ L.book) }
 {
     let options = PoolOptions::new().max_connections(3);
-    let (root, mut tally) = Conns::<H, L>::root(alloc, options, (), blanks)?;
+    let (root, mut tally) = root_of::<H, L>(alloc, options, blanks)?;
     let first = root.child(rt, alloc, options.max_connections(1))?;
     let second = root.child(rt, alloc, options.max_connections(2))?;
     let mut out = Plain { closed: 0 };
@@ -218,24 +219,23 @@ fn budgets<H: Ledger, L: Loans, R: Wait + Abort>(
 
 #[test]
 fn two_children_with_a_budget_each(rt: HostRuntime) -> Result<(), Fail> {
-    budgets::<Brand, Brand, HostRuntime>(&rt, rt.alloc(), FamilyBlanksOf::new())
+    budgets::<Brand, Brand, HostRuntime>(&rt, rt.alloc(), BlanksOf::new())
 }
 
 // A root whose minimum is two opens two connections before any client asks, and its child none.
 fn first_ones<H: Ledger, L: Loans, R: Wait + Abort>(
     rt: &R,
     alloc: Global,
-    blanks: FamilyBlanksOf<Conn, ()>,
+    blanks: ConnBlanks,
 ) -> Result<(), Fail>
     requires max { L.max ≡ 3 }
     requires blanks { (blanks.held.name ≡ H.name) × (H.parts ≡ 2 ^ 32) × (blanks.loans.name ≡ L.name) × (L.parts ≡ 2 ^ 32) × (blanks.opened.seen.book ≡ L.book) }
 {
     let options = PoolOptions::new().max_connections(3).min_connections(2);
     let mut out = Plain { closed: 0 };
-    let (root, tally) = Conns::<H, L>::connect_with::<R, Plain>(
+    let (root, tally) = options.connect_with::<Conn, (), Family<Conn, (), H, L>, R, Plain>(
         rt,
         alloc,
-        options,
         (),
         Moment(0),
         &mut out,
@@ -249,5 +249,5 @@ fn first_ones<H: Ledger, L: Loans, R: Wait + Abort>(
 
 #[test]
 fn a_root_that_opens_its_first_connections(rt: HostRuntime) -> Result<(), Fail> {
-    first_ones::<Brand, Brand, HostRuntime>(&rt, rt.alloc(), FamilyBlanksOf::new())
+    first_ones::<Brand, Brand, HostRuntime>(&rt, rt.alloc(), BlanksOf::new())
 }

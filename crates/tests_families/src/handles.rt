@@ -2,10 +2,10 @@
 
 ghost use Rattle.std.specs.Prelude.{◌≡◌, ◌^◌, ◌<◌, ◌≤◌};
 
-use crate::outside::{Conn, Plain};
-use sqlx_family_pool::{FamilyBlanksOf, FamilyConnectionOf, FamilyPoolOf};
+use crate::outside::Plain;
+use crate::setup::{ConnBlanks, Conns, Lent, root_of};
 use sqlx_pool::stage::Why;
-use sqlx_pool::{Loans, Polling, Returned, Tally};
+use sqlx_pool::{BlanksOf, Loans, Polling, Returned, Tally};
 use sqlx_pool_core::PoolOptions;
 use sqlx_text::Moment;
 use std::alloc::Global;
@@ -14,10 +14,6 @@ use std::process::Abort;
 use std::sync::Wait;
 use std::sync::ledger::Ledger;
 use std::test::*;
-
-pub type Conns<H, L> = FamilyPoolOf<Conn, (), H, L>;
-
-type Lent<H, L> = FamilyConnectionOf<Conn, (), H, L>;
 
 // What an ask and its first poll come to: a connection, and whether the ticket waited, which is cancelled then.
 pub fn lend<H: Ledger, L: Loans, R: Wait>(
@@ -85,7 +81,7 @@ fn shares<H: Ledger, L: Loans, R: Wait + Abort>(
     out: &mut Plain,
     tally: &mut Tally<L>,
 )
-    requires child { 1 ≤ child.now.name }
+    requires child { 1 ≤ child.now.shared.value.name }
 {
     let (first, _) = lend(rt, alloc, child, 1, out, tally);
     let (second, _) = lend(rt, alloc, child, 2, out, tally);
@@ -97,7 +93,7 @@ fn shares<H: Ledger, L: Loans, R: Wait + Abort>(
         give(rt, alloc, third, out),
     ];
     let given = owned(rt, root, child);
-    let idle = child.retire::<R, Plain>(rt, alloc, out);
+    let idle = child.retire::<R, Plain>(rt, out);
     let retired = owned(rt, root, child);
     assert_eq!(rt; [served, given, retired], [[1, 2], [1, 2], [3, 0]]);
     assert_eq!(rt;
@@ -110,13 +106,13 @@ fn shares<H: Ledger, L: Loans, R: Wait + Abort>(
 fn family<H: Ledger, L: Loans, R: Wait + Abort>(
     rt: &R,
     alloc: Global,
-    blanks: FamilyBlanksOf<Conn, ()>,
+    blanks: ConnBlanks,
 ) -> Result<(), Fail>
     requires max { L.max ≡ 3 }
     requires blanks { (blanks.held.name ≡ H.name) × (H.parts ≡ 2 ^ 32) × (blanks.loans.name ≡ L.name) × (L.parts ≡ 2 ^ 32) × (blanks.opened.seen.book ≡ L.book) }
 {
     let options = PoolOptions::new();
-    let (root, mut tally) = Conns::<H, L>::root(alloc, options.max_connections(3), (), blanks)?;
+    let (root, mut tally) = root_of::<H, L>(alloc, options.max_connections(3), blanks)?;
     let child = root.child(rt, alloc, options.max_connections(2))?;
     let mut out = Plain { closed: 0 };
     shares(rt, alloc, &root, &child, &mut out, &mut tally);
@@ -127,5 +123,5 @@ fn family<H: Ledger, L: Loans, R: Wait + Abort>(
 
 #[test]
 fn a_root_of_three_and_a_child_of_two(rt: HostRuntime) -> Result<(), Fail> {
-    family::<Brand, Brand, HostRuntime>(&rt, rt.alloc(), FamilyBlanksOf::new())
+    family::<Brand, Brand, HostRuntime>(&rt, rt.alloc(), BlanksOf::new())
 }

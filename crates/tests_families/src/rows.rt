@@ -78,7 +78,7 @@ fn one_permit<H: Ledger, L: Loans, R: Abort>(
     let (after, share) = family.finish_connect(child, 1, second, Moment(5), opened, &mut tally);
     let conn = lent(after);
     let written = [marks(alloc, &family, 0)?, marks(alloc, &family, child)?];
-    let idle = family.retire(child, alloc).len();
+    let idle = family.retire(child).len();
     let held = [family.owned(0), family.owned(child)];
     let ended = match share {
         Some(share) => family.end(child, 1, conn, share).0,

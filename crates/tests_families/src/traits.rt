@@ -1,7 +1,7 @@
 //! A pool of a family goes between threads.
 
-use sqlx_family_pool::{FamilyAcquiringOf, FamilyConnectionOf, FamilyPoolOf};
-use sqlx_pool::Loans;
+use sqlx_family_pool::Family;
+use sqlx_pool::{AcquiringOf, Loans, PoolConnectionOf, PoolOf};
 use sqlx_text::Depth;
 use std::sync::ledger::Ledger;
 
@@ -16,8 +16,8 @@ pub fn assert_pool_traits<
     H: Ledger + Send + Sync + 'static,
     L: Loans + Send + Sync + 'static,
 >() {
-    is_send::<FamilyPoolOf<C, O, H, L>>();
-    is_sync::<FamilyPoolOf<C, O, H, L>>();
-    is_send::<FamilyConnectionOf<C, O, H, L>>();
-    is_send::<FamilyAcquiringOf<C, O, H, L>>();
+    is_send::<PoolOf<C, O, Family<C, O, H, L>>>();
+    is_sync::<PoolOf<C, O, Family<C, O, H, L>>>();
+    is_send::<PoolConnectionOf<C, O, Family<C, O, H, L>>>();
+    is_send::<AcquiringOf<C, O, Family<C, O, H, L>>>();
 }

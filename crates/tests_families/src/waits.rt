@@ -2,9 +2,9 @@
 
 ghost use Rattle.std.specs.Prelude.{◌≡◌, ℕ, ◌^◌, ◌<◌, ◌≤◌, IfOk};
 
-use crate::outside::{Conn, Plain};
-use sqlx_family_pool::{FamilyBlanksOf, FamilyConnectionOf, FamilyPoolOf};
-use sqlx_pool::{FixedClock, Loans, Tally};
+use crate::outside::Plain;
+use crate::setup::{ConnBlanks, Conns, Lent, root_of};
+use sqlx_pool::{BlanksOf, FixedClock, Loans, Tally};
 use sqlx_pool_core::PoolOptions;
 use sqlx_text::Moment;
 use std::alloc::Global;
@@ -13,10 +13,6 @@ use std::sync::Wait;
 use std::sync::ledger::Ledger;
 use std::test::*;
 use std::thread::{Threads, join};
-
-type Conns<H, L> = FamilyPoolOf<Conn, (), H, L>;
-
-type Lent<H, L> = FamilyConnectionOf<Conn, (), H, L>;
 
 // How often a thread looks for what the other does.
 const LOOKS: u32 = 20_000_000;
@@ -82,17 +78,17 @@ fn give<H: Ledger, L: Loans, R: Wait>(rt: &R, alloc: Global, conn: Lent<H, L>) {
 }
 
 // Retires the child.
-fn retire<H: Ledger, L: Loans, R: Wait>(rt: &R, alloc: Global, child: &Conns<H, L>)
-    requires { 1 ≤ child.now.name }
+fn retire<H: Ledger, L: Loans, R: Wait>(rt: &R, child: &Conns<H, L>)
+    requires { 1 ≤ child.now.shared.value.name }
 {
     let mut out = Plain { closed: 0 };
-    let _idle = child.retire::<R, Plain>(rt, alloc, &mut out);
+    let _idle = child.retire::<R, Plain>(rt, &mut out);
 }
 
 // Closes the root.
-fn close<H: Ledger, L: Loans, R: Wait>(rt: &R, alloc: Global, root: &Conns<H, L>) {
+fn close<H: Ledger, L: Loans, R: Wait>(rt: &R, root: &Conns<H, L>) {
     let mut out = Plain { closed: 0 };
-    let _idle = root.close::<R, Plain>(rt, alloc, &mut out);
+    let _idle = root.close::<R, Plain>(rt, &mut out);
 }
 
 // Wakes who waits, and gives the connection back.
@@ -104,20 +100,20 @@ fn free<H: Ledger, L: Loans, R: Wait>(
     conn: Lent<H, L>,
     freeing: Freeing,
 )
-    requires { 1 ≤ child.now.name }
+    requires { 1 ≤ child.now.shared.value.name }
 {
     match freeing {
         Freeing::Return => give(rt, alloc, conn),
         Freeing::ReturnAndRetire => {
             give(rt, alloc, conn);
-            retire(rt, alloc, child);
+            retire(rt, child);
         }
         Freeing::RetireAndReturn | Freeing::Retire => {
-            retire(rt, alloc, child);
+            retire(rt, child);
             give(rt, alloc, conn);
         }
         Freeing::Close => {
-            close(rt, alloc, root);
+            close(rt, root);
             give(rt, alloc, conn);
         }
     }
@@ -155,7 +151,7 @@ fn hold<H: Ledger, L: Loans, R: Wait>(
     freeing: Freeing,
     tally: Tally<L>,
 ) -> bool
-    requires child { 1 ≤ child.now.name }
+    requires child { 1 ≤ child.now.shared.value.name }
 {
     let (held, awaited) = held_and_awaited(root, child, freeing);
     match lend(rt, alloc, held, 1, tally) {
@@ -194,15 +190,15 @@ fn comes<H: Ledger, L: Loans, R: Wait>(
 fn both<H: Ledger, L: Loans, R: Wait>(
     rt: &R,
     alloc: Global,
-    blanks: FamilyBlanksOf<Conn, ()>,
+    blanks: ConnBlanks,
 ) -> Result<(Conns<H, L>, Conns<H, L>, Tally<L>), Fail>
     requires max { L.max ≡ 1 }
     requires blanks { (blanks.held.name ≡ H.name) × (H.parts ≡ 2 ^ 32) × (blanks.loans.name ≡ L.name) × (L.parts ≡ 2 ^ 32) × (blanks.opened.seen.book ≡ L.book) }
-    ensures child { IfOk result (λ made. 1 ≤ made.1.name) }
+    ensures child { IfOk result (λ made. 1 ≤ made.1.shared.value.name) }
     ensures parts { IfOk result (λ made. made.2.parts ≡ 2 ^ 32) }
 {
     let options = PoolOptions::new().max_connections(1);
-    let (root, tally) = Conns::<H, L>::root(alloc, options, (), blanks)?;
+    let (root, tally) = root_of::<H, L>(alloc, options, blanks)?;
     let child = root.child(rt, alloc, options)?;
     Ok((root, child, tally))
 }
@@ -213,7 +209,7 @@ fn woken<H: Ledger + Send + Sync, L: Loans + Send + Sync, R: Wait + Threads + Sy
     rt: &R,
     alloc: Global,
     freeing: Freeing,
-    blanks: FamilyBlanksOf<Conn, ()>,
+    blanks: ConnBlanks,
 ) -> Result<(bool, bool), Fail>
     requires max { L.max ≡ 1 }
     requires blanks { (blanks.held.name ≡ H.name) × (H.parts ≡ 2 ^ 32) × (blanks.loans.name ≡ L.name) × (L.parts ≡ 2 ^ 32) × (blanks.opened.seen.book ≡ L.book) }
@@ -226,7 +222,7 @@ fn woken<H: Ledger + Send + Sync, L: Loans + Send + Sync, R: Wait + Threads + Sy
     Ok(join(
         rt,
         move || -> bool
-            requires child { 1 ≤ child.now.name }
+            requires child { 1 ≤ child.now.shared.value.name }
             requires parts { 0 < one.parts }
         { hold(rt, alloc, root, child, freeing, one) },
         move || -> bool
@@ -241,7 +237,7 @@ fn woken_by<R: Wait + Threads + Sync>(
     alloc: Global,
     freeing: Freeing,
 ) -> Result<(bool, bool), Fail> {
-    woken::<Brand, Brand, R>(rt, alloc, freeing, FamilyBlanksOf::new())
+    woken::<Brand, Brand, R>(rt, alloc, freeing, BlanksOf::new())
 }
 
 #[test]

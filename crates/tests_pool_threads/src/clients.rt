@@ -86,7 +86,7 @@ pub enum Hand<T, P> {
 }
 
 /// What a client of such a pool has at hand.
-pub type HandOf<C, O, H, L> = Hand<PoolConnectionOf<C, O, H, L>, AcquiringOf<C, O, H, L>>;
+pub type HandOf<C, O, S> = Hand<PoolConnectionOf<C, O, S>, AcquiringOf<C, O, S>>;
 
 /// The word of an error.
 pub fn word(error: Error) -> u64 {
@@ -125,13 +125,13 @@ fn closed(closed: Result<Openings, Error>) -> u64 {
 }
 
 // Asks.
-fn asks<C: Depth + Drop, O: Drop, H: Ledger, L: Loans, R: Wait>(
+fn asks<C: Depth + Drop, O: Drop, S: PoolSteps<C, O>, R: Wait>(
     rt: &R,
     alloc: Global,
-    pool: &PoolOf<C, O, H, L>,
+    pool: &PoolOf<C, O, S>,
     client: u32,
     now: u64,
-) -> (HandOf<C, O, H, L>, u64) {
+) -> (HandOf<C, O, S>, u64) {
     match pool.acquire(rt, alloc, Moment(now), client) {
         Ok(asked) => {
             let ticket = asked.ticket();
@@ -142,16 +142,16 @@ fn asks<C: Depth + Drop, O: Drop, H: Ledger, L: Loans, R: Wait>(
 }
 
 // Polls the ticket at hand.
-fn polls<C: Depth + Drop, O: Drop, H: Ledger, L: Loans, R: Wait, X: Outside<C, O>>(
+fn polls<C: Depth + Drop, O: Drop, S: PoolSteps<C, O>, R: Wait, X: Outside<C, O>>(
     rt: &R,
     alloc: Global,
-    hand: HandOf<C, O, H, L>,
+    hand: HandOf<C, O, S>,
     now: u64,
     out: &mut X,
-    tally: &mut Tally<L>,
-) -> (HandOf<C, O, H, L>, u64)
-    ensures parts { tally.new.parts ≡ tally.old.parts }
-    ensures loans { tally.new.loans ≤ tally.old.loans + 1 }
+    tally: &mut S::Tally,
+) -> (HandOf<C, O, S>, u64)
+    ensures parts { (S.Tally.counted tally.new).parts ≡ (S.Tally.counted tally.old).parts }
+    ensures loans { (S.Tally.counted tally.new).loans ≤ (S.Tally.counted tally.old).loans + 1 }
 {
     match hand {
         Hand::Ticket(asked) => match asked.poll::<R, X>(rt, alloc, Moment(now), out, tally) {
@@ -164,10 +164,10 @@ fn polls<C: Depth + Drop, O: Drop, H: Ledger, L: Loans, R: Wait, X: Outside<C, O
 }
 
 // Gives the ticket at hand up.
-fn cancels<C: Depth + Drop, O: Drop, H: Ledger, L: Loans, R: Wait>(
+fn cancels<C: Depth + Drop, O: Drop, S: PoolSteps<C, O>, R: Wait>(
     rt: &R,
-    hand: HandOf<C, O, H, L>,
-) -> (HandOf<C, O, H, L>, u64) {
+    hand: HandOf<C, O, S>,
+) -> (HandOf<C, O, S>, u64) {
     match hand {
         Hand::Ticket(asked) => {
             let ended = asked.cancel(rt);
@@ -178,15 +178,15 @@ fn cancels<C: Depth + Drop, O: Drop, H: Ledger, L: Loans, R: Wait>(
 }
 
 // Takes the first idle connection.
-fn tries<C: Depth + Drop, O: Drop, H: Ledger, L: Loans, R: Wait>(
+fn tries<C: Depth + Drop, O: Drop, S: PoolSteps<C, O>, R: Wait>(
     rt: &R,
     alloc: Global,
-    pool: &PoolOf<C, O, H, L>,
+    pool: &PoolOf<C, O, S>,
     client: u32,
     now: u64,
-    tally: &mut Tally<L>,
-) -> (HandOf<C, O, H, L>, u64)
-    ensures { tally.new.parts ≡ tally.old.parts }
+    tally: &mut S::Tally,
+) -> (HandOf<C, O, S>, u64)
+    ensures { (S.Tally.counted tally.new).parts ≡ (S.Tally.counted tally.old).parts }
 {
     match pool.try_acquire(rt, alloc, Moment(now), client, tally) {
         Ok(Some(conn)) => (Hand::Loan(conn), LENT),
@@ -196,27 +196,27 @@ fn tries<C: Depth + Drop, O: Drop, H: Ledger, L: Loans, R: Wait>(
 }
 
 // Takes the first idle connection, and returns it at once.
-fn passes<C: Depth + Drop, O: Drop, H: Ledger, L: Loans, R: Wait, X: Outside<C, O>>(
+fn passes<C: Depth + Drop, O: Drop, S: PoolSteps<C, O>, R: Wait, X: Outside<C, O>>(
     rt: &R,
     alloc: Global,
-    pool: &PoolOf<C, O, H, L>,
+    pool: &PoolOf<C, O, S>,
     client: u32,
     now: u64,
     out: &mut X,
-    tally: &mut Tally<L>,
+    tally: &mut S::Tally,
 ) -> u64
-    ensures { tally.new.parts ≡ tally.old.parts }
+    ensures { (S.Tally.counted tally.new).parts ≡ (S.Tally.counted tally.old).parts }
 {
     let (hand, said) = tries(rt, alloc, pool, client, now, tally);
-    lets_go::<C, O, H, L, R, X>(rt, alloc, hand, now, out);
+    lets_go::<C, O, S, R, X>(rt, alloc, hand, now, out);
     said
 }
 
 /// Ends a loan, by a return where the act is none of the three others.
-pub fn ends<C: Depth + Drop, O: Drop, H: Ledger, L: Loans, R: Wait, X: Outside<C, O>>(
+pub fn ends<C: Depth + Drop, O: Drop, S: PoolSteps<C, O>, R: Wait, X: Outside<C, O>>(
     rt: &R,
     alloc: Global,
-    conn: PoolConnectionOf<C, O, H, L>,
+    conn: PoolConnectionOf<C, O, S>,
     act: Act,
     now: u64,
     out: &mut X,
@@ -238,17 +238,17 @@ pub fn ends<C: Depth + Drop, O: Drop, H: Ledger, L: Loans, R: Wait, X: Outside<C
 }
 
 // Ends the loan at hand.
-fn leaves<C: Depth + Drop, O: Drop, H: Ledger, L: Loans, R: Wait, X: Outside<C, O>>(
+fn leaves<C: Depth + Drop, O: Drop, S: PoolSteps<C, O>, R: Wait, X: Outside<C, O>>(
     rt: &R,
     alloc: Global,
-    hand: HandOf<C, O, H, L>,
+    hand: HandOf<C, O, S>,
     act: Act,
     now: u64,
     out: &mut X,
-) -> (HandOf<C, O, H, L>, u64) {
+) -> (HandOf<C, O, S>, u64) {
     match hand {
         Hand::Loan(conn) => {
-            let said = ends::<C, O, H, L, R, X>(rt, alloc, conn, act, now, out);
+            let said = ends::<C, O, S, R, X>(rt, alloc, conn, act, now, out);
             (Hand::Empty, said)
         }
         hand => (hand, NONE),
@@ -256,10 +256,10 @@ fn leaves<C: Depth + Drop, O: Drop, H: Ledger, L: Loans, R: Wait, X: Outside<C, 
 }
 
 // Spends what is at hand.
-fn lets_go<C: Depth + Drop, O: Drop, H: Ledger, L: Loans, R: Wait, X: Outside<C, O>>(
+fn lets_go<C: Depth + Drop, O: Drop, S: PoolSteps<C, O>, R: Wait, X: Outside<C, O>>(
     rt: &R,
     alloc: Global,
-    hand: HandOf<C, O, H, L>,
+    hand: HandOf<C, O, S>,
     now: u64,
     out: &mut X,
 ) {
@@ -275,10 +275,10 @@ fn lets_go<C: Depth + Drop, O: Drop, H: Ledger, L: Loans, R: Wait, X: Outside<C,
 }
 
 // What is done with the pool.
-fn tends<C: Depth + Drop, O: Drop, H: Ledger, L: Loans, R: Wait, X: Outside<C, O>>(
+fn tends<C: Depth + Drop, O: Drop, S: PoolSteps<C, O>, R: Wait, X: Outside<C, O>>(
     rt: &R,
     alloc: Global,
-    pool: &PoolOf<C, O, H, L>,
+    pool: &PoolOf<C, O, S>,
     act: Act,
     now: u64,
     out: &mut X,
@@ -294,9 +294,9 @@ fn tends<C: Depth + Drop, O: Drop, H: Ledger, L: Loans, R: Wait, X: Outside<C, O
 }
 
 // What a look at the pool tells.
-fn looks<C: Depth + Drop, O: Drop, H: Ledger, L: Loans, R: Wait>(
+fn looks<C: Depth + Drop, O: Drop, S: PoolSteps<C, O>, R: Wait>(
     rt: &R,
-    pool: &PoolOf<C, O, H, L>,
+    pool: &PoolOf<C, O, S>,
     act: Act,
 ) -> u64 {
     match act {
@@ -335,9 +335,9 @@ fn is_closed(answer: Option<Result<u32, Error>>) -> bool {
 }
 
 // 1 where a step is cut off by the close before it is polled, and the event tells of the close; else 0.
-fn cut_off<C: Depth + Drop, O: Drop, H: Ledger, L: Loans, R: Wait>(
+fn cut_off<C: Depth + Drop, O: Drop, S: PoolSteps<C, O>, R: Wait>(
     rt: &R,
-    pool: &PoolOf<C, O, H, L>,
+    pool: &PoolOf<C, O, S>,
 ) -> u64 {
     let Ok(mut event) = pool.close_event() else {
         return OTHER;
@@ -348,39 +348,39 @@ fn cut_off<C: Depth + Drop, O: Drop, H: Ledger, L: Loans, R: Wait>(
 }
 
 // One act of a client. Before it asks or takes a connection, it spends what it has.
-fn acts<C: Depth + Drop, O: Drop, H: Ledger, L: Loans, R: Wait, X: Outside<C, O>>(
+fn acts<C: Depth + Drop, O: Drop, S: PoolSteps<C, O>, R: Wait, X: Outside<C, O>>(
     rt: &R,
     alloc: Global,
-    pool: &PoolOf<C, O, H, L>,
-    hand: HandOf<C, O, H, L>,
+    pool: &PoolOf<C, O, S>,
+    hand: HandOf<C, O, S>,
     row: Row,
     out: &mut X,
-    tally: &mut Tally<L>,
-) -> (HandOf<C, O, H, L>, u64)
-    ensures { tally.new.parts ≡ tally.old.parts }
+    tally: &mut S::Tally,
+) -> (HandOf<C, O, S>, u64)
+    ensures { (S.Tally.counted tally.new).parts ≡ (S.Tally.counted tally.old).parts }
 {
     let Row(client, act, now, _, _) = row;
     match act {
         Act::Ask => {
-            lets_go::<C, O, H, L, R, X>(rt, alloc, hand, now, out);
+            lets_go::<C, O, S, R, X>(rt, alloc, hand, now, out);
             asks(rt, alloc, pool, client, now)
         }
-        Act::Poll => polls::<C, O, H, L, R, X>(rt, alloc, hand, now, out, tally),
+        Act::Poll => polls::<C, O, S, R, X>(rt, alloc, hand, now, out, tally),
         Act::Cancel => cancels(rt, hand),
         Act::Try => {
-            lets_go::<C, O, H, L, R, X>(rt, alloc, hand, now, out);
+            lets_go::<C, O, S, R, X>(rt, alloc, hand, now, out);
             tries(rt, alloc, pool, client, now, tally)
         }
         Act::Past => {
-            let said = passes::<C, O, H, L, R, X>(rt, alloc, pool, client, now, out, tally);
+            let said = passes::<C, O, S, R, X>(rt, alloc, pool, client, now, out, tally);
             (hand, said)
         }
         Act::Shut | Act::Fill | Act::Reap => {
-            let said = tends::<C, O, H, L, R, X>(rt, alloc, pool, act, now, out);
+            let said = tends::<C, O, S, R, X>(rt, alloc, pool, act, now, out);
             (hand, said)
         }
         Act::Closing | Act::Size | Act::Idle | Act::CutOff => (hand, looks(rt, pool, act)),
-        act => leaves::<C, O, H, L, R, X>(rt, alloc, hand, act, now, out),
+        act => leaves::<C, O, S, R, X>(rt, alloc, hand, act, now, out),
     }
 }
 
@@ -394,47 +394,47 @@ struct Hands<T, P> {
     second: Hand<T, P>,
 }
 
-type HandsOf<C, O, H, L> = Hands<PoolConnectionOf<C, O, H, L>, AcquiringOf<C, O, H, L>>;
+type HandsOf<C, O, S> = Hands<PoolConnectionOf<C, O, S>, AcquiringOf<C, O, S>>;
 
 // The client whose row it is acts.
-fn turn<C: Depth + Drop, O: Drop, H: Ledger, L: Loans, R: Wait, X: Outside<C, O>>(
+fn turn<C: Depth + Drop, O: Drop, S: PoolSteps<C, O>, R: Wait, X: Outside<C, O>>(
     rt: &R,
     alloc: Global,
-    pool: &PoolOf<C, O, H, L>,
-    hands: HandsOf<C, O, H, L>,
+    pool: &PoolOf<C, O, S>,
+    hands: HandsOf<C, O, S>,
     row: Row,
     out: &mut X,
-    tally: &mut Tally<L>,
-) -> (HandsOf<C, O, H, L>, u64)
-    ensures { tally.new.parts ≡ tally.old.parts }
+    tally: &mut S::Tally,
+) -> (HandsOf<C, O, S>, u64)
+    ensures { (S.Tally.counted tally.new).parts ≡ (S.Tally.counted tally.old).parts }
 {
     let Hands { first, second } = hands;
     if row.0 == 1 {
-        let (first, said) = acts::<C, O, H, L, R, X>(rt, alloc, pool, first, row, out, tally);
+        let (first, said) = acts::<C, O, S, R, X>(rt, alloc, pool, first, row, out, tally);
         (Hands { first, second }, said)
     } else {
-        let (second, said) = acts::<C, O, H, L, R, X>(rt, alloc, pool, second, row, out, tally);
+        let (second, said) = acts::<C, O, S, R, X>(rt, alloc, pool, second, row, out, tally);
         (Hands { first, second }, said)
     }
 }
 
 /// Two clients act row by row; what they have at the end is spent.
-pub fn plays<C: Depth + Drop, O: Drop, H: Ledger, L: Loans, R: Wait + Abort, X: Outside<C, O>>(
+pub fn plays<C: Depth + Drop, O: Drop, S: PoolSteps<C, O>, R: Wait + Abort, X: Outside<C, O>>(
     rt: &R,
     alloc: Global,
-    pool: &PoolOf<C, O, H, L>,
+    pool: &PoolOf<C, O, S>,
     rows: &[Row],
     out: &mut X,
-    tally: &mut Tally<L>,
+    tally: &mut S::Tally,
 )
-    ensures { tally.new.parts ≡ tally.old.parts }
+    ensures { (S.Tally.counted tally.new).parts ≡ (S.Tally.counted tally.old).parts }
 {
     let mut hands = Hands {
         first: Hand::Empty,
         second: Hand::Empty,
     };
     for row in rows {
-        let (next, said) = turn::<C, O, H, L, R, X>(rt, alloc, pool, hands, *row, out, tally);
+        let (next, said) = turn::<C, O, S, R, X>(rt, alloc, pool, hands, *row, out, tally);
         hands = next;
         let marks = pool.log_len(rt);
         same_three(
@@ -444,49 +444,49 @@ pub fn plays<C: Depth + Drop, O: Drop, H: Ledger, L: Loans, R: Wait + Abort, X: 
         );
     }
     let Hands { first, second } = hands;
-    lets_go::<C, O, H, L, R, X>(rt, alloc, first, 0, out);
-    lets_go::<C, O, H, L, R, X>(rt, alloc, second, 0, out);
+    lets_go::<C, O, S, R, X>(rt, alloc, first, 0, out);
+    lets_go::<C, O, S, R, X>(rt, alloc, second, 0, out);
 }
 
 /// Asks and polls: the connection. A ticket that waits is given up.
-pub fn lend<C: Depth + Drop, O: Drop, H: Ledger, L: Loans, R: Wait, X: Outside<C, O>>(
+pub fn lend<C: Depth + Drop, O: Drop, S: PoolSteps<C, O>, R: Wait, X: Outside<C, O>>(
     rt: &R,
     alloc: Global,
-    pool: &PoolOf<C, O, H, L>,
+    pool: &PoolOf<C, O, S>,
     client: u32,
     now: u64,
     out: &mut X,
-    tally: &mut Tally<L>,
-) -> Option<PoolConnectionOf<C, O, H, L>>
-    ensures parts { tally.new.parts ≡ tally.old.parts }
-    ensures loans { tally.new.loans ≤ tally.old.loans + 1 }
+    tally: &mut S::Tally,
+) -> Option<PoolConnectionOf<C, O, S>>
+    ensures parts { (S.Tally.counted tally.new).parts ≡ (S.Tally.counted tally.old).parts }
+    ensures loans { (S.Tally.counted tally.new).loans ≤ (S.Tally.counted tally.old).loans + 1 }
 {
     let (hand, _) = asks(rt, alloc, pool, client, now);
-    let (hand, _) = polls::<C, O, H, L, R, X>(rt, alloc, hand, now, out, tally);
+    let (hand, _) = polls::<C, O, S, R, X>(rt, alloc, hand, now, out, tally);
     match hand {
         Hand::Loan(conn) => Some(conn),
         hand => {
-            lets_go::<C, O, H, L, R, X>(rt, alloc, hand, now, out);
+            lets_go::<C, O, S, R, X>(rt, alloc, hand, now, out);
             None
         }
     }
 }
 
 /// Asks, polls and returns: the word of the return.
-pub fn loan<C: Depth + Drop, O: Drop, H: Ledger, L: Loans, R: Wait, X: Outside<C, O>>(
+pub fn loan<C: Depth + Drop, O: Drop, S: PoolSteps<C, O>, R: Wait, X: Outside<C, O>>(
     rt: &R,
     alloc: Global,
-    pool: &PoolOf<C, O, H, L>,
+    pool: &PoolOf<C, O, S>,
     client: u32,
     now: u64,
     out: &mut X,
-    tally: &mut Tally<L>,
+    tally: &mut S::Tally,
 ) -> u64
-    ensures parts { tally.new.parts ≡ tally.old.parts }
-    ensures loans { tally.new.loans ≤ tally.old.loans + 1 }
+    ensures parts { (S.Tally.counted tally.new).parts ≡ (S.Tally.counted tally.old).parts }
+    ensures loans { (S.Tally.counted tally.new).loans ≤ (S.Tally.counted tally.old).loans + 1 }
 {
-    match lend::<C, O, H, L, R, X>(rt, alloc, pool, client, now, out, tally) {
-        Some(conn) => ends::<C, O, H, L, R, X>(rt, alloc, conn, Act::Return, now, out),
+    match lend::<C, O, S, R, X>(rt, alloc, pool, client, now, out, tally) {
+        Some(conn) => ends::<C, O, S, R, X>(rt, alloc, conn, Act::Return, now, out),
         None => NONE,
     }
 }

@@ -7,7 +7,7 @@ use crate::clients::*;
 use crate::outside::{Conn, Counts, new_counts};
 use crate::rows::{Script, performs};
 use crate::same::same_three;
-use crate::setup::pool_of;
+use crate::setup::{LoneBlanks, LonePool, pool_of};
 use sqlx_pool::*;
 use sqlx_pool_core::Outside;
 use sqlx_text::Error;
@@ -31,7 +31,7 @@ enum Closing {
 #[derive(Drop)]
 struct Closer<H: Ledger, L: Loans, R: Wait + Drop> {
     rt: R,
-    pool: PoolOf<Conn, (), H, L>,
+    pool: LonePool<Conn, (), H, L>,
     closing: Closing,
     pings: u64,
     counts: Counts,
@@ -148,7 +148,7 @@ ended 2
 fn closed_amid<H: Ledger, L: Loans, R: Wait + Abort + Copy + Drop>(
     rt: R,
     alloc: Global,
-    pool: &PoolOf<Conn, (), H, L>,
+    pool: &LonePool<Conn, (), H, L>,
     closing: Closing,
     script: &Script<'_>,
     tally: &mut Tally<L>,
@@ -175,7 +175,7 @@ fn closed_in_one<H: Ledger, L: Loans, R: Wait + Abort + Copy + Drop>(
     alloc: Global,
     closing: Closing,
     script: &Script<'_>,
-    blanks: BlanksOf<Conn, ()>,
+    blanks: LoneBlanks<Conn, ()>,
 ) -> Result<(), Fail>
     requires max { L.max ≡ 1 }
     requires blanks { (blanks.held.name ≡ H.name) × (H.parts ≡ 2 ^ 32) × (blanks.loans.name ≡ L.name) × (L.parts ≡ 2 ^ 32) × (blanks.opened.seen.book ≡ L.book) }

@@ -6,7 +6,7 @@ use crate::clients::{KEPT, loan};
 use crate::marks::lent;
 use crate::outside::{Conn, Counts, new_counts};
 use crate::same::same;
-use crate::setup::pool_of;
+use crate::setup::{LoneBlanks, LonePool, pool_of};
 use sqlx_pool::*;
 use sqlx_pool_core::Outside;
 use sqlx_text::Depth;
@@ -57,7 +57,7 @@ fn is_short<R: Abort>(rt: &R, log: MarkLog, behind: usize, most: usize, loans: u
 fn a_loan<C: Depth + Drop, O: Drop, H: Ledger, L: Loans, R: Wait + Abort, X: Outside<C, O>>(
     rt: &R,
     alloc: Global,
-    pool: &PoolOf<C, O, H, L>,
+    pool: &LonePool<C, O, H, L>,
     cuts: Cuts,
     at: u64,
     out: &mut X,
@@ -66,7 +66,7 @@ fn a_loan<C: Depth + Drop, O: Drop, H: Ledger, L: Loans, R: Wait + Abort, X: Out
     requires cuts { L.cuts ≡ true }
     ensures { tally.new.parts ≡ tally.old.parts }
 {
-    let kept = loan::<C, O, H, L, R, X>(rt, alloc, pool, 1, at, out, tally);
+    let kept = loan::<C, O, Lone<C, O, H, L>, R, X>(rt, alloc, pool, 1, at, out, tally);
     same(rt, kept, KEPT);
     if cuts.each {
         pool.cut_log(rt);
@@ -81,7 +81,7 @@ fn a_loan<C: Depth + Drop, O: Drop, H: Ledger, L: Loans, R: Wait + Abort, X: Out
 fn many<C: Depth + Drop, O: Drop, H: Ledger, L: Loans, R: Wait + Abort, X: Outside<C, O>>(
     rt: &R,
     alloc: Global,
-    pool: &PoolOf<C, O, H, L>,
+    pool: &LonePool<C, O, H, L>,
     cuts: Cuts,
     out: &mut X,
     tally: &mut Tally<L>,
@@ -105,7 +105,7 @@ fn counts<H: Ledger, L: Loans, R: Wait + Abort>(
     rt: &R,
     alloc: Global,
     cuts: Cuts,
-    blanks: BlanksOf<Conn, ()>,
+    blanks: LoneBlanks<Conn, ()>,
 ) -> Result<(), Fail>
     requires max { L.max ≡ 1 }
     requires cuts { L.cuts ≡ true }

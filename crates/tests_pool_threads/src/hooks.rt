@@ -5,6 +5,7 @@ ghost use Rattle.std.specs.Prelude.{◌≡◌, ◌^◌};
 use crate::clients::*;
 use crate::rows::{Script, performs};
 use crate::same::same_three;
+use crate::setup::LoneBlanks;
 use sqlx_any::ConnectOptions;
 use sqlx_pool::*;
 use sqlx_text::Error;
@@ -99,7 +100,7 @@ kept 2 5
 fn asks_hooks<H: Ledger, L: Loans, R: Wait + Abort>(
     rt: &R,
     alloc: Global,
-    blanks: BlanksOf<ToyConnection, ToyConnectOptions>,
+    blanks: LoneBlanks<ToyConnection, ToyConnectOptions>,
 ) -> Result<(), Fail>
     requires max { L.max ≡ 1 }
     requires blanks { (blanks.held.name ≡ H.name) × (H.parts ≡ 2 ^ 32) × (blanks.loans.name ≡ L.name) × (L.parts ≡ 2 ^ 32) × (blanks.opened.seen.book ≡ L.book) }
@@ -111,9 +112,11 @@ fn asks_hooks<H: Ledger, L: Loans, R: Wait + Abort>(
         .before_acquire(true)
         .after_release(true);
     let connect = ToyConnectOptions::parse(alloc, "toy:")?;
-    let (pool, mut tally) = options.connect_lazy_with::<ToyConnection, ToyConnectOptions, H, L>(
-        alloc, connect, blanks,
-    )?;
+    let (pool, mut tally) = options.connect_lazy_with::<
+        ToyConnection,
+        ToyConnectOptions,
+        Lone<ToyConnection, ToyConnectOptions, H, L>,
+    >(alloc, connect, blanks)?;
     let mut connector = OptionsConnector::new();
     let mut hooks = Counting {
         connected: 0,

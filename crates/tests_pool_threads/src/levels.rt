@@ -74,10 +74,15 @@ fn last_of(
 }
 
 // Returns the connection of a refused begin, where there is one.
-fn returned<DB: Database, H: Ledger, L: Loans, R: Wait, X: Outside<DB::Connection, DB::Options>>(
+fn returned<
+    DB: Database,
+    S: PoolSteps<DB::Connection, DB::Options>,
+    R: Wait,
+    X: Outside<DB::Connection, DB::Options>,
+>(
     rt: &R,
     alloc: Global,
-    refused: BeginRefused<DB, H, L>,
+    refused: BeginRefusedOf<PoolConnectionOf<DB::Connection, DB::Options, S>>,
     out: &mut X,
 ) -> Error
 where
@@ -180,23 +185,18 @@ where
     let now = Moment(0);
     let mut clock = FixedClock(now);
     match by {
-        By::Waiting(None) => PoolBegin::<DB, H, L>::begin::<R, FixedClock, X>(
+        By::Waiting(None) => PoolBegin::<DB, LoneOf<DB, H, L>>::begin::<R, FixedClock, X>(
             pool, rt, alloc, &mut clock, 1, out, tally,
         ),
-        By::Waiting(Some(text)) => PoolBegin::<DB, H, L>::begin_with::<R, FixedClock, X>(
-            pool,
-            rt,
-            alloc,
-            &mut clock,
-            1,
-            out,
-            tally,
-            text.sql(),
-        ),
-        By::Trying(None) => of_tried(PoolBegin::<DB, H, L>::try_begin::<R>(
+        By::Waiting(Some(text)) => PoolBegin::<DB, LoneOf<DB, H, L>>::begin_with::<
+            R,
+            FixedClock,
+            X,
+        >(pool, rt, alloc, &mut clock, 1, out, tally, text.sql()),
+        By::Trying(None) => of_tried(PoolBegin::<DB, LoneOf<DB, H, L>>::try_begin::<R>(
             pool, rt, alloc, now, 1, tally,
         )),
-        By::Trying(Some(text)) => of_tried(PoolBegin::<DB, H, L>::try_begin_with::<R>(
+        By::Trying(Some(text)) => of_tried(PoolBegin::<DB, LoneOf<DB, H, L>>::try_begin_with::<R>(
             pool,
             rt,
             alloc,
@@ -238,7 +238,7 @@ where
             let _ = conn.return_to_pool::<R, X>(rt, alloc, Moment(0), out);
             after(done, answer)
         }
-        Err(refused) => Err(returned::<DB, H, L, R, X>(rt, alloc, refused, out)),
+        Err(refused) => Err(returned::<DB, LoneOf<DB, H, L>, R, X>(rt, alloc, refused, out)),
     }
 }
 
@@ -276,7 +276,10 @@ fn borrows<DB: Database, W: Acts<DB>, H: Ledger, L: Loans>(
     alloc: Global,
     conn: &mut PoolConnection<DB, H, L>,
     works: [W; 3],
-) -> Result<Option<i64>, Error> {
+) -> Result<Option<i64>, Error>
+where
+    DB::Connection: Drop,
+{
     let first = acquired::<DB, W, _>(alloc, &mut *conn, works[0], true);
     let second = nested::<DB, W>(alloc, Hold::<DB>::conn_mut(conn), works[1]);
     let borrowed = Borrowed(Hold::<DB>::conn_mut(conn));
@@ -304,7 +307,9 @@ where
     DB::Connection: Drop,
     ensures { tally.new.parts ≡ tally.old.parts }
 {
-    match lend::<DB::Connection, DB::Options, H, L, R, X>(rt, alloc, pool, 1, 0, out, tally) {
+    match lend::<DB::Connection, DB::Options, LoneOf<DB, H, L>, R, X>(
+        rt, alloc, pool, 1, 0, out, tally,
+    ) {
         Some(conn) => {
             let mut conn = conn;
             let done = work.work(alloc, Hold::<DB>::conn_mut(&mut conn));

@@ -1,7 +1,8 @@
 //! A pool's log as text, a line for each mark.
 
 use crate::same::same_text;
-use sqlx_pool::{Loans, Mark, PoolOf};
+use crate::setup::LonePool;
+use sqlx_pool::{Loans, Mark};
 use sqlx_text::Depth;
 use std::alloc::{AllocError, Global};
 use std::process::Abort;
@@ -65,7 +66,7 @@ fn text_of(alloc: Global, marks: &[Mark]) -> Result<String, AllocError> {
 pub fn tells<C: Depth + Drop, O: Drop, H: Ledger, L: Loans, R: Wait + Abort>(
     rt: &R,
     alloc: Global,
-    pool: &PoolOf<C, O, H, L>,
+    pool: &LonePool<C, O, H, L>,
     wanted: &str,
 ) -> Result<(), Fail> {
     let log = pool.read_log(rt, alloc)?;

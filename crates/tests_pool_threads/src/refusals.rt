@@ -8,6 +8,7 @@ use crate::outside::Conn;
 use crate::refusing::{Refusing, Say, Says, YES};
 use crate::rows::{Script, performs};
 use crate::same::{same, same_three};
+use crate::setup::LoneBlanks;
 use sqlx_pool::*;
 use sqlx_text::Moment;
 use std::alloc::Global;
@@ -27,13 +28,17 @@ fn refused_in<H: Ledger, L: Loans, R: Wait + Abort>(
     script: &Script<'_>,
     out: Refusing,
     counts: [u64; 3],
-    blanks: BlanksOf<Conn, ()>,
+    blanks: LoneBlanks<Conn, ()>,
 ) -> Result<(), Fail>
     requires options { IsOpenable options L.max }
     requires blanks { (blanks.held.name ≡ H.name) × (H.parts ≡ 2 ^ 32) × (blanks.loans.name ≡ L.name) × (L.parts ≡ 2 ^ 32) × (blanks.opened.seen.book ≡ L.book) }
 {
     let mut out = out;
-    let (pool, mut tally) = options.connect_lazy_with::<Conn, (), H, L>(alloc, (), blanks)?;
+    let (pool, mut tally) = options.connect_lazy_with::<Conn, (), Lone<Conn, (), H, L>>(
+        alloc,
+        (),
+        blanks,
+    )?;
     let played = performs::<Conn, (), H, L, R, Refusing>(
         rt, alloc, &pool, script, &mut out, &mut tally,
     );
@@ -297,7 +302,7 @@ fn a_minimum_that_is_refused(rt: HostRuntime) -> Result<(), Fail> {
 fn first_refused<H: Ledger, L: Loans, R: Wait + Abort>(
     rt: &R,
     alloc: Global,
-    blanks: BlanksOf<Conn, ()>,
+    blanks: LoneBlanks<Conn, ()>,
 ) -> Result<(), Fail>
     requires max { L.max ≡ 3 }
     requires blanks { (blanks.held.name ≡ H.name) × (H.parts ≡ 2 ^ 32) × (blanks.loans.name ≡ L.name) × (L.parts ≡ 2 ^ 32) × (blanks.opened.seen.book ≡ L.book) }
@@ -314,7 +319,7 @@ fn first_refused<H: Ledger, L: Loans, R: Wait + Abort>(
         Say::Yes,
         Say::Yes,
     ]);
-    let opened = options.connect_with::<Conn, (), H, L, R, Refusing>(
+    let opened = options.connect_with::<Conn, (), Lone<Conn, (), H, L>, R, Refusing>(
         rt,
         alloc,
         (),

@@ -6,7 +6,7 @@ use crate::clients::*;
 use crate::marks::tells;
 use crate::outside::{Conn, Counts, new_counts};
 use crate::same::{same, same_three};
-use crate::setup::pool_of;
+use crate::setup::{LoneBlanks, LonePool, pool_of};
 use sqlx_pool::*;
 use sqlx_pool_core::Outside;
 use sqlx_text::{Depth, Moment, OutOfMemory};
@@ -28,12 +28,12 @@ pub struct Script<'s> {
 pub fn performs<C: Depth + Drop, O: Drop, H: Ledger, L: Loans, R: Wait + Abort, X: Outside<C, O>>(
     rt: &R,
     alloc: Global,
-    pool: &PoolOf<C, O, H, L>,
+    pool: &LonePool<C, O, H, L>,
     script: &Script<'_>,
     out: &mut X,
     tally: &mut Tally<L>,
 ) -> Result<(), Fail> {
-    plays::<C, O, H, L, R, X>(rt, alloc, pool, script.rows, out, tally);
+    plays::<C, O, Lone<C, O, H, L>, R, X>(rt, alloc, pool, script.rows, out, tally);
     same(rt, tally.loans(), script.loans);
     tells(rt, alloc, pool, script.log)
 }
@@ -45,7 +45,7 @@ pub fn in_one<C: Depth + Drop, O: Drop, H: Ledger, L: Loans, R: Wait + Abort, X:
     connect: O,
     script: &Script<'_>,
     out: &mut X,
-    blanks: BlanksOf<C, O>,
+    blanks: LoneBlanks<C, O>,
 ) -> Result<(), Fail>
     requires max { L.max ≡ 1 }
     requires blanks { (blanks.held.name ≡ H.name) × (H.parts ≡ 2 ^ 32) × (blanks.loans.name ≡ L.name) × (L.parts ≡ 2 ^ 32) × (blanks.opened.seen.book ≡ L.book) }
@@ -62,7 +62,7 @@ fn counts<H: Ledger, L: Loans, R: Wait + Abort>(
     rt: &R,
     alloc: Global,
     script: &Script<'_>,
-    blanks: BlanksOf<Conn, ()>,
+    blanks: LoneBlanks<Conn, ()>,
 ) -> Result<Counts, Fail>
     requires max { L.max ≡ 1 }
     requires blanks { (blanks.held.name ≡ H.name) × (H.parts ≡ 2 ^ 32) × (blanks.loans.name ≡ L.name) × (L.parts ≡ 2 ^ 32) × (blanks.opened.seen.book ≡ L.book) }
@@ -238,13 +238,13 @@ fn opens_first<C: Depth + Drop, O: Drop, H: Ledger, L: Loans, R: Wait + Abort, X
     alloc: Global,
     connect: O,
     out: &mut X,
-    blanks: BlanksOf<C, O>,
+    blanks: LoneBlanks<C, O>,
 ) -> Result<(), Fail>
     requires max { L.max ≡ 3 }
     requires blanks { (blanks.held.name ≡ H.name) × (H.parts ≡ 2 ^ 32) × (blanks.loans.name ≡ L.name) × (L.parts ≡ 2 ^ 32) × (blanks.opened.seen.book ≡ L.book) }
 {
     let options = PoolOptions::new().max_connections(3).min_connections(2);
-    let (pool, mut tally) = options.connect_with::<C, O, H, L, R, X>(
+    let (pool, mut tally) = options.connect_with::<C, O, Lone<C, O, H, L>, R, X>(
         rt,
         alloc,
         connect,
@@ -263,7 +263,7 @@ fn opens_first<C: Depth + Drop, O: Drop, H: Ledger, L: Loans, R: Wait + Abort, X
 fn counts_first<H: Ledger, L: Loans, R: Wait + Abort>(
     rt: &R,
     alloc: Global,
-    blanks: BlanksOf<Conn, ()>,
+    blanks: LoneBlanks<Conn, ()>,
 ) -> Result<(), Fail>
     requires max { L.max ≡ 3 }
     requires blanks { (blanks.held.name ≡ H.name) × (H.parts ≡ 2 ^ 32) × (blanks.loans.name ≡ L.name) × (L.parts ≡ 2 ^ 32) × (blanks.opened.seen.book ≡ L.book) }
@@ -280,7 +280,7 @@ fn a_pool_that_connects(rt: HostRuntime) -> Result<(), Fail> {
 // The connect options.
 fn option<C: Depth + Drop, H: Ledger, L: Loans, R: Wait>(
     rt: &R,
-    pool: &PoolOf<C, u32, H, L>,
+    pool: &LonePool<C, u32, H, L>,
 ) -> Result<u64, OutOfMemory> {
     let options = pool.connect_options(rt)?;
     let option = u64::from(*options);
@@ -292,7 +292,7 @@ fn option<C: Depth + Drop, H: Ledger, L: Loans, R: Wait>(
 fn resets<C: Depth + Drop, H: Ledger, L: Loans, R: Wait + Abort>(
     rt: &R,
     alloc: Global,
-    pool: &PoolOf<C, u32, H, L>,
+    pool: &LonePool<C, u32, H, L>,
     set: u32,
 ) -> Result<(), OutOfMemory> {
     pool.set_connect_options(rt, alloc, set)?;
@@ -304,7 +304,7 @@ fn resets<C: Depth + Drop, H: Ledger, L: Loans, R: Wait + Abort>(
 fn sets_options<H: Ledger, L: Loans, R: Wait + Abort>(
     rt: &R,
     alloc: Global,
-    blanks: BlanksOf<Conn, u32>,
+    blanks: LoneBlanks<Conn, u32>,
 ) -> Result<[u64; 2], OutOfMemory>
     requires max { L.max ≡ 1 }
     requires blanks { (blanks.held.name ≡ H.name) × (H.parts ≡ 2 ^ 32) × (blanks.loans.name ≡ L.name) × (L.parts ≡ 2 ^ 32) × (blanks.opened.seen.book ≡ L.book) }

@@ -6,6 +6,7 @@ ghost use Rattle.std.specs.Prelude.{◌≡◌, ◌^◌, ◌<◌, ◌≤◌};
 use crate::levels::*;
 use crate::rows::{WAY, in_one};
 use crate::same::{same_read, same_three};
+use crate::setup::{LoneBlanks, LonePool};
 use crate::works::{Acts, Work};
 use mem_driver::{MemStore, SharedMem, SharedMemConnection, SharedMemConnector};
 use sqlx_any::{ConnectOptions, Connector, Database, Executor};
@@ -24,7 +25,7 @@ fn way_over<DB: Database, K: Connector<DB>, H: Ledger, L: Loans, R: Wait + Abort
     rt: &R,
     alloc: Global,
     connector: &mut K,
-    blanks: BlanksOf<DB::Connection, DB::Options>,
+    blanks: LoneBlanks<DB::Connection, DB::Options>,
 ) -> Result<(), Fail>
 where
     DB::Connection: Drop,
@@ -107,7 +108,7 @@ const LEVELS: &[Done<Work>] = &[
 // How many connections there are, how many are idle, and how many loans were made.
 fn numbers<C: Depth + Drop, O: Drop, H: Ledger, L: Loans, R: Wait>(
     rt: &R,
-    pool: &PoolOf<C, O, H, L>,
+    pool: &LonePool<C, O, H, L>,
     tally: &Tally<L>,
 ) -> [u64; 3] {
     let size = u64::from(pool.size(rt));
@@ -153,7 +154,7 @@ fn lazily<
     alloc: Global,
     trial: Trial,
     out: &mut X,
-    blanks: BlanksOf<DB::Connection, DB::Options>,
+    blanks: LoneBlanks<DB::Connection, DB::Options>,
 ) -> Result<[u64; 3], Error>
 where
     DB::Connection: Drop,
@@ -218,7 +219,7 @@ fn by_a_handle<
     rt: R,
     alloc: Global,
     out: X,
-    blanks: BlanksOf<DB::Connection, DB::Options>,
+    blanks: LoneBlanks<DB::Connection, DB::Options>,
 ) -> Result<[u64; 3], Error>
 where
     DB::Connection: Executor<DB> + Drop,
@@ -263,7 +264,7 @@ fn over<DB: Database, K: Connector<DB>, H: Ledger, L: Loans, R: Wait + Abort + C
     alloc: Global,
     trial: Trial,
     connector: &mut K,
-    blanks: BlanksOf<DB::Connection, DB::Options>,
+    blanks: LoneBlanks<DB::Connection, DB::Options>,
 ) -> Result<[u64; 3], Error>
 where
     DB::Connection: Executor<DB> + Drop,

@@ -1,5 +1,6 @@
 //! A pool goes between threads.
 
+use crate::setup::{LoneLoan, LonePool, LoneTicket};
 use sqlx_pool::*;
 use sqlx_text::Depth;
 use std::sync::ledger::Ledger;
@@ -15,8 +16,8 @@ pub fn assert_pool_traits<
     H: Ledger + Send + Sync + 'static,
     L: Loans + Send + Sync + 'static,
 >() {
-    is_send::<PoolOf<C, O, H, L>>();
-    is_sync::<PoolOf<C, O, H, L>>();
-    is_send::<PoolConnectionOf<C, O, H, L>>();
-    is_send::<AcquiringOf<C, O, H, L>>();
+    is_send::<LonePool<C, O, H, L>>();
+    is_sync::<LonePool<C, O, H, L>>();
+    is_send::<LoneLoan<C, O, H, L>>();
+    is_send::<LoneTicket<C, O, H, L>>();
 }

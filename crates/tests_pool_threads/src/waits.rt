@@ -5,7 +5,7 @@ ghost use Rattle.std.specs.Prelude.{◌≡◌, ℕ, ◌+◌, ◌^◌, ◌<◌, �
 use crate::clients::*;
 use crate::outside::{Conn, Counts, new_counts};
 use crate::same::same_three;
-use crate::setup::pool_of;
+use crate::setup::{LoneBlanks, LonePool, pool_of};
 use sqlx_pool::*;
 use sqlx_pool_core::Outside;
 use sqlx_text::{Depth, Moment};
@@ -37,7 +37,7 @@ enum Work {
 fn wait_once<C: Depth + Drop, O: Drop, H: Ledger, L: Loans, R: Wait, X: Outside<C, O>>(
     rt: &R,
     alloc: Global,
-    pool: &PoolOf<C, O, H, L>,
+    pool: &LonePool<C, O, H, L>,
     client: u32,
     now: u64,
     act: Act,
@@ -55,7 +55,7 @@ fn wait_once<C: Depth + Drop, O: Drop, H: Ledger, L: Loans, R: Wait, X: Outside<
             if let Act::Shut = act {
                 pool.close::<R, X>(rt, out);
             }
-            ends::<C, O, H, L, R, X>(rt, alloc, conn, act, now, out)
+            ends::<C, O, Lone<C, O, H, L>, R, X>(rt, alloc, conn, act, now, out)
         }
         Err(error) => word(error),
     }
@@ -64,7 +64,7 @@ fn wait_once<C: Depth + Drop, O: Drop, H: Ledger, L: Loans, R: Wait, X: Outside<
 // Looks until the log is as long, at most so often.
 fn until_long<C: Depth + Drop, O: Drop, H: Ledger, L: Loans, R: Wait>(
     rt: &R,
-    pool: &PoolOf<C, O, H, L>,
+    pool: &LonePool<C, O, H, L>,
     marks: usize,
 ) {
     for _look in 0..20_000_000u32 {
@@ -78,7 +78,7 @@ fn until_long<C: Depth + Drop, O: Drop, H: Ledger, L: Loans, R: Wait>(
 fn waits_often<C: Depth + Drop, O: Drop, H: Ledger, L: Loans, R: Wait, X: Outside<C, O>>(
     rt: &R,
     alloc: Global,
-    pool: &PoolOf<C, O, H, L>,
+    pool: &LonePool<C, O, H, L>,
     client: u32,
     out: &mut X,
     tally: &mut Tally<L>,
@@ -106,7 +106,7 @@ fn waits_often<C: Depth + Drop, O: Drop, H: Ledger, L: Loans, R: Wait, X: Outsid
 fn works<C: Depth + Drop, O: Drop, H: Ledger, L: Loans, R: Wait, X: Outside<C, O>>(
     rt: &R,
     alloc: Global,
-    pool: &PoolOf<C, O, H, L>,
+    pool: &LonePool<C, O, H, L>,
     client: u32,
     work: Work,
     out: &mut X,
@@ -115,7 +115,7 @@ fn works<C: Depth + Drop, O: Drop, H: Ledger, L: Loans, R: Wait, X: Outside<C, O
     ensures { tally.new.loans ≤ tally.old.loans + 200 }
 {
     match work {
-        Work::Once => loan::<C, O, H, L, R, X>(rt, alloc, pool, client, 0, out, tally),
+        Work::Once => loan::<C, O, Lone<C, O, H, L>, R, X>(rt, alloc, pool, client, 0, out, tally),
         Work::Often => waits_often::<C, O, H, L, R, X>(rt, alloc, pool, client, out, tally),
         Work::Hold(act) => {
             wait_once::<C, O, H, L, R, X>(rt, alloc, pool, client, 0, act, 6, out, tally)
@@ -131,7 +131,7 @@ fn works<C: Depth + Drop, O: Drop, H: Ledger, L: Loans, R: Wait, X: Outside<C, O
 fn worker<H: Ledger, L: Loans, R: Wait>(
     rt: &R,
     alloc: Global,
-    pool: &PoolOf<Conn, (), H, L>,
+    pool: &LonePool<Conn, (), H, L>,
     client: u32,
     work: Work,
     tally: Tally<L>,
@@ -157,7 +157,7 @@ fn two<H: Ledger + Send + Sync, L: Loans + Send + Sync, R: Wait + Threads + Sync
     max: u32,
     first: Work,
     second: Work,
-    blanks: BlanksOf<Conn, ()>,
+    blanks: LoneBlanks<Conn, ()>,
 ) -> Result<Came, Fail>
     requires max { L.max ≡ max }
     requires some { 1 ≤ max }
@@ -235,13 +235,17 @@ fn a_close_wakes_who_waits(rt: HostRuntime) -> Result<(), Fail> {
 fn times_out<H: Ledger, L: Loans, R: Wait + Abort>(
     rt: &R,
     alloc: Global,
-    blanks: BlanksOf<Conn, ()>,
+    blanks: LoneBlanks<Conn, ()>,
 ) -> Result<(), Fail>
     requires max { L.max ≡ 1 }
     requires blanks { (blanks.held.name ≡ H.name) × (H.parts ≡ 2 ^ 32) × (blanks.loans.name ≡ L.name) × (L.parts ≡ 2 ^ 32) × (blanks.opened.seen.book ≡ L.book) }
 {
     let options = PoolOptions::new().max_connections(1).acquire_timeout(0);
-    let (pool, mut tally) = options.connect_lazy_with::<Conn, (), H, L>(alloc, (), blanks)?;
+    let (pool, mut tally) = options.connect_lazy_with::<Conn, (), Lone<Conn, (), H, L>>(
+        alloc,
+        (),
+        blanks,
+    )?;
     let mut out = new_counts();
     let said = wait_once::<Conn, (), H, L, R, Counts>(
         rt,
@@ -291,7 +295,7 @@ impl<R: std::rt::Clock + Drop> Clock for Machine<R> {
 fn waits_out<H: Ledger, L: Loans, R: Wait + Abort + std::rt::Clock + Copy + Drop>(
     rt: R,
     alloc: Global,
-    blanks: BlanksOf<Conn, ()>,
+    blanks: LoneBlanks<Conn, ()>,
 ) -> Result<(), Fail>
     requires max { L.max ≡ 1 }
     requires blanks { (blanks.held.name ≡ H.name) × (H.parts ≡ 2 ^ 32) × (blanks.loans.name ≡ L.name) × (L.parts ≡ 2 ^ 32) × (blanks.opened.seen.book ≡ L.book) }
@@ -299,15 +303,21 @@ fn waits_out<H: Ledger, L: Loans, R: Wait + Abort + std::rt::Clock + Copy + Drop
     let options = PoolOptions::new()
         .max_connections(1)
         .acquire_timeout(20_000_000);
-    let (pool, mut tally) = options.connect_lazy_with::<Conn, (), H, L>(alloc, (), blanks)?;
+    let (pool, mut tally) = options.connect_lazy_with::<Conn, (), Lone<Conn, (), H, L>>(
+        alloc,
+        (),
+        blanks,
+    )?;
     let mut out = new_counts();
     let mut clock = Machine { rt };
     let now = clock.now();
-    let lent = lend::<Conn, (), H, L, R, Counts>(&rt, alloc, &pool, 1, now.0, &mut out, &mut tally);
+    let lent = lend::<Conn, (), Lone<Conn, (), H, L>, R, Counts>(
+        &rt, alloc, &pool, 1, now.0, &mut out, &mut tally,
+    );
     let said = match pool.acquire_wait::<R, Machine<R>, Counts>(
         &rt, alloc, &mut clock, 2, &mut out, &mut tally,
     ) {
-        Ok(conn) => ends::<Conn, (), H, L, R, Counts>(
+        Ok(conn) => ends::<Conn, (), Lone<Conn, (), H, L>, R, Counts>(
             &rt,
             alloc,
             conn,
@@ -318,7 +328,14 @@ fn waits_out<H: Ledger, L: Loans, R: Wait + Abort + std::rt::Clock + Copy + Drop
         Err(error) => word(error),
     };
     if let Some(conn) = lent {
-        ends::<Conn, (), H, L, R, Counts>(&rt, alloc, conn, Act::Return, now.0, &mut out);
+        ends::<Conn, (), Lone<Conn, (), H, L>, R, Counts>(
+            &rt,
+            alloc,
+            conn,
+            Act::Return,
+            now.0,
+            &mut out,
+        );
     }
     same_three(
         &rt,

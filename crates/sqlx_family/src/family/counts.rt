@@ -1,6 +1,6 @@
 //! How many connections, tickets and places a pool of a family has, and what a step would find.
 
-ghost use Rattle.std.specs.Prelude.{◌≡◌, ◌<◌, length, is_some};
+ghost use Rattle.std.specs.Prelude.{◌≡◌, ◌<◌, ◌≤◌, length, is_some};
 ghost use Rattle.sqlx_pool_lists.specs.Core.{loan_of, size};
 ghost use Rattle.sqlx_pool_lists.specs.Balance.{marks_due};
 ghost use Rattle.sqlx_pool_lists.specs.PollSteps.{phase_for, is_in_line, try_lent};
@@ -19,20 +19,26 @@ impl<C> Family<C> {
         self.pools[pool as usize].core.options()
     }
 
-    /// How many connections of a pool there are or may be.
+    /// How many connections of a pool there are or may be: at most its maximum.
     pub fn size(&self, pool: u32) -> u32
         requires named { pool < length self.now.pools }
-        ensures { result ≡ size (pool_in pool self.now) }
+        ensures size { result ≡ size (pool_in pool self.now) }
+        ensures most { result ≤ (pool_in pool self.now).options.max_connections }
     {
-        self.pools[pool as usize].core.size()
+        let pool = &self.pools[pool as usize];
+        pool.core.sound();
+        pool.core.size()
     }
 
-    /// How many connections of a pool are idle.
+    /// How many connections of a pool are idle: at most its maximum.
     pub fn num_idle(&self, pool: u32) -> usize
         requires named { pool < length self.now.pools }
-        ensures { result ≡ length (pool_in pool self.now).idle }
+        ensures idle { result ≡ length (pool_in pool self.now).idle }
+        ensures most { result ≤ (pool_in pool self.now).options.max_connections }
     {
-        self.pools[pool as usize].core.num_idle()
+        let pool = &self.pools[pool as usize];
+        pool.core.sound();
+        pool.core.num_idle()
     }
 
     /// How many connections of a pool have an owner.

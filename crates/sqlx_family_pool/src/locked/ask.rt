@@ -29,6 +29,8 @@ impl<C: Depth, O, H: Ledger, L: Loans> LockedFamily<C, O, H, L> {
         ensures numbered { IfOk result (λ ticket. ticket ≡ self.old.family.shared.next_ticket) }
         ensures closed { (result ≡ Err Error.PoolClosed) ↔ (counts_as_closed pool self.old.family ≡ true) }
         ensures exhausted { (result ≡ Err Error.Exhausted) ↔ ((counts_as_closed pool self.old.family ≡ false) × (2 ^ 63 < self.old.family.shared.next_ticket)) }
+        ensures stays { (result ≡ Err Error.PoolClosed) → counts_as_closed pool self.new.family ≡ true }
+        ensures used { (result ≡ Err Error.Exhausted) → 2 ^ 63 < self.new.family.shared.next_ticket }
         ensures causes { IfErr result (λ e. (e ≡ Error.PoolClosed) ⊎ ((e ≡ Error.Exhausted) ⊎ (e ≡ Error.OutOfMemory))) }
         ensures marks { let core = pool_in pool self.old.family in IfOk result (λ ticket. self.new.logs ≡ with_made pool (asked_marks core client (moment_of core now) ticket) self.old.logs) }
         ensures becomes { let core = pool_in pool self.old.family in OnOk result (self.new.family ≡ with_pool pool (core_after_ask client (moment_of core now) core) self.old.family) }
@@ -69,6 +71,7 @@ impl<C: Depth, O, H: Ledger, L: Loans> LockedFamily<C, O, H, L> {
         ensures tally { IfOk result (λ lent. CountsIf (is_some lent) tally.old tally.new) }
         ensures flat { IfOk result (λ lent. IfSome (lent_alone lent) (λ l. C.levels l.raw ≡ 0)) }
         ensures exhausted { IsNamed pool self.old → ((result ≡ Err Error.Exhausted) ↔ ((is_some (try_lent_in pool self.old.family) ≡ true) × (2 ^ 62 ≤ self.old.booked.made))) }
+        ensures used { (result ≡ Err Error.Exhausted) → 2 ^ 62 ≤ self.new.booked.made }
         ensures causes { IfErr result (λ e. (e ≡ Error.Exhausted) ⊎ (e ≡ Error.OutOfMemory)) }
         ensures err { OnErr result ((self.new ≡ self.old) × (tally.new ≡ tally.old)) }
         ensures starts { self.new.starts ≡ self.old.starts }

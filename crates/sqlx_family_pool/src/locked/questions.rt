@@ -53,10 +53,13 @@ impl<C: Depth, O, H: Ledger, L: Loans> LockedFamily<C, O, H, L> {
         questions::is_closed(&self.family, pool)
     }
 
-    /// How many permits a pool owns. One that nobody added owns none.
+    /// How many permits a pool owns: at most the root's maximum. One that nobody added owns none.
     pub fn owned(&self, pool: u32) -> u32
-        ensures { result ≡ owned_by pool self.now.family }
+        ensures owned { result ≡ owned_by pool self.now.family }
+        ensures most { result ≤ L.max }
     {
+        self.facts();
+        self.bounds();
         if self.is_named(pool) {
             self.family.owned(pool)
         } else {
@@ -64,10 +67,12 @@ impl<C: Depth, O, H: Ledger, L: Loans> LockedFamily<C, O, H, L> {
         }
     }
 
-    /// How many connections of a pool there are or may be. One that nobody added has none.
+    /// How many connections of a pool there are or may be: at most the root's maximum. One that nobody added has none.
     pub fn size(&self, pool: u32) -> u32
-        ensures { result ≡ size (pool_in pool self.now.family) }
+        ensures size { result ≡ size (pool_in pool self.now.family) }
+        ensures most { result ≤ L.max }
     {
+        self.facts();
         if self.is_named(pool) {
             self.family.size(pool)
         } else {
@@ -75,10 +80,12 @@ impl<C: Depth, O, H: Ledger, L: Loans> LockedFamily<C, O, H, L> {
         }
     }
 
-    /// How many connections of a pool are idle. One that nobody added has none.
+    /// How many connections of a pool are idle: at most the root's maximum. One that nobody added has none.
     pub fn num_idle(&self, pool: u32) -> usize
-        ensures { result ≡ length (pool_in pool self.now.family).idle }
+        ensures idle { result ≡ length (pool_in pool self.now.family).idle }
+        ensures most { result ≤ L.max }
     {
+        self.facts();
         if self.is_named(pool) {
             self.family.num_idle(pool)
         } else {

@@ -4,6 +4,7 @@ ghost use Rattle.std.specs.Prelude.{◌≡◌, ℕ, ◌+◌, ◌<◌, ◌≤◌,
 ghost use Rattle.sqlx_text.specs.declared.error.Error.{Error};
 ghost use Rattle.sqlx_pool_parts.specs.Answers.{lent_alone};
 ghost use Rattle.sqlx_pool_parts.specs.Booked.{CountsIf};
+ghost use Rattle.sqlx_pool.specs.PollChain.{BeginsAs};
 ghost use Rattle.sqlx_pool.specs.Polling.{is_ready, IfReady, IfFailed};
 ghost use Rattle.sqlx_pool.specs.Refusals.{IsEnd, IsPollRefusal};
 ghost use Rattle.sqlx_pool.specs.Stage.{has_lent, IfLent, IfEnded};
@@ -12,15 +13,14 @@ use super::AcquiringOf;
 use crate::kept::Kept;
 use crate::pool::Guard;
 use crate::stage::{Stage, Why};
-use crate::stood::{FrontOf, Stood};
-use crate::{Clock, Held, Loans, Polling, PoolConnectionOf, PoolOf, PoolPollOf, Tally};
+use crate::steps::{PoolSteps, Wakes};
+use crate::stood::FrontOf;
+use crate::{Clock, Polling, PoolConnectionOf, PoolOf, PoolPollOf};
 use sqlx_pool_core::{Lent, Outside, PoolOptions};
-use sqlx_pool_history::Front;
 use sqlx_pool_parts::checks;
 use sqlx_text::{Depth, Error, Moment};
 use std::alloc::Global;
 use std::sync::Wait;
-use std::sync::ledger::Ledger;
 
 // Where no more tickets than these haven't ended, one that waits looks for its call before it sleeps: its turn comes
 // soon, and the threads that bring it have processors.
@@ -31,78 +31,80 @@ fn deadline(options: &PoolOptions, moment: Moment) -> u128 {
     u128::from(moment.0) + u128::from(options.get_acquire_timeout())
 }
 
-impl<C: Depth, O, H: Ledger, L: Loans> Kept<C, O, H, L> {
+impl<C: Depth, O, S: PoolSteps<C, O>> Kept<C, O, S> {
     // Asks, and begins the first poll.
     fn ask_and_begin<R: Wait>(
         &mut self,
         rt: &R,
+        name: S::Name,
+        options: &PoolOptions,
         alloc: Global,
         client: u32,
         now: Moment,
-        tally: &mut Tally<L>,
-        me: &mut Front<Stood<C, O>, L>,
-    ) -> Result<(u64, Stage<C, Held<H>>), Error>
-        ensures tally { IfOk result (λ asked. CountsIf (has_lent asked.1) tally.old tally.new) }
+        tally: &mut S::Tally,
+        me: &mut FrontOf<C, O, S>,
+    ) -> Result<(u64, Stage<C, S::Held>), Error>
+        ensures tally { IfOk result (λ asked. CountsIf (has_lent asked.1) (S.Tally.counted tally.old) (S.Tally.counted tally.new)) }
         ensures flat { IfOk result (λ asked. IfLent asked.1 (λ lent. C.levels lent.raw ≡ 0)) }
         ensures ended { IfOk result (λ asked. IfEnded asked.1 IsEnd) }
         ensures causes { IfErr result (λ e. (e ≡ Error.PoolClosed) ⊎ ((e ≡ Error.Exhausted) ⊎ (e ≡ Error.OutOfMemory))) }
-        ensures err { OnErr result (tally.new ≡ tally.old) }
+        ensures err { OnErr result (S.Tally.counted tally.new ≡ S.Tally.counted tally.old) }
     {
-        match self.ask(rt, alloc, now, client, me) {
-            Ok(ticket) => Ok((ticket, self.begin(rt, client, ticket, now, tally, me))),
+        match self.ask(rt, name, alloc, now, client, me) {
+            Ok(ticket) => {
+                let begun = self.begin(rt, name, options, client, ticket, now, tally, me);
+                Ok((ticket, begun))
+            }
             Err(error) => Err(error),
-        }
-    }
-
-    // Serves an ask at once, where it would be served so and the test of an idle connection asks nothing of the outside.
-    fn serve_untested<R: Wait>(
-        &mut self,
-        rt: &R,
-        alloc: Global,
-        client: u32,
-        now: Moment,
-        tally: &mut Tally<L>,
-    ) -> Option<(Lent<C>, Held<H>)>
-        ensures tally { CountsIf (is_some result) tally.old tally.new }
-        ensures flat { IfSome (lent_alone result) (λ l. C.levels l.raw ≡ 0) }
-    {
-        if checks::tests_nothing(self.locked().options()) {
-            self.serve_new(rt, alloc, now, client, tally)
-        } else {
-            None
         }
     }
 }
 
-impl<C: Depth + Drop, O: Drop, H: Ledger, L: Loans> PoolOf<C, O, H, L> {
+// Whether a poll that is so far is pending.
+fn is_pending<C, H>(stage: &Stage<C, H>) -> bool {
+    match stage {
+        Stage::Pending(_) => true,
+        _ => false,
+    }
+}
+
+impl<C: Depth + Drop, O: Drop, S: PoolSteps<C, O>> PoolOf<C, O, S> {
+    // Lets the lock go behind the beginning of a poll, and wakes whom that may have let go on, but for its own ticket.
+    pub(super) fn unlock_begun(
+        &self,
+        guard: Guard<'_, C, O, S>,
+        ticket: u64,
+        begun: &Stage<C, S::Held>,
+    ) {
+        let mut guard = guard;
+        let wakes = guard.wakes_begun(self.shared.name, is_pending(begun));
+        drop(guard);
+        if wakes != Wakes::One(ticket) {
+            self.wake(wakes);
+        }
+    }
+
     // Lets the lock go. Where the ticket waits, it then sleeps until it is called, or has no time left; in backoff it
     // sleeps until the next try, unless it is called.
     //
     // No call is missed. The lock was held since the step that said `Waiting`, so the ticket isn't entitled yet, and the
-    // calls of its place are counted as they are now. A step that entitles it moves the edge past it under a later
-    // holding, and then its maker calls its place (`unlock`), or all places (`notify`), as after a close: that raises the
-    // count, and a sleep on another count ends, or doesn't begin. The step of a client that entitles its own ticket
-    // calls nobody, for it is awake.
+    // calls of its place are counted as they are now. A step that entitles it is made under a later holding, of whichever
+    // pool, and then its maker calls its place (`unlock`), or all places (`notify`), as after a close: that raises the
+    // count, and a sleep on another count ends, or doesn't begin. The step of a client that entitles its own ticket calls
+    // nobody, for it is awake.
     fn sleep_if_waiting<R: Wait>(
         &self,
         rt: &R,
-        guard: Guard<'_, C, O, H, L>,
+        guard: Guard<'_, C, O, S>,
         ticket: u64,
         now: Moment,
         deadline: u128,
-        begun: &Stage<C, Held<H>>,
+        begun: &Stage<C, S::Held>,
     ) {
-        let mut guard = guard;
-        let place = self.shared.sleepers.place(ticket);
+        let place = self.shared.all.sleepers.place(ticket);
         let calls = place.calls();
-        let looks = guard.locked().num_tickets() <= LOOKERS;
-        let entitled = guard.entitled();
-        drop(guard);
-        if let Some(other) = entitled {
-            if other != ticket {
-                self.shared.sleepers.call(other);
-            }
-        }
+        let looks = guard.locked().num_tickets(self.shared.name) <= LOOKERS;
+        self.unlock_begun(guard, ticket, begun);
         match begun {
             Stage::Pending(Why::Waiting) => place.sleep(rt, calls, looks, now, deadline),
             Stage::Pending(Why::Backoff(until)) => place.sleep(rt, calls, false, now, *until),
@@ -110,31 +112,124 @@ impl<C: Depth + Drop, O: Drop, H: Ledger, L: Loans> PoolOf<C, O, H, L> {
         }
     }
 
+    // Begins a poll.
+    pub(super) fn begin<R: Wait>(
+        &self,
+        rt: &R,
+        client: u32,
+        ticket: u64,
+        now: Moment,
+        tally: &mut S::Tally,
+        me: &mut FrontOf<C, O, S>,
+    ) -> Stage<C, S::Held>
+        ensures begins { BeginsAs S.stands S.does self.now.shared.value.name client ticket now self.now.shared.value.options me.old me.new result }
+        ensures tally { CountsIf (has_lent result) (S.Tally.counted tally.old) (S.Tally.counted tally.new) }
+        ensures flat { IfLent result (λ lent. C.levels lent.raw ≡ 0) }
+        ensures causes { IfEnded result IsEnd }
+    {
+        let mut guard = self.lock(rt);
+        let name = self.shared.name;
+        let begun = guard.begin(
+            rt,
+            name,
+            &self.shared.options,
+            client,
+            ticket,
+            now,
+            tally,
+            me,
+        );
+        self.unlock_begun(guard, ticket, &begun);
+        begun
+    }
+
+    // Begins a poll, and sleeps where the ticket waits or is in backoff.
+    fn begin_or_sleep<R: Wait>(
+        &self,
+        rt: &R,
+        client: u32,
+        ticket: u64,
+        now: Moment,
+        deadline: u128,
+        tally: &mut S::Tally,
+        me: &mut FrontOf<C, O, S>,
+    ) -> Stage<C, S::Held>
+        ensures begins { BeginsAs S.stands S.does self.now.shared.value.name client ticket now self.now.shared.value.options me.old me.new result }
+        ensures tally { CountsIf (has_lent result) (S.Tally.counted tally.old) (S.Tally.counted tally.new) }
+        ensures flat { IfLent result (λ lent. C.levels lent.raw ≡ 0) }
+        ensures causes { IfEnded result IsEnd }
+    {
+        let mut guard = self.lock(rt);
+        let name = self.shared.name;
+        let begun = guard.begin(
+            rt,
+            name,
+            &self.shared.options,
+            client,
+            ticket,
+            now,
+            tally,
+            me,
+        );
+        self.sleep_if_waiting(rt, guard, ticket, now, deadline, &begun);
+        begun
+    }
+
     // Asks, and begins the first poll; sleeps where the ticket waits.
     fn ask_or_sleep<R: Wait>(
         &self,
         rt: &R,
-        guard: Guard<'_, C, O, H, L>,
+        guard: Guard<'_, C, O, S>,
         alloc: Global,
         client: u32,
         now: Moment,
         deadline: u128,
-        tally: &mut Tally<L>,
-        me: &mut FrontOf<C, O, L>,
-    ) -> Result<(u64, Stage<C, Held<H>>), Error>
-        ensures tally { IfOk result (λ asked. CountsIf (has_lent asked.1) tally.old tally.new) }
+        tally: &mut S::Tally,
+        me: &mut FrontOf<C, O, S>,
+    ) -> Result<(u64, Stage<C, S::Held>), Error>
+        ensures tally { IfOk result (λ asked. CountsIf (has_lent asked.1) (S.Tally.counted tally.old) (S.Tally.counted tally.new)) }
         ensures flat { IfOk result (λ asked. IfLent asked.1 (λ lent. C.levels lent.raw ≡ 0)) }
         ensures ended { IfOk result (λ asked. IfEnded asked.1 IsEnd) }
         ensures causes { IfErr result (λ e. (e ≡ Error.PoolClosed) ⊎ ((e ≡ Error.Exhausted) ⊎ (e ≡ Error.OutOfMemory))) }
-        ensures err { OnErr result (tally.new ≡ tally.old) }
+        ensures err { OnErr result (S.Tally.counted tally.new ≡ S.Tally.counted tally.old) }
     {
         let mut guard = guard;
-        match guard.ask_and_begin(rt, alloc, client, now, tally, me) {
+        let name = self.shared.name;
+        match guard.ask_and_begin(
+            rt,
+            name,
+            &self.shared.options,
+            alloc,
+            client,
+            now,
+            tally,
+            me,
+        ) {
             Ok((ticket, begun)) => {
                 self.sleep_if_waiting(rt, guard, ticket, now, deadline, &begun);
                 Ok((ticket, begun))
             }
             Err(error) => Err(error),
+        }
+    }
+
+    // Serves an ask at once, where it would be served so and the test of an idle connection asks nothing of the outside.
+    fn serve_untested<R: Wait>(
+        &self,
+        rt: &R,
+        guard: &mut Guard<'_, C, O, S>,
+        alloc: Global,
+        client: u32,
+        now: Moment,
+        tally: &mut S::Tally,
+    ) -> Option<(Lent<C>, S::Held)>
+        ensures tally { CountsIf (is_some result) (S.Tally.counted tally.old) (S.Tally.counted tally.new) }
+        ensures flat { IfSome (lent_alone result) (λ l. C.levels l.raw ≡ 0) }
+    {
+        if checks::tests_nothing(&self.shared.options) {
+            guard.serve_new(rt, self.shared.name, alloc, now, client, tally)
+        } else {
+            None
         }
     }
 
@@ -149,10 +244,10 @@ impl<C: Depth + Drop, O: Drop, H: Ledger, L: Loans> PoolOf<C, O, H, L> {
         clock: &mut K,
         client: u32,
         out: &mut X,
-        tally: &mut Tally<L>,
-    ) -> Result<PoolConnectionOf<C, O, H, L>, Error>
-        ensures lent { OnOk result (CountsIf true tally.old tally.new) }
-        ensures refused { OnErr result (tally.new ≡ tally.old) }
+        tally: &mut S::Tally,
+    ) -> Result<PoolConnectionOf<C, O, S>, Error>
+        ensures lent { OnOk result (CountsIf true (S.Tally.counted tally.old) (S.Tally.counted tally.new)) }
+        ensures refused { OnErr result (S.Tally.counted tally.new ≡ S.Tally.counted tally.old) }
         ensures flat { IfOk result (λ conn. C.levels conn.raw ≡ 0) }
         ensures causes { IfErr result (IsPollRefusal (X.faults out.old) (X.faults out.new)) }
         ensures counts { (X.faults out.old ≤ X.faults out.new) × (X.refusals out.old ≤ X.refusals out.new) }
@@ -162,11 +257,12 @@ impl<C: Depth + Drop, O: Drop, H: Ledger, L: Loans> PoolOf<C, O, H, L> {
         };
         let now = clock.now();
         let mut guard = self.lock_and_cut(rt);
-        if let Some((lent, held)) = guard.serve_untested(rt, alloc, client, now, tally) {
+        if let Some((lent, held)) = self.serve_untested(rt, &mut guard, alloc, client, now, tally) {
             drop(guard);
             return Ok(PoolConnectionOf::new(pool, client, lent, held));
         }
-        let deadline = deadline(&self.shared.options, guard.locked().moment(now));
+        let moment = guard.locked().moment(self.shared.name, now);
+        let deadline = deadline(&self.shared.options, moment);
         let mut me = self.front();
         match self.ask_or_sleep(rt, guard, alloc, client, now, deadline, tally, &mut me) {
             Ok((ticket, begun)) => {
@@ -187,7 +283,7 @@ impl<C: Depth + Drop, O: Drop, H: Ledger, L: Loans> PoolOf<C, O, H, L> {
     }
 }
 
-impl<C: Depth + Drop, O: Drop, H: Ledger, L: Loans> AcquiringOf<C, O, H, L> {
+impl<C: Depth + Drop, O: Drop, S: PoolSteps<C, O>> AcquiringOf<C, O, S> {
     // Polls until the ticket ends.
     #[tactic(auto, using(crate::proofs::RefusalLemmas::refusal_sooner))]
     fn wait<R: Wait, K: Clock, X: Outside<C, O>>(
@@ -197,10 +293,10 @@ impl<C: Depth + Drop, O: Drop, H: Ledger, L: Loans> AcquiringOf<C, O, H, L> {
         clock: &mut K,
         deadline: u128,
         out: &mut X,
-        tally: &mut Tally<L>,
-    ) -> Result<PoolConnectionOf<C, O, H, L>, Error>
-        ensures lent { OnOk result (CountsIf true tally.old tally.new) }
-        ensures refused { OnErr result (tally.new ≡ tally.old) }
+        tally: &mut S::Tally,
+    ) -> Result<PoolConnectionOf<C, O, S>, Error>
+        ensures lent { OnOk result (CountsIf true (S.Tally.counted tally.old) (S.Tally.counted tally.new)) }
+        ensures refused { OnErr result (S.Tally.counted tally.new ≡ S.Tally.counted tally.old) }
         ensures flat { IfOk result (λ conn. C.levels conn.raw ≡ 0) }
         ensures causes { IfErr result (IsPollRefusal (X.faults out.old) (X.faults out.new)) }
         ensures counts { (X.faults out.old ≤ X.faults out.new) × (X.refusals out.old ≤ X.refusals out.new) }
@@ -224,19 +320,24 @@ impl<C: Depth + Drop, O: Drop, H: Ledger, L: Loans> AcquiringOf<C, O, H, L> {
         clock: &mut K,
         deadline: u128,
         out: &mut X,
-        tally: &mut Tally<L>,
-    ) -> PoolPollOf<C, O, H, L>
-        ensures tally { CountsIf (is_ready result) tally.old tally.new }
+        tally: &mut S::Tally,
+    ) -> PoolPollOf<C, O, S>
+        ensures tally { CountsIf (is_ready result) (S.Tally.counted tally.old) (S.Tally.counted tally.new) }
         ensures flat { IfReady result (λ conn. C.levels conn.raw ≡ 0) }
         ensures causes { IfFailed result (IsPollRefusal (X.faults out.old) (X.faults out.new)) }
         ensures counts { (X.faults out.old ≤ X.faults out.new) × (X.refusals out.old ≤ X.refusals out.new) }
     {
         let now = clock.now();
         let mut me = self.pool.front();
-        let mut guard = self.pool.lock(rt);
-        let begun = guard.begin(rt, self.client, self.ticket, now, tally, &mut me);
-        self.pool
-            .sleep_if_waiting(rt, guard, self.ticket, now, deadline, &begun);
+        let begun = self.pool.begin_or_sleep(
+            rt,
+            self.client,
+            self.ticket,
+            now,
+            deadline,
+            tally,
+            &mut me,
+        );
         self.go_on::<R, X>(rt, alloc, now, begun, out, tally, &mut me)
     }
 }

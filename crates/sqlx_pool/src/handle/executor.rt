@@ -7,7 +7,8 @@ ghost use Rattle.sqlx_traits.specs.StepList.{StepCauses};
 ghost use Rattle.sqlx_pool.specs.Handle.{is_of_no_driver, told, WasRefused, WorkedOn};
 
 use super::PoolHandle;
-use crate::{Clock, Loans, Pool, PoolConnection, PoolOf};
+use crate::steps::PoolSteps;
+use crate::{Clock, PoolConnectionOf, PoolOf};
 use sqlx_pool_core::Outside;
 use sqlx_pool_parts::taken::Taken;
 use sqlx_text::{Error, IoFault, SqlStr};
@@ -15,10 +16,16 @@ use sqlx_traits::{Database, Execute, Executor, FetchMany, StepList};
 use sqlx_tx::Hold;
 use std::alloc::Global;
 use std::sync::Wait;
-use std::sync::ledger::Ledger;
 
 // The pool of a database as an executor.
-type Handle<'p, DB, H, L, R, K, X> = PoolHandle<'p, Pool<DB, H, L>, L, R, K, X>;
+type Handle<'p, DB, S, R, K, X> = PoolHandle<
+    'p,
+    PoolOf<<DB as Database>::Connection, <DB as Database>::Options, S>,
+    <S as PoolSteps<<DB as Database>::Connection, <DB as Database>::Options>>::Tally,
+    R,
+    K,
+    X,
+>;
 
 // It is one of the two errors of a begin, or that of arguments which can't be had.
 fn is_of_no_driver(error: &Error) -> bool
@@ -45,9 +52,9 @@ fn as_told(error: Error) -> Error
 }
 
 // Runs a query on a connection that was lent.
-fn run_on<DB: Database, H: Ledger, L: Loans, Q: Execute<DB>>(
+fn run_on<DB: Database, S: PoolSteps<DB::Connection, DB::Options>, Q: Execute<DB>>(
     alloc: Global,
-    conn: &mut PoolConnection<DB, H, L>,
+    conn: &mut PoolConnectionOf<DB::Connection, DB::Options, S>,
     query: Q,
 ) -> FetchMany<DB>
 where
@@ -59,9 +66,9 @@ where
 }
 
 // Prepares a statement on a connection that was lent.
-fn prepare_on<DB: Database, H: Ledger, L: Loans>(
+fn prepare_on<DB: Database, S: PoolSteps<DB::Connection, DB::Options>>(
     alloc: Global,
-    conn: &mut PoolConnection<DB, H, L>,
+    conn: &mut PoolConnectionOf<DB::Connection, DB::Options, S>,
     sql: SqlStr,
     parameters: &[DB::TypeInfo],
 ) -> Result<DB::Statement, Error>
@@ -78,24 +85,23 @@ where
 #[tactic(auto, using(crate::proofs::HandleLemmas::causes_counted))]
 fn run<
     DB: Database,
-    H: Ledger,
-    L: Loans,
+    S: PoolSteps<DB::Connection, DB::Options>,
     R: Wait + Drop,
     K: Clock,
     X: Outside<DB::Connection, DB::Options>,
     Q: Execute<DB>,
->(handle: &mut Handle<'_, DB, H, L, R, K, X>, alloc: Global, query: Q) -> FetchMany<DB>
+>(handle: &mut Handle<'_, DB, S, R, K, X>, alloc: Global, query: Q) -> FetchMany<DB>
 where
     DB::Connection: Executor<DB> + Drop,
-    ensures ran { WasRefused (X.faults handle.old.out) (X.faults handle.new.out) handle.old.tally handle.new.tally (λ e. result ≡ Err e ∷ [])
-        ⊎ WorkedOn DB.Connection.levels handle.old.tally handle.new.tally (λ first last. DB.Connection.runs first (handed Q.text Q.arguments Q.kept query) result last) }
+    ensures ran { WasRefused (X.faults handle.old.out) (X.faults handle.new.out) (S.Tally.counted handle.old.tally) (S.Tally.counted handle.new.tally) (λ e. result ≡ Err e ∷ [])
+        ⊎ WorkedOn DB.Connection.levels (S.Tally.counted handle.old.tally) (S.Tally.counted handle.new.tally) (λ first last. DB.Connection.runs first (handed Q.text Q.arguments Q.kept query) result last) }
     ensures rises { handle.old.calls ≤ handle.new.calls }
     ensures causes { StepCauses handle.old.calls handle.new.calls (Q.arguments query) result }
 {
     match handle.lend(alloc) {
         Ok(lent) => {
             let mut conn = lent;
-            let list = run_on::<DB, H, L, Q>(alloc, &mut conn, query);
+            let list = run_on::<DB, S, Q>(alloc, &mut conn, query);
             handle.give_back(alloc, conn);
             list
         }
@@ -110,21 +116,20 @@ where
 #[tactic(auto, using(crate::proofs::HandleLemmas::errs_counted))]
 fn prepare<
     DB: Database,
-    H: Ledger,
-    L: Loans,
+    S: PoolSteps<DB::Connection, DB::Options>,
     R: Wait + Drop,
     K: Clock,
     X: Outside<DB::Connection, DB::Options>,
 >(
-    handle: &mut Handle<'_, DB, H, L, R, K, X>,
+    handle: &mut Handle<'_, DB, S, R, K, X>,
     alloc: Global,
     sql: SqlStr,
     parameters: &[DB::TypeInfo],
 ) -> Result<DB::Statement, Error>
 where
     DB::Connection: Executor<DB> + Drop,
-    ensures ran { WasRefused (X.faults handle.old.out) (X.faults handle.new.out) handle.old.tally handle.new.tally (λ e. result ≡ Err e)
-        ⊎ WorkedOn DB.Connection.levels handle.old.tally handle.new.tally (λ first last. DB.Connection.prepares first sql parameters.now result last) }
+    ensures ran { WasRefused (X.faults handle.old.out) (X.faults handle.new.out) (S.Tally.counted handle.old.tally) (S.Tally.counted handle.new.tally) (λ e. result ≡ Err e)
+        ⊎ WorkedOn DB.Connection.levels (S.Tally.counted handle.old.tally) (S.Tally.counted handle.new.tally) (λ first last. DB.Connection.prepares first sql parameters.now result last) }
     ensures text { IfOk result (λ statement. DB.Statement.text statement ≡ sql) }
     ensures rises { handle.old.calls ≤ handle.new.calls }
     ensures cause { IfErr result (FaultCause handle.old.calls handle.new.calls) }
@@ -132,7 +137,7 @@ where
     match handle.lend(alloc) {
         Ok(lent) => {
             let mut conn = lent;
-            let prepared = prepare_on::<DB, H, L>(alloc, &mut conn, sql, parameters);
+            let prepared = prepare_on::<DB, S>(alloc, &mut conn, sql, parameters);
             handle.give_back(alloc, conn);
             prepared
         }
@@ -146,12 +151,11 @@ where
 impl<
     'p,
     DB: Database,
-    H: Ledger,
-    L: Loans,
+    S: PoolSteps<DB::Connection, DB::Options>,
     R: Wait + Drop,
     K: Clock,
     X: Outside<DB::Connection, DB::Options>,
-> Executor<DB> for PoolHandle<'p, PoolOf<DB::Connection, DB::Options, H, L>, L, R, K, X>
+> Executor<DB> for PoolHandle<'p, PoolOf<DB::Connection, DB::Options, S>, S::Tally, R, K, X>
 where
     DB::Connection: Executor<DB> + Drop,
 {
@@ -160,15 +164,15 @@ where
     ghost use Rattle.sqlx_pool.specs.Handle.{WasRefused, WorkedOn};
 
     ghost runs = { λ handle query list after. IfErr query.arguments (RunsNothing handle after (λ e. list ≡ Err e ∷ [])) × IfOk query.arguments (λ _.
-        WasRefused (X.faults handle.out) (X.faults after.out) handle.tally after.tally (λ e. list ≡ Err e ∷ [])
-        ⊎ WorkedOn DB.Connection.levels handle.tally after.tally (λ first last. DB.Connection.runs first query list last)) };
+        WasRefused (X.faults handle.out) (X.faults after.out) (S.Tally.counted handle.tally) (S.Tally.counted after.tally) (λ e. list ≡ Err e ∷ [])
+        ⊎ WorkedOn DB.Connection.levels (S.Tally.counted handle.tally) (S.Tally.counted after.tally) (λ first last. DB.Connection.runs first query list last)) };
 
-    ghost prepares = { λ handle sql parameters answer after. WasRefused (X.faults handle.out) (X.faults after.out) handle.tally after.tally (λ e. answer ≡ Err e)
-        ⊎ WorkedOn DB.Connection.levels handle.tally after.tally (λ first last. DB.Connection.prepares first sql parameters answer last) };
+    ghost prepares = { λ handle sql parameters answer after. WasRefused (X.faults handle.out) (X.faults after.out) (S.Tally.counted handle.tally) (S.Tally.counted after.tally) (λ e. answer ≡ Err e)
+        ⊎ WorkedOn DB.Connection.levels (S.Tally.counted handle.tally) (S.Tally.counted after.tally) (λ first last. DB.Connection.prepares first sql parameters answer last) };
 
     fn fetch_many<Q: Execute<DB>>(&mut self, alloc: Global, query: Q) -> FetchMany<DB> {
         match Taken::<DB, Q>::new(query) {
-            Ok(taken) => run::<DB, H, L, R, K, X, Taken<DB, Q>>(self, alloc, taken),
+            Ok(taken) => run::<DB, S, R, K, X, Taken<DB, Q>>(self, alloc, taken),
             Err(fault) => StepList::not_encoded(alloc, fault),
         }
     }
@@ -179,6 +183,6 @@ where
         sql: SqlStr,
         parameters: &[DB::TypeInfo],
     ) -> Result<DB::Statement, Error> {
-        prepare::<DB, H, L, R, K, X>(self, alloc, sql, parameters)
+        prepare::<DB, S, R, K, X>(self, alloc, sql, parameters)
     }
 }

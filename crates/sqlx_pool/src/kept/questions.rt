@@ -1,89 +1,103 @@
 //! What the value is asked without a change. The caller's front then ends with the state of which it answers.
 
-ghost use Rattle.std.specs.Prelude.{◌≡◌, ℕ, ◌≤◌, length, not, false, true, IfOk};
-ghost use Rattle.sqlx_pool_marks.specs.EventTable.{size_at};
-ghost use Rattle.sqlx_pool_marks.specs.FairLog.{IsFair};
-ghost use Rattle.sqlx_pool_marks.specs.Marks.{is_open, idle_of};
-ghost use Rattle.sqlx_pool_lists.specs.MaintenanceSteps.{close_state_of};
-ghost use Rattle.sqlx_pool_parts.specs.MarkLog.{IsCopyOf, IsUncut};
-ghost use Rattle.sqlx_pool_parts.specs.State.{since_start};
+ghost use Rattle.std.specs.Prelude.{◌≡◌, ℕ, ◌≤◌, IfOk};
+ghost use Rattle.sqlx_pool.specs.Calls as call;
 ghost use Rattle.sqlx_pool.specs.Seen.{Sees};
 
 use super::{Kept, Seen};
-use crate::{Loans, MarkLog};
+use crate::steps::PoolSteps;
 use sqlx_pool_core::CloseState;
 use sqlx_text::{Depth, OutOfMemory};
 use std::alloc::Global;
 use std::sync::Wait;
-use std::sync::ledger::Ledger;
 
-impl<C: Depth, O, H: Ledger, L: Loans> Kept<C, O, H, L> {
+impl<C: Depth, O, S: PoolSteps<C, O>> Kept<C, O, S> {
     // How many connections there are or may be.
-    pub(crate) fn size<R: Wait>(&mut self, rt: &R, me: &mut Seen<C, O, L>) -> u32
-        ensures most { result ≤ L.max }
-        ensures saw { Sees C.levels L.max L.cuts me.old me.new (λ state. result ≡ size_at state.core.places state.marks) }
+    pub(crate) fn size<R: Wait>(&mut self, rt: &R, name: S::Name, me: &mut Seen<C, O, S>) -> u32
+        ensures most { result ≤ S.max }
+        ensures saw { Sees S.stands me.old me.new (S.tells (call.Size name result)) }
     {
         let Kept { locked, history } = self;
         history.show(rt, &*locked, me);
         locked.facts();
-        locked.size()
+        locked.size(name)
     }
 
     // How many connections are idle.
-    pub(crate) fn num_idle<R: Wait>(&mut self, rt: &R, me: &mut Seen<C, O, L>) -> usize
-        ensures most { result ≤ L.max }
-        ensures saw { Sees C.levels L.max L.cuts me.old me.new (λ state. result ≡ length (idle_of state.marks)) }
+    pub(crate) fn num_idle<R: Wait>(
+        &mut self,
+        rt: &R,
+        name: S::Name,
+        me: &mut Seen<C, O, S>,
+    ) -> usize
+        ensures most { result ≤ S.max }
+        ensures saw { Sees S.stands me.old me.new (S.tells (call.NumIdle name result)) }
     {
         let Kept { locked, history } = self;
         history.show(rt, &*locked, me);
         locked.facts();
-        locked.num_idle()
+        locked.num_idle(name)
     }
 
     // Whether the pool is closed.
-    pub(crate) fn is_closed<R: Wait>(&mut self, rt: &R, me: &mut Seen<C, O, L>) -> bool
-        ensures { Sees C.levels L.max L.cuts me.old me.new (λ state. is_open state.marks ≡ not result) }
+    pub(crate) fn is_closed<R: Wait>(
+        &mut self,
+        rt: &R,
+        name: S::Name,
+        me: &mut Seen<C, O, S>,
+    ) -> bool
+        ensures { Sees S.stands me.old me.new (S.tells (call.IsClosed name result)) }
     {
         let Kept { locked, history } = self;
         history.show(rt, &*locked, me);
         locked.facts();
-        locked.is_closed()
+        locked.is_closed(name)
     }
 
     // How far the pool is closed.
-    pub(crate) fn closing<R: Wait>(&mut self, rt: &R, me: &mut Seen<C, O, L>) -> CloseState
-        ensures { Sees C.levels L.max L.cuts me.old me.new (λ state. result ≡ close_state_of state.marks) }
+    pub(crate) fn closing<R: Wait>(
+        &mut self,
+        rt: &R,
+        name: S::Name,
+        me: &mut Seen<C, O, S>,
+    ) -> CloseState
+        ensures { Sees S.stands me.old me.new (S.tells (call.Closing name result)) }
     {
         let Kept { locked, history } = self;
         history.show(rt, &*locked, me);
         locked.facts();
-        locked.closing()
+        locked.closing(name)
     }
 
     // How many marks the log has behind its start.
-    pub(crate) fn log_len<R: Wait>(&mut self, rt: &R, me: &mut Seen<C, O, L>) -> usize
-        ensures { Sees C.levels L.max L.cuts me.old me.new (λ state. result ≡ length (since_start state)) }
+    pub(crate) fn log_len<R: Wait>(
+        &mut self,
+        rt: &R,
+        name: S::Name,
+        me: &mut Seen<C, O, S>,
+    ) -> usize
+        ensures { Sees S.stands me.old me.new (S.tells (call.LogLen name result)) }
     {
         let Kept { locked, history } = self;
         history.show(rt, &*locked, me);
         locked.facts();
-        locked.log_len()
+        locked.log_len(name)
     }
 
     // A copy of the log.
     pub(crate) fn read_log<R: Wait>(
         &mut self,
         rt: &R,
+        name: S::Name,
         alloc: Global,
-        me: &mut Seen<C, O, L>,
-    ) -> Result<MarkLog, OutOfMemory>
-        ensures saw { IfOk result (λ log. Sees C.levels L.max L.cuts me.old me.new (λ state. IsCopyOf state log)) }
-        ensures start { IfOk result (λ log. L.cuts ≡ false → IsUncut log) }
-        ensures fair { IfOk result (λ log. IsFair L.max log.start.items log.marks.items) }
+        me: &mut Seen<C, O, S>,
+    ) -> Result<S::Log, OutOfMemory>
+        ensures is { IfOk result (λ log. S.is_log log) }
+        ensures saw { IfOk result (λ log. Sees S.stands me.old me.new (S.tells (call.LogIs name log))) }
     {
         let Kept { locked, history } = self;
         history.show(rt, &*locked, me);
         locked.facts();
-        locked.read_log(alloc)
+        locked.read_log(name, alloc)
     }
 }

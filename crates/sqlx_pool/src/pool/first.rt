@@ -4,7 +4,7 @@ ghost use Rattle.std.specs.Prelude.{◌≡◌, ◌≤◌, ℕ, IfErr, IfOk};
 ghost use Rattle.sqlx_pool_parts.specs.Opened.{IsOpenRefusal};
 
 use super::PoolOf;
-use crate::Loans;
+use crate::steps::PoolSteps;
 use sqlx_pool_core::Outside;
 use sqlx_pool_core::idle_check::Check;
 use sqlx_pool_parts::checks::{self, close_all, close_by};
@@ -12,7 +12,6 @@ use sqlx_pool_parts::filled::Filled;
 use sqlx_text::{Depth, Error, Moment};
 use std::alloc::Global;
 use std::sync::Wait;
-use std::sync::ledger::Ledger;
 
 // Sets a new connection up by its hook, where it is set. A level that is left open is `BeginFailed`.
 #[tactic(auto, using(crate::proofs::RefusalLemmas::left_open))]
@@ -39,7 +38,7 @@ fn set_up<C: Depth, O, X: Outside<C, O>>(hook: bool, given: C, out: &mut X) -> R
     }
 }
 
-impl<C: Depth + Drop, O: Drop, H: Ledger, L: Loans> PoolOf<C, O, H, L> {
+impl<C: Depth + Drop, O: Drop, S: PoolSteps<C, O>> PoolOf<C, O, S> {
     // Opens the first connections; where one is refused the pool is closed, and what was opened is closed hard.
     #[tactic(auto, using(crate::proofs::RefusalLemmas::open_later))]
     pub(crate) fn connect_all<R: Wait, X: Outside<C, O>>(
@@ -54,7 +53,7 @@ impl<C: Depth + Drop, O: Drop, H: Ledger, L: Loans> PoolOf<C, O, H, L> {
     {
         let opened = self.open_first::<R, X>(rt, alloc, now, out);
         if opened.is_err() {
-            let idle = self.lock(rt).close(rt, &mut self.front());
+            let idle = self.lock(rt).close(rt, self.shared.name, &mut self.front());
             self.notify();
             close_all::<C, O, X>(Check::CloseHard, idle, out);
         }
@@ -95,7 +94,7 @@ impl<C: Depth + Drop, O: Drop, H: Ledger, L: Loans> PoolOf<C, O, H, L> {
         ensures counts { (X.faults out.old ≤ X.faults out.new) × (X.refusals out.old ≤ X.refusals out.new) }
         ensures refused { IfErr result (IsOpenRefusal X.depth C.levels (X.faults out.old) (X.refusals out.old) (X.faults out.new) (X.refusals out.new)) }
     {
-        let place = self.lock(rt).first_place(rt, alloc);
+        let place = self.lock(rt).first_place(rt, self.shared.name, alloc);
         match place {
             Ok(true) => match self.connect_first::<R, X>(rt, alloc, out) {
                 Ok(raw) => Ok(self.keep_new::<R, X>(rt, now, raw, out, &mut self.front())),

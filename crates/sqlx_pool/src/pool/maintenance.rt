@@ -1,17 +1,18 @@
 //! What keeps a pool in shape, and closing it: one locked step a connection, with the connects and closes between.
 
-ghost use Rattle.std.specs.Prelude.{◌≡◌, ◌⊎◌, ℕ, ◌≤◌, true, false, None};
+ghost use Rattle.std.specs.Prelude.{◌≡◌, ◌⊎◌, ℕ, ◌≤◌, true, false};
 ghost use mathlib.Core.List.{IsPrefix};
 ghost use Rattle.sqlx_pool_core.specs.Giving.{is_pass};
 ghost use Rattle.sqlx_pool_parts.specs.Checks.{IfPassed};
 ghost use Rattle.sqlx_pool_parts.specs.Opened.{IsCounted, TellsLevels};
 ghost use Rattle.sqlx_pool.specs.Returned.{ChecksReturn};
 ghost use Rattle.sqlx_pool.specs.Seen.{HasSeen};
-ghost use Rattle.sqlx_pool.specs.Upkeep.{EndsKeeping, IfUnfilled, IsFilled, to_reap};
+ghost use Rattle.sqlx_pool.specs.Calls as call;
+ghost use Rattle.sqlx_pool.specs.Upkeep.{EndsKeeping, IfUnfilled};
 
 use super::PoolOf;
+use crate::steps::PoolSteps;
 use crate::stood::FrontOf;
-use crate::{Loans, Locked};
 use sqlx_pool_core::idle_check::{Check, Opening};
 use sqlx_pool_core::{Openings, Outside, PoolConnectionMetadata, PoolOptions};
 use sqlx_pool_parts::checks;
@@ -20,18 +21,6 @@ use sqlx_text::{Depth, Error, Moment};
 use std::alloc::Global;
 use std::sync::Wait;
 use std::sync::atomic::Ordering;
-use std::sync::ledger::Ledger;
-
-impl<C: Depth, O, H: Ledger, L: Loans> Locked<C, O, H, L> {
-    // The moment at which the hook tests a connection that comes back; None where the pool is closed or it is too old.
-    fn tests_at(&self, created: Moment, now: Moment) -> Option<Moment> {
-        if self.must_close(created, now) {
-            None
-        } else {
-            Some(self.moment(now))
-        }
-    }
-}
 
 // A connection that was opened at this moment is too old.
 fn is_too_old(options: &PoolOptions, created: Moment, now: Moment) -> bool {
@@ -41,7 +30,7 @@ fn is_too_old(options: &PoolOptions, created: Moment, now: Moment) -> bool {
     }
 }
 
-impl<C: Depth + Drop, O: Drop, H: Ledger, L: Loans> PoolOf<C, O, H, L> {
+impl<C: Depth + Drop, O: Drop, S: PoolSteps<C, O>> PoolOf<C, O, S> {
     // Tests a connection that comes back, unless it is to be closed anyway.
     pub(crate) fn check<R: Wait, X: Outside<C, O>>(
         &self,
@@ -77,10 +66,15 @@ impl<C: Depth + Drop, O: Drop, H: Ledger, L: Loans> PoolOf<C, O, H, L> {
     // pool's.
     fn tests_at<R: Wait>(&self, rt: &R, created: Moment, now: Moment) -> Option<Moment> {
         let options = &self.shared.options;
-        if options.get_after_release() {
-            return self.lock(rt).locked().tests_at(created, now);
+        if options.get_after_release() || self.shared.all.closed.load(Ordering::SeqCst) {
+            let guard = self.lock(rt);
+            let locked = guard.locked();
+            if locked.must_close(self.shared.name, created, now) {
+                return None;
+            }
+            return Some(locked.moment(self.shared.name, now));
         }
-        if self.shared.closed.load(Ordering::SeqCst) || is_too_old(options, created, now) {
+        if is_too_old(options, created, now) {
             None
         } else {
             Some(now)
@@ -117,11 +111,11 @@ impl<C: Depth + Drop, O: Drop, H: Ledger, L: Loans> PoolOf<C, O, H, L> {
         alloc: Global,
         now: Moment,
         out: &mut X,
-        me: &mut FrontOf<C, O, L>,
+        me: &mut FrontOf<C, O, S>,
     ) -> (u32, Openings)
         ensures most { (result.0 ≤ self.now.shared.value.options.max_connections) × (result.1.opened ≤ self.now.shared.value.options.max_connections) }
-        ensures reaped { (result.0 ≡ self.now.shared.value.options.max_connections) ⊎ HasSeen C.levels L.max L.cuts me.old me.new (λ state. to_reap now state ≡ None) }
-        ensures ends { TellsLevels X.depth C.levels → EndsKeeping self.now.shared.value.options (HasSeen C.levels L.max L.cuts me.old me.new IsFilled) (IsCounted X.faults X.refusals out.old out.new) result.1 }
+        ensures reaped { (result.0 ≡ self.now.shared.value.options.max_connections) ⊎ HasSeen S.stands me.old me.new (S.tells (call.NothingToReap self.now.shared.value.name now)) }
+        ensures ends { TellsLevels X.depth C.levels → EndsKeeping self.now.shared.value.options (HasSeen S.stands me.old me.new (S.tells (call.IsFilled self.now.shared.value.name))) (IsCounted X.faults X.refusals out.old out.new) result.1 }
         ensures later { IsPrefix me.old me.new }
         ensures counts { (X.faults out.old ≤ X.faults out.new) × (X.refusals out.old ≤ X.refusals out.new) }
     {
@@ -136,16 +130,16 @@ impl<C: Depth + Drop, O: Drop, H: Ledger, L: Loans> PoolOf<C, O, H, L> {
         rt: &R,
         now: Moment,
         out: &mut X,
-        me: &mut FrontOf<C, O, L>,
+        me: &mut FrontOf<C, O, S>,
     ) -> u32
         ensures most { result ≤ self.now.shared.value.options.max_connections }
-        ensures ends { (result ≡ self.now.shared.value.options.max_connections) ⊎ HasSeen C.levels L.max L.cuts me.old me.new (λ state. to_reap now state ≡ None) }
+        ensures ends { (result ≡ self.now.shared.value.options.max_connections) ⊎ HasSeen S.stands me.old me.new (S.tells (call.NothingToReap self.now.shared.value.name now)) }
         ensures later { IsPrefix me.old me.new }
         ensures counts { (X.faults out.old ≤ X.faults out.new) × (X.refusals out.old ≤ X.refusals out.new) }
     {
         let max = self.shared.options.get_max_connections();
         for reaped in 0..max {
-            let idle = self.lock(rt).reap(rt, now, me);
+            let idle = self.lock(rt).reap(rt, self.shared.name, now, me);
             match idle {
                 Some(idle) => checks::close_by::<C, O, X>(Check::Close, idle.lent.raw, out),
                 None => return reaped,
@@ -162,7 +156,7 @@ impl<C: Depth + Drop, O: Drop, H: Ledger, L: Loans> PoolOf<C, O, H, L> {
         alloc: Global,
         now: Moment,
         out: &mut X,
-        me: &mut FrontOf<C, O, L>,
+        me: &mut FrontOf<C, O, S>,
     ) -> Openings
         ensures later { IsPrefix me.old me.new }
         ensures most { result.opened ≤ self.now.shared.value.options.max_connections }
@@ -201,10 +195,10 @@ impl<C: Depth + Drop, O: Drop, H: Ledger, L: Loans> PoolOf<C, O, H, L> {
         alloc: Global,
         now: Moment,
         out: &mut X,
-        me: &mut FrontOf<C, O, L>,
+        me: &mut FrontOf<C, O, S>,
     ) -> Openings
         ensures most { result.opened ≤ self.now.shared.value.options.max_connections }
-        ensures ends { TellsLevels X.depth C.levels → EndsKeeping self.now.shared.value.options (HasSeen C.levels L.max L.cuts me.old me.new IsFilled) (IsCounted X.faults X.refusals out.old out.new) result }
+        ensures ends { TellsLevels X.depth C.levels → EndsKeeping self.now.shared.value.options (HasSeen S.stands me.old me.new (S.tells (call.IsFilled self.now.shared.value.name))) (IsCounted X.faults X.refusals out.old out.new) result }
         ensures later { IsPrefix me.old me.new }
         ensures counts { (X.faults out.old ≤ X.faults out.new) × (X.refusals out.old ≤ X.refusals out.new) }
     {
@@ -239,13 +233,15 @@ impl<C: Depth + Drop, O: Drop, H: Ledger, L: Loans> PoolOf<C, O, H, L> {
         alloc: Global,
         now: Moment,
         out: &mut X,
-        me: &mut FrontOf<C, O, L>,
+        me: &mut FrontOf<C, O, S>,
     ) -> Filled
-        ensures unfilled { TellsLevels X.depth C.levels → IfUnfilled result (HasSeen C.levels L.max L.cuts me.old me.new IsFilled) (IsCounted X.faults X.refusals out.old out.new) }
+        ensures unfilled { TellsLevels X.depth C.levels → IfUnfilled result (HasSeen S.stands me.old me.new (S.tells (call.IsFilled self.now.shared.value.name))) (IsCounted X.faults X.refusals out.old out.new) }
         ensures later { IsPrefix me.old me.new }
         ensures counts { (X.faults out.old ≤ X.faults out.new) × (X.refusals out.old ≤ X.refusals out.new) }
     {
-        let place = self.lock_and_cut(rt).minimum_place(rt, alloc, me);
+        let place = self
+            .lock_and_cut(rt)
+            .minimum_place(rt, self.shared.name, alloc, me);
         match place {
             Ok(true) => self.fill_place::<R, X>(rt, alloc, now, out, me),
             Ok(false) => Filled::Full,
@@ -260,9 +256,9 @@ impl<C: Depth + Drop, O: Drop, H: Ledger, L: Loans> PoolOf<C, O, H, L> {
         alloc: Global,
         now: Moment,
         out: &mut X,
-        me: &mut FrontOf<C, O, L>,
+        me: &mut FrontOf<C, O, S>,
     ) -> Filled
-        ensures unfilled { TellsLevels X.depth C.levels → IfUnfilled result (HasSeen C.levels L.max L.cuts me.old me.new IsFilled) (IsCounted X.faults X.refusals out.old out.new) }
+        ensures unfilled { TellsLevels X.depth C.levels → IfUnfilled result (HasSeen S.stands me.old me.new (S.tells (call.IsFilled self.now.shared.value.name))) (IsCounted X.faults X.refusals out.old out.new) }
         ensures later { IsPrefix me.old me.new }
         ensures counts { (X.faults out.old ≤ X.faults out.new) × (X.refusals out.old ≤ X.refusals out.new) }
     {
@@ -291,14 +287,16 @@ impl<C: Depth + Drop, O: Drop, H: Ledger, L: Loans> PoolOf<C, O, H, L> {
         now: Moment,
         raw: C,
         out: &mut X,
-        me: &mut FrontOf<C, O, L>,
+        me: &mut FrontOf<C, O, S>,
     ) -> Filled
         requires { C.levels raw ≡ 0 }
-        ensures unfilled { IfUnfilled result (HasSeen C.levels L.max L.cuts me.old me.new IsFilled) (IsCounted X.faults X.refusals out.old out.new) }
+        ensures unfilled { IfUnfilled result (HasSeen S.stands me.old me.new (S.tells (call.IsFilled self.now.shared.value.name))) (IsCounted X.faults X.refusals out.old out.new) }
         ensures later { IsPrefix me.old me.new }
         ensures counts { (X.faults out.old ≤ X.faults out.new) × (X.refusals out.old ≤ X.refusals out.new) }
     {
-        let back = self.lock(rt).minimum_done(rt, now, Some(raw), me);
+        let back = self
+            .lock(rt)
+            .minimum_done(rt, self.shared.name, now, Some(raw), me);
         self.notify();
         match back {
             None => Filled::Opened,
@@ -310,10 +308,12 @@ impl<C: Depth + Drop, O: Drop, H: Ledger, L: Loans> PoolOf<C, O, H, L> {
     }
 
     // Gives a place back for which nothing was opened.
-    pub(super) fn let_go<R: Wait>(&self, rt: &R, now: Moment, me: &mut FrontOf<C, O, L>)
+    pub(super) fn let_go<R: Wait>(&self, rt: &R, now: Moment, me: &mut FrontOf<C, O, S>)
         ensures { IsPrefix me.old me.new }
     {
-        let back = self.lock(rt).minimum_done(rt, now, None, me);
+        let back = self
+            .lock(rt)
+            .minimum_done(rt, self.shared.name, now, None, me);
         self.notify();
         drop(back);
     }

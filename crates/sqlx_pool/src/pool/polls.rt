@@ -14,17 +14,16 @@ ghost use Rattle.sqlx_pool.specs.Stage.{has_lent, IfLent, IfEnded, wants_test, w
 
 use super::PoolOf;
 use crate::stage::{Stage, after_test, after_try};
+use crate::steps::PoolSteps;
 use crate::stood::FrontOf;
-use crate::{Held, Loans, Tally};
 use sqlx_pool_core::idle_check::Opening;
 use sqlx_pool_core::{AfterConnect, Idle, Outside, Tried};
 use sqlx_pool_parts::checks;
 use sqlx_text::{Depth, Error, Moment};
 use std::alloc::Global;
 use std::sync::Wait;
-use std::sync::ledger::Ledger;
 
-impl<C: Depth + Drop, O: Drop, H: Ledger, L: Loans> PoolOf<C, O, H, L> {
+impl<C: Depth + Drop, O: Drop, S: PoolSteps<C, O>> PoolOf<C, O, S> {
     // Tests idle connections one after another, while the poll wants it: at most `left` of them. The core asks for no
     // more than `idle_tries`; a connection that would be left over is closed, and the poll fails.
     pub(crate) fn test<R: Wait, X: Outside<C, O>>(
@@ -32,15 +31,15 @@ impl<C: Depth + Drop, O: Drop, H: Ledger, L: Loans> PoolOf<C, O, H, L> {
         rt: &R,
         client: u32,
         ticket: u64,
-        stage: Stage<C, Held<H>>,
+        stage: Stage<C, S::Held>,
         left: u32,
         out: &mut X,
-        tally: &mut Tally<L>,
-        me: &mut FrontOf<C, O, L>,
-    ) -> Stage<C, Held<H>>
-        ensures chain { TestsFrom X.does X.depth C.levels L.max L.cuts client ticket left self.now.shared.value.options stage me.old out.old result me.new out.new }
-        ensures parts { tally.new.parts ≡ tally.old.parts }
-        ensures loans { tally.new.loans + one_if (has_lent stage) ≡ tally.old.loans + one_if (has_lent result) }
+        tally: &mut S::Tally,
+        me: &mut FrontOf<C, O, S>,
+    ) -> Stage<C, S::Held>
+        ensures chain { TestsFrom X.does X.depth C.levels S.stands S.does self.now.shared.value.name client ticket left self.now.shared.value.options stage me.old out.old result me.new out.new }
+        ensures parts { (S.Tally.counted tally.new).parts ≡ (S.Tally.counted tally.old).parts }
+        ensures loans { (S.Tally.counted tally.new).loans + one_if (has_lent stage) ≡ (S.Tally.counted tally.old).loans + one_if (has_lent result) }
         ensures flat { IfLent stage (λ lent. C.levels lent.raw ≡ 0) → IfLent result (λ lent. C.levels lent.raw ≡ 0) }
         ensures causes { IfEnded stage IsEnd → IfEnded result IsEnd }
         ensures tested { wants_test result ≡ false }
@@ -71,11 +70,11 @@ impl<C: Depth + Drop, O: Drop, H: Ledger, L: Loans> PoolOf<C, O, H, L> {
         idle: Idle<C>,
         moment: Moment,
         out: &mut X,
-        tally: &mut Tally<L>,
-        me: &mut FrontOf<C, O, L>,
-    ) -> Stage<C, Held<H>>
-        ensures tests { TestsTo X.does X.depth C.levels L.max L.cuts client ticket self.now.shared.value.options moment idle me.old out.old result me.new out.new }
-        ensures tally { CountsIf (has_lent result) tally.old tally.new }
+        tally: &mut S::Tally,
+        me: &mut FrontOf<C, O, S>,
+    ) -> Stage<C, S::Held>
+        ensures tests { TestsTo X.does X.depth C.levels S.stands S.does self.now.shared.value.name client ticket self.now.shared.value.options moment idle me.old out.old result me.new out.new }
+        ensures tally { CountsIf (has_lent result) (S.Tally.counted tally.old) (S.Tally.counted tally.new) }
         ensures flat { IfLent result (λ lent. C.levels lent.raw ≡ 0) }
         ensures causes { IfEnded result IsEnd }
         ensures counts { (X.faults out.old ≤ X.faults out.new) × (X.refusals out.old ≤ X.refusals out.new) }
@@ -83,7 +82,7 @@ impl<C: Depth + Drop, O: Drop, H: Ledger, L: Loans> PoolOf<C, O, H, L> {
         let verdict = checks::judge::<C, O, X>(&self.shared.options, idle, moment, out);
         let finished = self
             .lock(rt)
-            .finish_test(rt, client, ticket, verdict, tally, me);
+            .finish_test(rt, self.shared.name, client, ticket, verdict, tally, me);
         let (after, held) = finished;
         after_test(after, held, moment)
     }
@@ -117,21 +116,28 @@ impl<C: Depth + Drop, O: Drop, H: Ledger, L: Loans> PoolOf<C, O, H, L> {
         ticket: u64,
         now: Moment,
         tried: Tried<C>,
-        tally: &mut Tally<L>,
-        me: &mut FrontOf<C, O, L>,
-    ) -> Stage<C, Held<H>>
+        tally: &mut S::Tally,
+        me: &mut FrontOf<C, O, S>,
+    ) -> Stage<C, S::Held>
         requires flat { IfTried tried (λ raw. C.levels raw ≡ 0) }
         requires calm { is_fatal tried ≡ false }
-        ensures tells { (opening : Opening C) → TellsTry L.max client ticket now C.levels L.cuts opening tried me.old result me.new }
-        ensures tally { CountsIf (has_lent result) tally.old tally.new }
+        ensures tells { (opening : Opening C) → TellsTry S.stands S.does self.now.shared.value.name client ticket now opening tried me.old result me.new }
+        ensures tally { CountsIf (has_lent result) (S.Tally.counted tally.old) (S.Tally.counted tally.new) }
         ensures flat { IfLent result (λ lent. C.levels lent.raw ≡ 0) }
         ensures causes { IfEnded result IsEnd }
         ensures tested { wants_test result ≡ false }
         ensures connected { wants_connect result ≡ false }
     {
-        let finished = self
-            .lock(rt)
-            .finish_connect(rt, client, ticket, now, tried, tally, me);
+        let finished = self.lock(rt).finish_connect(
+            rt,
+            self.shared.name,
+            client,
+            ticket,
+            now,
+            tried,
+            tally,
+            me,
+        );
         let (after, held) = finished;
         after_try(after, held)
     }
@@ -144,19 +150,26 @@ impl<C: Depth + Drop, O: Drop, H: Ledger, L: Loans> PoolOf<C, O, H, L> {
         ticket: u64,
         now: Moment,
         error: Error,
-        tally: &mut Tally<L>,
-        me: &mut FrontOf<C, O, L>,
-    ) -> Stage<C, Held<H>>
-        ensures tells { TellsTry L.max client ticket now C.levels L.cuts (Opening.Failed error) Tried.Fatal me.old result me.new }
-        ensures tally { CountsIf (has_lent result) tally.old tally.new }
+        tally: &mut S::Tally,
+        me: &mut FrontOf<C, O, S>,
+    ) -> Stage<C, S::Held>
+        ensures tells { TellsTry S.stands S.does self.now.shared.value.name client ticket now (Opening.Failed error) Tried.Fatal me.old result me.new }
+        ensures tally { CountsIf (has_lent result) (S.Tally.counted tally.old) (S.Tally.counted tally.new) }
         ensures flat { IfLent result (λ lent. C.levels lent.raw ≡ 0) }
         ensures causes { IfEnded result (λ e. IsEnd e ⊎ (e ≡ error)) }
         ensures tested { wants_test result ≡ false }
         ensures connected { wants_connect result ≡ false }
     {
-        let finished = self
-            .lock(rt)
-            .finish_connect(rt, client, ticket, now, Tried::Fatal, tally, me);
+        let finished = self.lock(rt).finish_connect(
+            rt,
+            self.shared.name,
+            client,
+            ticket,
+            now,
+            Tried::Fatal,
+            tally,
+            me,
+        );
         let (after, held) = finished;
         match after {
             AfterConnect::Ended => Stage::Failed(error),
@@ -175,14 +188,14 @@ impl<C: Depth + Drop, O: Drop, H: Ledger, L: Loans> PoolOf<C, O, H, L> {
         client: u32,
         ticket: u64,
         now: Moment,
-        stage: Stage<C, Held<H>>,
+        stage: Stage<C, S::Held>,
         out: &mut X,
-        tally: &mut Tally<L>,
-        me: &mut FrontOf<C, O, L>,
-    ) -> Stage<C, Held<H>>
-        ensures chain { OpensFrom X.does X.depth C.levels L.max L.cuts client ticket now self.now.shared.value.options stage me.old out.old result me.new out.new }
-        ensures parts { tally.new.parts ≡ tally.old.parts }
-        ensures loans { tally.new.loans + one_if (has_lent stage) ≡ tally.old.loans + one_if (has_lent result) }
+        tally: &mut S::Tally,
+        me: &mut FrontOf<C, O, S>,
+    ) -> Stage<C, S::Held>
+        ensures chain { OpensFrom X.does X.depth C.levels S.stands S.does self.now.shared.value.name client ticket now self.now.shared.value.options stage me.old out.old result me.new out.new }
+        ensures parts { (S.Tally.counted tally.new).parts ≡ (S.Tally.counted tally.old).parts }
+        ensures loans { (S.Tally.counted tally.new).loans + one_if (has_lent stage) ≡ (S.Tally.counted tally.old).loans + one_if (has_lent result) }
         ensures flat { IfLent stage (λ lent. C.levels lent.raw ≡ 0) → IfLent result (λ lent. C.levels lent.raw ≡ 0) }
         ensures causes { IfEnded stage IsEnd → IfEnded result (IsPollRefusal (X.faults out.old) (X.faults out.new)) }
         ensures tested { wants_test stage ≡ false → wants_test result ≡ false }

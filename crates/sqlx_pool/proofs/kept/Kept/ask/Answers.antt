@@ -1,25 +1,19 @@
-use Rattle.std.proofs.Common.{◌∙◌, subst, sym}
-use Rattle.std.proofs.lemmas.Result.{IfOk-weaker}
+use Rattle.std.proofs.Common.{◌∙◌}
+use Rattle.sqlx_pool_history.proofs.Chaining.{may_follow}
 use Rattle.sqlx_pool_history.proofs.Showing.{shows_step, steps_value}
-use Rattle.sqlx_pool.proofs.KeptLemmas.{asks, goes_result, on_err}
 use Rattle.sqlx_pool.proofs.SeenLemmas.{ask-refused}
-use Rattle.sqlx_pool.specs.Refusals.{AreTicketsUsed, IsClosed}
 use Rattle.sqlx_pool.proofs.kept.Kept.ask.Goals as goal
 
 pub add-requires : goal.add-requires
-add-requires g c = goes_result c.show.new.self c.self.inside.locked c.ask-asked.new.self c.ask-asked.result _ c.show.ensures.last c.ask-asked.ensures.marks c.ask-asked.ensures.err
+add-requires g c = may_follow g.S.Stood.Chained.follows c.show.new.self (g.S.Stands.state c.self.inside.locked) (g.S.Stands.state c.ask-done.new.self) c.show.ensures.last (g.met.S.PoolSteps.goes_on _ _ _ c.ask-done.ensures.does)
 
-pub returns-clause-asked : goal.returns-clause-asked
-returns-clause-asked g c =
-    let did = c.ask-asked.ensures in
-    IfOk-weaker c.ask-asked.result _ _
-    (λ ticket is. steps_value _ c.show.new.me _ c.show.new.self c.self.inside.locked c.ask-asked.new.self _ c.show.ensures.all c.show.ensures.later c.show.ensures.ends (c.front.ensures ∙ c.add.ensures.added) (c.facts.ensures, (c.facts-2.ensures, is)))
-    (asks c.args.now c.args.client c.self.inside.locked c.ask-asked.new.self c.ask-asked.result did.numbered did.marks did.becomes)
+pub returns-clause-saw : goal.returns-clause-saw
+returns-clause-saw g c = steps_value _ c.show.new.me _ c.show.new.self (g.S.Stands.state c.self.inside.locked) (g.S.Stands.state c.ask-done.new.self) _ c.show.ensures.all c.show.ensures.later c.show.ensures.ends (c.front.ensures ∙ c.add.ensures.added) (c.facts.ensures, (c.facts-2.ensures, c.ask-done.ensures.does))
 
 pub returns-clause-refused : goal.returns-clause-refused
 returns-clause-refused g c =
-    let did = c.ask-asked.ensures in
-    ask-refused c.ask-asked.result
-    (λ e. shows_step _ c.show.new.me _ c.show.new.self c.ask-asked.new.self _ c.show.ensures.all c.show.ensures.later (c.front.ensures ∙ c.add.ensures.added) (c.facts-2.ensures, subst IsClosed (sym (on_err c.ask-asked.result _ did.err e)) (did.closed.0 e)))
-    (λ e. shows_step _ c.show.new.me _ c.show.new.self c.ask-asked.new.self _ c.show.ensures.all c.show.ensures.later (c.front.ensures ∙ c.add.ensures.added) (c.facts-2.ensures, subst AreTicketsUsed (sym (on_err c.ask-asked.result _ did.err e)) (did.exhausted.0 e).1))
+    let did = c.ask-done.ensures in
+    ask-refused c.ask-done.result
+    (λ e. shows_step _ c.show.new.me _ c.show.new.self (g.S.Stands.state c.ask-done.new.self) _ c.show.ensures.all c.show.ensures.later (c.front.ensures ∙ c.add.ensures.added) (c.facts-2.ensures, did.closed e))
+    (λ e. shows_step _ c.show.new.me _ c.show.new.self (g.S.Stands.state c.ask-done.new.self) _ c.show.ensures.all c.show.ensures.later (c.front.ensures ∙ c.add.ensures.added) (c.facts-2.ensures, did.used e))
     did.causes

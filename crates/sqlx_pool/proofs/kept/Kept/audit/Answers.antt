@@ -1,5 +1,5 @@
-use Rattle.sqlx_pool.proofs.KeptLemmas.{goes_same}
+use Rattle.sqlx_pool_history.proofs.Chaining.{may_follow}
 use Rattle.sqlx_pool.proofs.kept.Kept.audit.Goals as goal
 
 pub add-requires : goal.add-requires
-add-requires g c = goes_same c.self.inside.history c.self.inside.locked c.audited-log.new.self c.self.invariant c.audited-log.ensures.marks
+add-requires g c = may_follow g.S.Stood.Chained.follows c.self.inside.history (g.S.Stands.state c.self.inside.locked) (g.S.Stands.state c.audit-done.new.self) c.self.invariant (g.met.S.PoolSteps.goes_on _ _ _ c.audit-done.ensures.does)

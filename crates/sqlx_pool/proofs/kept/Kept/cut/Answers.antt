@@ -1,5 +1,5 @@
-use Rattle.sqlx_pool.proofs.KeptLemmas.{goes_cut}
+use Rattle.sqlx_pool_history.proofs.Chaining.{may_follow}
 use Rattle.sqlx_pool.proofs.kept.Kept.cut.Goals as goal
 
 pub add-requires : goal.add-requires
-add-requires g c = goes_cut c.self.inside.history c.self.inside.locked c.cut.new.self c.self.invariant c.cut.ensures.marks
+add-requires g c = may_follow g.S.Stood.Chained.follows c.self.inside.history (g.S.Stands.state c.self.inside.locked) (g.S.Stands.state c.cut.new.self) c.self.invariant (g.met.S.PoolSteps.goes_on _ _ _ c.cut.ensures)

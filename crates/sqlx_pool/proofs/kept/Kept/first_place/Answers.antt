@@ -1,5 +1,5 @@
-use Rattle.sqlx_pool.proofs.KeptLemmas.{goes_same}
+use Rattle.sqlx_pool_history.proofs.Chaining.{may_follow}
 use Rattle.sqlx_pool.proofs.kept.Kept.first_place.Goals as goal
 
 pub add-requires : goal.add-requires
-add-requires g c = goes_same c.self.inside.history c.self.inside.locked c.first_place-place.new.self c.self.invariant c.first_place-place.ensures.marks
+add-requires g c = may_follow g.S.Stood.Chained.follows c.self.inside.history (g.S.Stands.state c.self.inside.locked) (g.S.Stands.state c.first_place-done.new.self) c.self.invariant (g.met.S.PoolSteps.goes_on _ _ _ c.first_place-done.ensures)

@@ -1,12 +1,10 @@
 use Rattle.std.proofs.Common.{◌∙◌}
+use Rattle.sqlx_pool_history.proofs.Chaining.{may_follow}
 use Rattle.sqlx_pool_history.proofs.Showing.{steps_value}
-use Rattle.sqlx_pool.proofs.KeptLemmas.{goes_on}
 use Rattle.sqlx_pool.proofs.kept.Kept.give.Goals as goal
 
 pub add-requires : goal.add-requires
-add-requires g c = goes_on c.show.new.self c.self.inside.locked c.give-gave.new.self _ c.show.ensures.last c.give-gave.ensures.marks
+add-requires g c = may_follow g.S.Stood.Chained.follows c.show.new.self (g.S.Stands.state c.self.inside.locked) (g.S.Stands.state c.give-done.new.self) c.show.ensures.last (g.met.S.PoolSteps.goes_on _ _ _ c.give-done.ensures.does)
 
 pub returns-clause-saw : goal.returns-clause-saw
-returns-clause-saw g c =
-    let did = c.give-gave.ensures in
-    steps_value _ c.show.new.me _ c.show.new.self c.self.inside.locked c.give-gave.new.self _ c.show.ensures.all c.show.ensures.later c.show.ensures.ends (c.front.ensures ∙ c.add.ensures.added) (c.facts.ensures, (c.facts-2.ensures, record { answer = did.answer; marks = did.marks; becomes = did.becomes }))
+returns-clause-saw g c = steps_value _ c.show.new.me _ c.show.new.self (g.S.Stands.state c.self.inside.locked) (g.S.Stands.state c.give-done.new.self) _ c.show.ensures.all c.show.ensures.later c.show.ensures.ends (c.front.ensures ∙ c.add.ensures.added) (c.facts.ensures, (c.facts-2.ensures, c.give-done.ensures.does))

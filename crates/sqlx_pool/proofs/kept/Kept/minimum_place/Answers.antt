@@ -1,11 +1,17 @@
-use Rattle.std.proofs.Common.{◌∙◌}
-use Rattle.std.proofs.lemmas.Result.{IfOk-weaker}
-use Rattle.sqlx_pool_history.proofs.Showing.{showed_value}
-use Rattle.sqlx_pool.proofs.KeptLemmas.{goes_same}
+use Rattle.std.proofs.Common.{◌∙◌, ◌∷◌, ◌++◌, [], ap, sym}
+use Rattle.sqlx_pool_history.proofs.Chaining.{may_follow}
+use Rattle.sqlx_pool_history.proofs.Prefixes.{prefix_trans}
+use Rattle.sqlx_pool_history.proofs.Showing.{showed_value, steps_value}
 use Rattle.sqlx_pool.proofs.kept.Kept.minimum_place.Goals as goal
 
 pub add-requires : goal.add-requires
-add-requires g c = goes_same c.show.new.self c.self.inside.locked c.minimum_place-place.new.self c.show.ensures.last c.minimum_place-place.ensures.marks
+add-requires g c = may_follow g.S.Stood.Chained.follows c.show.new.self (g.S.Stands.state c.self.inside.locked) (g.S.Stands.state c.minimum_place-done.new.self) c.show.ensures.last (g.met.S.PoolSteps.goes_on _ _ _ c.minimum_place-done.ensures.does)
 
 pub returns-clause-saw : goal.returns-clause-saw
-returns-clause-saw g c = IfOk-weaker c.minimum_place-place.result _ _ (λ place is. showed_value _ c.show.new.me _ c.show.new.self c.self.inside.locked c.minimum_place-place.new.self _ c.show.ensures.all c.show.ensures.later c.show.ensures.ends (c.front.ensures ∙ c.add.ensures.added) (c.facts.ensures, is)) c.minimum_place-place.ensures.answer
+returns-clause-saw g c = steps_value _ c.show.new.me _ c.show.new.self (g.S.Stands.state c.self.inside.locked) (g.S.Stands.state c.minimum_place-done.new.self) _ c.show.ensures.all c.show.ensures.later c.show.ensures.ends (c.front.ensures ∙ c.add.ensures.added) (c.facts.ensures, (c.facts-2.ensures, c.minimum_place-done.ensures.does))
+
+pub returns-clause-later : goal.returns-clause-later
+returns-clause-later g c = prefix_trans c.args.me.now c.show.new.me c.front.result c.show.ensures.later (g.S.Stands.state c.minimum_place-done.new.self ∷ [], sym (c.front.ensures ∙ c.add.ensures.added ∙ ap (λ h. h ++ g.S.Stands.state c.minimum_place-done.new.self ∷ []) (sym c.show.ensures.all)))
+
+pub returns-clause-full : goal.returns-clause-full
+returns-clause-full g c = λ is. showed_value _ c.show.new.me _ c.show.new.self (g.S.Stands.state c.self.inside.locked) (g.S.Stands.state c.minimum_place-done.new.self) _ c.show.ensures.all c.show.ensures.later c.show.ensures.ends (c.front.ensures ∙ c.add.ensures.added) (c.facts.ensures, c.minimum_place-done.ensures.full is)

@@ -1,11 +1,6 @@
 use Rattle.std.proofs.lemmas.Result.{IfOk-weaker}
 use Rattle.sqlx_pool_history.proofs.Showing.{shows_value}
-use Rattle.sqlx_pool.proofs.SeenLemmas.{log-copied}
 use Rattle.sqlx_pool.proofs.kept.Kept.read_log.Goals as goal
 
 pub returns-clause-saw : goal.returns-clause-saw
-returns-clause-saw g c =
-    let did = c.read_log.ensures in
-    IfOk-weaker c.read_log.result _ _
-    (λ log is. shows_value _ _ _ _ _ c.show.ensures.all c.show.ensures.later c.show.ensures.ends (c.facts.ensures, is))
-    (log-copied c.self.inside.locked c.read_log.result did.start did.before did.marks)
+returns-clause-saw g c = IfOk-weaker c.read_log.result _ _ (λ log is. shows_value _ _ _ _ _ c.show.ensures.all c.show.ensures.later c.show.ensures.ends (c.facts.ensures, is)) c.read_log.ensures.tells

@@ -1,17 +1,14 @@
-use Rattle.std.proofs.Common.{◌∙◌, subst}
+use Rattle.std.proofs.Common.{◌∙◌, ◌∷◌, ◌++◌, [], ap, sym}
+use Rattle.sqlx_pool_history.proofs.Chaining.{may_follow}
+use Rattle.sqlx_pool_history.proofs.Prefixes.{prefix_trans}
 use Rattle.sqlx_pool_history.proofs.Showing.{steps_value}
-use Rattle.sqlx_pool_parts.specs.Answers.{lent_alone}
-use Rattle.sqlx_pool.specs.PollChain.{TestsNothing}
-use Rattle.sqlx_pool.proofs.KeptLemmas.{goes_on}
-use Rattle.sqlx_pool.proofs.PollLemmas.{asks_nothing, served, some-weaker}
 use Rattle.sqlx_pool.proofs.kept.Kept.serve_polled.Goals as goal
 
 pub add-requires : goal.add-requires
-add-requires g c = goes_on c.show.new.self c.self.inside.locked c.serve_polled-served.new.self _ c.show.ensures.last c.serve_polled-served.ensures.marks
+add-requires g c = may_follow g.S.Stood.Chained.follows c.show.new.self (g.S.Stands.state c.self.inside.locked) (g.S.Stands.state c.serve_polled-done.new.self) c.show.ensures.last (g.met.S.PoolSteps.goes_on _ _ _ c.serve_polled-done.ensures.does)
 
 pub returns-clause-saw : goal.returns-clause-saw
-returns-clause-saw g c m =
-    let did = c.serve_polled-served.ensures in
-    some-weaker (lent_alone c.serve_polled-served.result) _ _
-    (λ lent is. steps_value _ c.show.new.me _ c.show.new.self c.self.inside.locked c.serve_polled-served.new.self _ c.show.ensures.all c.show.ensures.later c.show.ensures.ends (c.front.ensures ∙ c.add.ensures.added) (c.facts.ensures, (c.facts-2.ensures, is)))
-    (served g.L.Loans.max c.args.client c.args.ticket c.args.now c.self.inside.locked c.serve_polled-served.new.self c.serve_polled-served.result (subst TestsNothing c.options.ensures (asks_nothing _ _ _ c.tests_nothing.ensures c.if-not-tests_nothing.false)) did.serves did.first did.marks did.becomes m)
+returns-clause-saw g c = steps_value _ c.show.new.me _ c.show.new.self (g.S.Stands.state c.self.inside.locked) (g.S.Stands.state c.serve_polled-done.new.self) _ c.show.ensures.all c.show.ensures.later c.show.ensures.ends (c.front.ensures ∙ c.add.ensures.added) (c.facts.ensures, (c.facts-2.ensures, c.serve_polled-done.ensures.does))
+
+pub returns-clause-later : goal.returns-clause-later
+returns-clause-later g c = prefix_trans c.args.me.now c.show.new.me c.front.result c.show.ensures.later (g.S.Stands.state c.serve_polled-done.new.self ∷ [], sym (c.front.ensures ∙ c.add.ensures.added ∙ ap (λ h. h ++ g.S.Stands.state c.serve_polled-done.new.self ∷ []) (sym c.show.ensures.all)))

@@ -1,6 +1,5 @@
-use Rattle.std.proofs.Common.{ap}
-use Rattle.sqlx_pool.proofs.KeptLemmas.{goes_same}
+use Rattle.sqlx_pool_history.proofs.Chaining.{may_follow}
 use Rattle.sqlx_pool.proofs.kept.Kept.set_connect_options.Goals as goal
 
 pub add-requires : goal.add-requires
-add-requires g c = goes_same c.self.inside.history c.self.inside.locked c.set_connect_options-former.new.self c.self.invariant (ap (λ s. s.marks) c.set_connect_options-former.ensures.set)
+add-requires g c = may_follow g.S.Stood.Chained.follows c.self.inside.history (g.S.Stands.state c.self.inside.locked) (g.S.Stands.state c.set_connect_options-done.new.self) c.self.invariant (g.met.S.PoolSteps.goes_on _ _ _ c.set_connect_options-done.ensures)

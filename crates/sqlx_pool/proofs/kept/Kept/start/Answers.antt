@@ -1,12 +1,10 @@
 use Rattle.std.proofs.Common.{◌∙◌}
+use Rattle.sqlx_pool_history.proofs.Chaining.{may_follow}
 use Rattle.sqlx_pool_history.proofs.Showing.{steps_value}
-use Rattle.sqlx_pool.proofs.KeptLemmas.{goes_on}
 use Rattle.sqlx_pool.proofs.kept.Kept.start.Goals as goal
 
 pub add-requires : goal.add-requires
-add-requires g c = goes_on c.show.new.self c.self.inside.locked c.start-start.new.self _ c.show.ensures.last c.start-start.ensures.marks
+add-requires g c = may_follow g.S.Stood.Chained.follows c.show.new.self (g.S.Stands.state c.self.inside.locked) (g.S.Stands.state c.start-done.new.self) c.show.ensures.last (g.met.S.PoolSteps.goes_on _ _ _ c.start-done.ensures)
 
 pub returns : goal.returns
-returns g c =
-    let did = c.start-start.ensures in
-    steps_value _ c.show.new.me _ c.show.new.self c.self.inside.locked c.start-start.new.self _ c.show.ensures.all c.show.ensures.later c.show.ensures.ends (c.front.ensures ∙ c.add.ensures.added) (c.facts.ensures, (c.facts-2.ensures, (c.moment-moment.ensures, record { answer = did.answer; marks = did.marks; becomes = did.becomes })))
+returns g c = steps_value _ c.show.new.me _ c.show.new.self (g.S.Stands.state c.self.inside.locked) (g.S.Stands.state c.start-done.new.self) _ c.show.ensures.all c.show.ensures.later c.show.ensures.ends (c.front.ensures ∙ c.add.ensures.added) (c.facts.ensures, (c.facts-2.ensures, c.start-done.ensures))

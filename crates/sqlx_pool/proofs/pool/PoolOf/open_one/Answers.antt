@@ -1,7 +1,9 @@
-use Rattle.std.proofs.Common.{◌∙◌, inl, sym}
+use Rattle.std.proofs.Common.{◌∙◌, Ok, ap, subst}
 use Rattle.sqlx_pool_history.proofs.Prefixes.{prefix_trans}
-use Rattle.sqlx_pool_history.proofs.Showing.{showed_sooner, showed_weaker}
+use Rattle.sqlx_pool_history.proofs.Showing.{showed_sooner}
 use Rattle.sqlx_pool.proofs.UpkeepLemmas.{unfilled-weaker}
+use Rattle.sqlx_pool.specs.Calls as call
+use Rattle.sqlx_pool.specs.Seen.{HasSeen}
 use Rattle.sqlx_pool.proofs.pool.PoolOf.open_one.Goals as goal
 
 pub returns-in-Ok-true-clause-unfilled : goal.returns-in-Ok-true-clause-unfilled
@@ -12,4 +14,5 @@ pub returns-in-Ok-true-clause-later : goal.returns-in-Ok-true-clause-later
 returns-in-Ok-true-clause-later g c = prefix_trans c.args.me.now c.minimum_place-place.new.me c.fill_place.new.me c.minimum_place-place.ensures.later c.fill_place.ensures.later
 
 pub returns-in-Ok-false-clause-unfilled : goal.returns-in-Ok-false-clause-unfilled
-returns-in-Ok-false-clause-unfilled g c = λ tells. showed_weaker c.args.me.now c.minimum_place-place.new.me _ _ (λ state is. (is.0, inl (sym is.1 ∙ c.in-Ok-false.field-0-test))) c.in-Ok-false.ensures.saw
+returns-in-Ok-false-clause-unfilled g c =
+    λ tells. subst (λ s. HasSeen g.S.PoolSteps.stands c.args.me.now c.minimum_place-place.new.me (g.S.PoolSteps.tells (call.IsFilled s.name))) c.deref.ensures (c.minimum_place-place.ensures.full (c.in-Ok-false.is ∙ ap Ok c.in-Ok-false.field-0-test))

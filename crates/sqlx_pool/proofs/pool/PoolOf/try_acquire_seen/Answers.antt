@@ -1,16 +1,18 @@
-use Rattle.std.proofs.Common.{ap, subst}
-use Rattle.sqlx_pool_history.proofs.Showing.{steps_weaker}
-use Rattle.sqlx_pool_parts.specs.Answers.{lent_alone}
-use Rattle.sqlx_pool.specs.Steps.{LendsPast}
+use Rattle.std.proofs.Common.{◌∙◌, Ok, ap, subst}
+use Rattle.sqlx_pool.specs.Calls.{past_alone}
+use Rattle.sqlx_pool.specs.Calls as call
+use Rattle.sqlx_pool.specs.Seen.{SeesStep}
 use Rattle.sqlx_pool.proofs.pool.PoolOf.try_acquire_seen.Goals as goal
 
 pub returns-in-Ok-Some-clause-saw : goal.returns-in-Ok-Some-clause-saw
 returns-in-Ok-Some-clause-saw g c =
-    let lent = ap (λ x. lent_alone x) c.in-Ok-Some.field-0-is in
+    let sees = subst (λ s. SeesStep g.S.PoolSteps.stands c.args.me.now c.try_acquire-tried.new.me (g.S.PoolSteps.does (call.LendPast s.name c.args.now c.args.client (past_alone c.try_acquire-tried.result)))) c.deref.ensures c.try_acquire-tried.ensures.saw in
     rw c.new.ensures.lent
-    (steps_weaker c.args.me.now c.try_acquire-tried.new.me _ _ (λ before after is. (is.0, (is.1.0, subst (λ l. LendsPast g.L.Loans.max c.args.client c.args.now l before after) lent is.1.1))) c.in-Ok-Some.ensures.saw)
+    (subst (λ came. SeesStep g.S.PoolSteps.stands c.args.me.now c.try_acquire-tried.new.me (g.S.PoolSteps.does (call.LendPast c.args.self.now.shared.value.name c.args.now c.args.client came)))
+    (ap past_alone c.in-Ok-Some.is ∙ ap (λ x. past_alone (Ok x)) c.in-Ok-Some.field-0-is) sees)
 
 pub returns-in-Ok-None-clause-saw : goal.returns-in-Ok-None-clause-saw
 returns-in-Ok-None-clause-saw g c =
-    let lent = ap (λ x. lent_alone x) c.in-Ok-None.field-0-is in
-    steps_weaker c.args.me.now c.try_acquire-tried.new.me _ _ (λ before after is. (is.0, (is.1.0, subst (λ l. LendsPast g.L.Loans.max c.args.client c.args.now l before after) lent is.1.1))) c.in-Ok-None.ensures.saw
+    let sees = subst (λ s. SeesStep g.S.PoolSteps.stands c.args.me.now c.try_acquire-tried.new.me (g.S.PoolSteps.does (call.LendPast s.name c.args.now c.args.client (past_alone c.try_acquire-tried.result)))) c.deref.ensures c.try_acquire-tried.ensures.saw in
+    subst (λ came. SeesStep g.S.PoolSteps.stands c.args.me.now c.try_acquire-tried.new.me (g.S.PoolSteps.does (call.LendPast c.args.self.now.shared.value.name c.args.now c.args.client came)))
+    (ap past_alone c.in-Ok-None.is ∙ ap (λ x. past_alone (Ok x)) c.in-Ok-None.field-0-is) sees

@@ -1,6 +1,0 @@
-use Rattle.std.proofs.Common.{◌≡◌, ◌≤◌}
-use Rattle.sqlx_family_pool.proofs.acquiring.FamilyAcquiringOf.wait.Given as goal
-
--- no loan was counted yet, and the outside's counts never fell
-abbrev pub invariant-loop-round : goal.invariant-loop-round
-invariant-loop-round g l = (l.tally ≡ l.fn.tally) × (g.X.Outside.faults l.fn.out ≤ g.X.Outside.faults l.out) × (g.X.Outside.refusals l.fn.out ≤ g.X.Outside.refusals l.out)

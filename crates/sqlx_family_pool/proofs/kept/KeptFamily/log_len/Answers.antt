@@ -1,5 +1,0 @@
-use Rattle.sqlx_pool_history.proofs.Showing.{shows_value}
-use Rattle.sqlx_family_pool.proofs.kept.KeptFamily.log_len.Goals as goal
-
-pub returns : goal.returns
-returns g c = shows_value _ _ _ _ _ c.show.ensures.all c.show.ensures.later c.show.ensures.ends (c.facts.ensures, c.log_len.ensures)

@@ -1,0 +1,4 @@
+use Rattle.sqlx_pool.proofs.lone.LockedArcGlobalPoolSteps.leak.Goals as goal
+
+pub returns : goal.returns
+returns g c = let did = c.leak.ensures in record { answer = did.answer; marks = did.marks; becomes = did.becomes }
