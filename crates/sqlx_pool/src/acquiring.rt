@@ -108,8 +108,44 @@ impl<C: Depth + Drop, O: Drop, S: PoolSteps<C, O>> AcquiringOf<C, O, S> {
         self.go_on::<R, X>(rt, alloc, now, begun, out, tally, me)
     }
 
-    // Goes on with a poll that was begun. Where the ticket ends without a loan, those that wait are told.
+    // Goes on with a poll that was begun.
     fn go_on<R: Wait, X: Outside<C, O>>(
+        self,
+        rt: &R,
+        alloc: Global,
+        now: Moment,
+        begun: Stage<C, S::Held>,
+        out: &mut X,
+        tally: &mut S::Tally,
+        me: &mut FrontOf<C, O, S>,
+    ) -> PoolPollOf<C, O, S>
+        requires flat { IfLent begun (λ lent. C.levels lent.raw ≡ 0) }
+        requires causes { IfEnded begun IsEnd }
+        ensures goes { GoesFrom X.does X.depth C.levels S.stands S.does self.pool.shared.value.name self.client self.ticket now self.pool.shared.value.options (λ c. lent_of c.id c.created c.raw) begun me.old out.old me.new result out.new }
+        ensures parts { (S.Tally.counted tally.new).parts ≡ (S.Tally.counted tally.old).parts }
+        ensures loans { (S.Tally.counted tally.new).loans + one_if (has_lent begun) ≡ (S.Tally.counted tally.old).loans + one_if (is_ready result) }
+        ensures flat { IfReady result (λ conn. C.levels conn.raw ≡ 0) }
+        ensures again { IfPending result (λ waits. (waits.pool.shared.value ≡ self.pool.shared.value) × (waits.client ≡ self.client) × (waits.ticket ≡ self.ticket)) }
+        ensures causes { IfFailed result (IsPollRefusal (X.faults out.old) (X.faults out.new)) }
+        ensures counts { (X.faults out.old ≤ X.faults out.new) × (X.refusals out.old ≤ X.refusals out.new) }
+    {
+        match begun {
+            Stage::Lent(lent, held) => {
+                let AcquiringOf {
+                    pool,
+                    client,
+                    ticket: _,
+                } = self;
+                Polling::Ready(PoolConnectionOf::new(pool, client, lent, held))
+            }
+            other => self.go_further::<R, X>(rt, alloc, now, other, out, tally, me),
+        }
+    }
+
+    // Tests and opens connections, as a poll that was begun wants it. It stands apart so that a poll that is served at once
+    // doesn't pay for its locals. Where the ticket ends without a loan, those that wait are told.
+    #[inline(never)]
+    fn go_further<R: Wait, X: Outside<C, O>>(
         self,
         rt: &R,
         alloc: Global,

@@ -34,6 +34,8 @@ pub enum Returned {
 
 impl<C: Depth + Drop, O: Drop, S: PoolSteps<C, O>> PoolOf<C, O, S> {
     // Ends the loan of a connection that was closed, and keeps the minimum.
+    #[cold]
+    #[inline(never)]
     fn end_closed<R: Wait, X: Outside<C, O>>(
         &self,
         rt: &R,

@@ -142,6 +142,16 @@ impl<C: Depth + Drop, O: Drop, S: PoolSteps<C, O>> PoolOf<C, O, S> {
 
     // Takes the lock.
     pub(crate) fn lock<R: Wait>(&self, rt: &R) -> Guard<'_, C, O, S> {
+        match self.shared.all.kept.try_lock() {
+            Some(guard) => guard,
+            None => self.lock_later(rt),
+        }
+    }
+
+    // Waits for the lock.
+    #[cold]
+    #[inline(never)]
+    fn lock_later<R: Wait>(&self, rt: &R) -> Guard<'_, C, O, S> {
         self.shared.all.kept.lock(rt)
     }
 

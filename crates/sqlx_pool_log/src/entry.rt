@@ -123,7 +123,7 @@ impl Entry {
                 | Mark::Closed { conn: other } => conn == *other,
                 _ => false,
             },
-            Entry::Loan(loan) => (loan.taken || loan.kept) && conn == loan.conn,
+            Entry::Loan(loan) => conn == loan.conn && (loan.taken || loan.kept),
         }
     }
 

@@ -257,10 +257,37 @@ impl<C: Depth + Drop, O: Drop, S: PoolSteps<C, O>> PoolOf<C, O, S> {
         };
         let now = clock.now();
         let mut guard = self.lock_and_cut(rt);
-        if let Some((lent, held)) = self.serve_untested(rt, &mut guard, alloc, client, now, tally) {
-            drop(guard);
-            return Ok(PoolConnectionOf::new(pool, client, lent, held));
+        match self.serve_untested(rt, &mut guard, alloc, client, now, tally) {
+            Some((lent, held)) => {
+                drop(guard);
+                Ok(PoolConnectionOf::new(pool, client, lent, held))
+            }
+            None => self.wait_in_line::<R, K, X>(
+                rt, pool, guard, alloc, clock, client, now, out, tally,
+            ),
         }
+    }
+
+    // Asks and waits, where nobody is served at once. It stands apart so that who is served doesn't pay for its locals.
+    #[inline(never)]
+    fn wait_in_line<R: Wait, K: Clock, X: Outside<C, O>>(
+        &self,
+        rt: &R,
+        pool: Self,
+        guard: Guard<'_, C, O, S>,
+        alloc: Global,
+        clock: &mut K,
+        client: u32,
+        now: Moment,
+        out: &mut X,
+        tally: &mut S::Tally,
+    ) -> Result<PoolConnectionOf<C, O, S>, Error>
+        ensures lent { OnOk result (CountsIf true (S.Tally.counted tally.old) (S.Tally.counted tally.new)) }
+        ensures refused { OnErr result (S.Tally.counted tally.new ≡ S.Tally.counted tally.old) }
+        ensures flat { IfOk result (λ conn. C.levels conn.raw ≡ 0) }
+        ensures causes { IfErr result (IsPollRefusal (X.faults out.old) (X.faults out.new)) }
+        ensures counts { (X.faults out.old ≤ X.faults out.new) × (X.refusals out.old ≤ X.refusals out.new) }
+    {
         let moment = guard.locked().moment(self.shared.name, now);
         let deadline = deadline(&self.shared.options, moment);
         let mut me = self.front();

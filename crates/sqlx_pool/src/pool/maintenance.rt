@@ -189,6 +189,7 @@ impl<C: Depth + Drop, O: Drop, S: PoolSteps<C, O>> PoolOf<C, O, S> {
     }
 
     /// As `keep_minimum`.
+    #[inline(never)]
     pub fn keep_minimum_seen<R: Wait, X: Outside<C, O>>(
         &self,
         rt: &R,
