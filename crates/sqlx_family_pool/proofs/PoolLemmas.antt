@@ -28,7 +28,7 @@ use Rattle.sqlx_pool_parts.specs.State.{RestFlat, no_start}
 use Rattle.sqlx_family_pool.specs.FamilyState.{family_state, forgotten, held_in, tickets_in, IsKept}
 use Rattle.sqlx_pool.proofs.StepLemmas.{kept-books}
 use Rattle.sqlx_family_pool.proofs.Replaces.{Replaces, replaces-with}
-use Rattle.sqlx_family_pool.proofs.StepLemmas.{in-logs, room-there, written}
+use Rattle.sqlx_family_pool.proofs.StepLemmas.{in-logs, written-within}
 
 -- ---- a new pool
 
@@ -58,56 +58,29 @@ module _ {C O : Type 0} (levels : C → ℕ) (max : ℕ) (cuts : Bool) (connect 
         standing = record {
           each = refl;
           each_start = refl;
-          stand = λ q below. stands q below;
+          stand = only (λ q. StandsIn (pool_in q (new_family {C = C} options)) (get_or ([] ∷ []) q [])) (new-stands options options.max_connections (counts_as_closed 0 (new_family {C = C} options)) (new_family {C = C} options).shared (omega arith) (omega arith));
           numbered = numbered-of (new_family {C = C} options) (λ q. get_or ([] ∷ []) q []) (first next_ticket refl, first next_conn refl);
-          safe = λ q below. safe q below;
-          begins = λ q below. begins q below;
-          uncut = λ never q below. uncut q below;
-          rest = λ q below. rest q below;
+          safe = only (λ q. let begun = (get_or (no_start ∷ []) q no_start).len in let log = get_or ([] ∷ []) q [] in IsSafe (pool_in q (new_family {C = C} options)).options.max_connections (take begun log) (drop begun log)) tt;
+          begins = only (λ q. (get_or (no_start ∷ []) q no_start).len ≤ length (get_or {A = List Mark} ([] ∷ []) q [])) (omega arith);
+          uncut = λ never. only (λ q. get_or (no_start ∷ []) q no_start ≡ no_start) refl;
+          rest = only (λ q. RestFlat levels (pool_in q (new_family {C = C} options)).idle) (All-nil _);
           most = most;
-          fits = λ q below. fits q below;
+          fits = only (λ q. (pool_in q (new_family {C = C} options)).options.max_connections ≤ max) (le_of_eq most);
           owned = owned;
           made = made;
         };
         asked = omega arith;
         few = omega (arith, made);
-        room = λ q below. at q below;
+        room = only (λ q. length (get_or {A = List Mark} ([] ∷ []) q []) + marks_due (pool_in q (new_family {C = C} options)) ≤ get_or (room ∷ []) q 0) (omega (arith, enough));
       }
     where
-      stands : (q : ℕ) → q < 1 → StandsIn (pool_in q (new_family {C = C} options)) (get_or ([] ∷ []) q [])
-      stands zero below = new-stands options options.max_connections (counts_as_closed 0 (new_family {C = C} options)) (new_family {C = C} options).shared (omega arith) (omega arith)
-      stands (suc q) below = absurd (omega (arith, below))
+      -- the one pool
+      only : (P : ℕ → Type 0) → P 0 → (q : ℕ) → q < 1 → P q
+      only P is zero below = is
+      only P is (suc q) below = absurd (omega (arith, below))
 
       first : (next : List Mark → ℕ) → next [] ≡ 1 → IsNext next (λ q. get_or ([] ∷ []) q []) 1 1
-      first next none = record { most = λ q below. least q below; one = (0, (omega arith, none)) }
-        where
-          least : (q : ℕ) → q < 1 → next (get_or ([] ∷ []) q []) ≤ 1
-          least zero below = le_of_eq none
-          least (suc q) below = absurd (omega (arith, below))
-
-      safe : (q : ℕ) → q < 1 → IsSafe (pool_in q (new_family {C = C} options)).options.max_connections (take (get_or (no_start ∷ []) q no_start).len (get_or ([] ∷ []) q [])) (drop (get_or (no_start ∷ []) q no_start).len (get_or ([] ∷ []) q []))
-      safe zero below = tt
-      safe (suc q) below = absurd (omega (arith, below))
-
-      begins : (q : ℕ) → q < 1 → (get_or (no_start ∷ []) q no_start).len ≤ length (get_or {A = List Mark} ([] ∷ []) q [])
-      begins zero below = omega arith
-      begins (suc q) below = absurd (omega (arith, below))
-
-      uncut : (q : ℕ) → q < 1 → get_or (no_start ∷ []) q no_start ≡ no_start
-      uncut zero below = refl
-      uncut (suc q) below = absurd (omega (arith, below))
-
-      fits : (q : ℕ) → q < 1 → (pool_in q (new_family {C = C} options)).options.max_connections ≤ max
-      fits zero below = le_of_eq most
-      fits (suc q) below = absurd (omega (arith, below))
-
-      rest : (q : ℕ) → q < 1 → RestFlat levels (pool_in q (new_family {C = C} options)).idle
-      rest zero below = All-nil _
-      rest (suc q) below = absurd (omega (arith, below))
-
-      at : (q : ℕ) → q < 1 → length (get_or {A = List Mark} ([] ∷ []) q []) + marks_due (pool_in q (new_family {C = C} options)) ≤ get_or (room ∷ []) q 0
-      at zero below = omega (arith, enough)
-      at (suc q) below = absurd (omega (arith, below))
+      first next none = record { most = only (λ q. next (get_or ([] ∷ []) q []) ≤ 1) (le_of_eq none); one = (0, (omega arith, none)) }
 
 module _ {C O : Type 0} (levels : C → ℕ) (max : ℕ) (cuts : Bool) (connect : O) (booked : Booked) where
   pub begun : (f : Pools C) (options : PoolOptions) → f ≡ new_family options → options.max_connections ≡ max → booked ≡ record { owned = 0; made = 0 } → (logs : List (PackedRow)) (log : PackedRow) → logs ≡ log ∷ [] → marks_of log ≡ [] → (starts : List LogStart) → starts ≡ no_start ∷ []
@@ -241,20 +214,13 @@ module _ {C : Type 0} (q : ℕ) (f : Pools C) (lt : q < length f.pools) where
       (sym (get_or-set_same f.pools q (record { core = pool_in q f; retired = (entry_of q f).retired }) no_pool lt))
       (record { tickets = omega arith; numbers = omega arith; held = omega arith; paid = omega arith })
 
--- the value under the lock stands, where a pool only heard of its family and its log only got room
-pub kept-heard : {C O : Type 0} {levels : C → ℕ} {max : ℕ} {cuts : Bool} {f : Pools C} {starts : List LogStart} {connect : O} {booked : Booked} (logs : List (PackedRow)) → IsKept levels max cuts (family_state f (map marks_of logs) starts connect booked) (map room_of logs)
-    → (q : ℕ) → q < length f.pools → (log now : PackedRow) → log ≡ get_or logs q log → marks_of now ≡ marks_of log → room_of log ≤ room_of now → {g : Pools C} → g ≡ with_pool q (pool_in q f) f
-    → IsKept levels max cuts (family_state g (map marks_of (slice_set logs q now)) starts connect booked) (map room_of (slice_set logs q now))
-kept-heard {levels = levels} {max = max} {cuts = cuts} {f = f} {starts = starts} {connect = connect} {booked = booked} logs kept q lt log now is items more same =
-    subst (λ (g : Pools _). IsKept levels max cuts (family_state g (map marks_of (slice_set logs q now)) starts connect booked) (map room_of (slice_set logs q now))) (sym same)
-    (written logs kept q lt log is (heard-replaces q f lt) (heard-makes q f lt) (heard-balance q f lt) (record { options = refl; rest = λ r. r }) connect (kept-books booked [] refl) now (items ∙ sym (append-nil (marks_of log)))
-    (let room = room-there logs kept q lt log is in omega (arith, room, more)))
-
--- it stands where the pool heard of its family or not
+-- the value under the lock stands, where a pool only heard of its family, or not even that, and its log only got room
 pub kept-maybe : {C O : Type 0} {levels : C → ℕ} {max : ℕ} {cuts : Bool} {f : Pools C} {starts : List LogStart} {connect : O} {booked : Booked} (logs : List (PackedRow)) → IsKept levels max cuts (family_state f (map marks_of logs) starts connect booked) (map room_of logs)
     → (q : ℕ) → q < length f.pools → (log now : PackedRow) → log ≡ get_or logs q log → marks_of now ≡ marks_of log → room_of log ≤ room_of now → {g : Pools C} → (g ≡ f) ⊎ (g ≡ with_pool q (pool_in q f) f)
     → IsKept levels max cuts (family_state g (map marks_of (slice_set logs q now)) starts connect booked) (map room_of (slice_set logs q now))
 kept-maybe {levels = levels} {max = max} {cuts = cuts} {starts = starts} {connect = connect} {booked = booked} logs kept q lt log now is items more (inl same) =
     subst (λ (g : Pools _). IsKept levels max cuts (family_state g (map marks_of (slice_set logs q now)) starts connect booked) (map room_of (slice_set logs q now))) (sym same)
     (reserved logs kept q log now (in-logs logs kept q lt log is) is items more)
-kept-maybe logs kept q lt log now is items more (inr heard) = kept-heard logs kept q lt log now is items more heard
+kept-maybe {levels = levels} {max = max} {cuts = cuts} {f = f} {starts = starts} {connect = connect} {booked = booked} logs kept q lt log now is items more (inr same) =
+    subst (λ (g : Pools _). IsKept levels max cuts (family_state g (map marks_of (slice_set logs q now)) starts connect booked) (map room_of (slice_set logs q now))) (sym same)
+    (written-within logs kept q lt log is (heard-replaces q f lt) (heard-makes q f lt) (heard-balance q f lt) (record { options = refl; rest = λ r. r }) connect (kept-books booked [] refl) now (items ∙ sym (append-nil (marks_of log))) more)

@@ -225,6 +225,10 @@ module _ {C O : Type 0} {levels : C → ℕ} {max : ℕ} {cuts : Bool} {f : Pool
   pub room-there : length (marks_of log) + marks_due (pool_in q f) ≤ room_of log
   room-there = let a = kept.room q lt in let b = ap length (items-at logs q log in-logs is) in let c = capacity-at logs q log in-logs is in omega (arith, a, b, c)
 
+  -- the logs grow by what is written behind it
+  pub logs-written : (now : PackedRow) (made : List Mark) → marks_of now ≡ marks_of log ++ made → map marks_of (slice_set logs q now) ≡ with_made q made (map marks_of logs)
+  logs-written now made grew = logs-grow logs q log in-logs is now made grew
+
   pub written : {core : Core C} {g : Pools C} {made : List Mark} {backs room : ℕ} → Replaces q f core g → FamilyLogs f q made g → Balance (pool_in q f) (pool_in q g) made backs room → Leaves levels (pool_in q f) core
       → (connect : O) {now_booked : Booked} → Books booked now_booked made backs → (now : PackedRow) → marks_of now ≡ marks_of log ++ made → length (marks_of log) + marks_due (pool_in q f) + room ≤ room_of now
       → IsKept levels max cuts (family_state g (map marks_of (slice_set logs q now)) starts connect now_booked) (map room_of (slice_set logs q now))
@@ -236,6 +240,12 @@ module _ {C O : Type 0} {levels : C → ℕ} {max : ℕ} {cuts : Bool} {f : Pool
       let within : q < length (map room_of logs) = (let b = length-map logs room_of in let c = in-logs in omega (arith, b, c)) in
       let here : get_or (map room_of (slice_set logs q now)) q 0 ≡ room_of now = ap (λ (l : List ℕ). get_or l q 0) (map-set room_of logs q now) ∙ get_or-set_same (map room_of logs) q (room_of now) 0 within in
       omega (arith, a, here, enough)))
+
+  -- so for marks into the room that is there
+  pub written-within : {core : Core C} {g : Pools C} {made : List Mark} {backs : ℕ} → Replaces q f core g → FamilyLogs f q made g → Balance (pool_in q f) (pool_in q g) made backs 0 → Leaves levels (pool_in q f) core
+      → (connect : O) {now_booked : Booked} → Books booked now_booked made backs → (now : PackedRow) → marks_of now ≡ marks_of log ++ made → room_of log ≤ room_of now
+      → IsKept levels max cuts (family_state g (map marks_of (slice_set logs q now)) starts connect now_booked) (map room_of (slice_set logs q now))
+  written-within replaces makes balance leaves connect books now grew capacity = written replaces makes balance leaves connect books now grew (let room = room-there in omega (arith, room, capacity))
 
 -- the marks of a place that is held
 pub held-marks : {C : Type 0} (places : ℕ) → 1 ≤ places → (closed : Bool) (n m : ℕ) (raw : Option C) → done_if_marks (not (places == 0)) closed n m raw ≡ done_marks closed n m raw

@@ -16,7 +16,7 @@ use Rattle.sqlx_family_steps.specs.FamilyCut.{cut_in}
 use Rattle.sqlx_family_steps.specs.FamilySteps.{closing_in}
 use Rattle.sqlx_family_pool.specs.FamilyState.{FamilyState, IsNamed, IsUnnamed, IsWithinLimitIn, cut_at, log_of, since_start_in, start_at, with_made}
 use Rattle.sqlx_family_pool.specs.Steps.{Adds, Asks, Cancels, Closes, ClosesLoan, CutsIf, Detaches, EndsTest, EndsTry, Fills, Gives, GoesOn, GoesOnIn, HoldsPlace, Keeps, Leaks, LendsPast, Limits, Reaps, RefusesAsk, Retires, Starts}
-use Rattle.sqlx_family_pool.specs.Upkeep.{AreLoansUsed, AreTicketsUsed, IsFilledIn, IsReadOf, to_reap_in}
+use Rattle.sqlx_family_pool.specs.Upkeep.{AreLoansUsed, AreTicketsUsed, IsFilledIn, IsReadOf, back_test_in, to_reap_in}
 
 module _ {C O : Type 0} where
   -- what a step of a pool of a family does; nothing is lent at once to an ask, or to a poll that begins
@@ -53,20 +53,22 @@ module _ {C O : Type 0} where
   DoesFamily (call.AddChild options (Err e)) before after = after ≡ before
   DoesFamily (call.Retire q idle) before after = Retires q idle before after
 
-  -- what is told of a state
-  abbrev pub TellsFamily : Look ℕ (ℕ × MarkLog) → FamilyState C O → Type 0
-  TellsFamily (call.Size q count) state = count ≡ size (pool_in q state.family)
-  TellsFamily (call.NumIdle q count) state = count ≡ length (pool_in q state.family).idle
-  TellsFamily (call.IsClosed q closed) state = counts_as_closed q state.family ≡ closed
-  TellsFamily (call.Closing q closing) state = closing ≡ closing_in q state.family
-  TellsFamily (call.LogLen q count) state = count ≡ length (since_start_in state q)
-  TellsFamily (call.LogIs q read) state = IsReadOf q read.0 read.1 state
-  TellsFamily call.TicketsUsed state = AreTicketsUsed state
-  TellsFamily call.LoansUsed state = AreLoansUsed state
-  TellsFamily (call.NothingToReap q now) state = IsNamed q state → to_reap_in q now state ≡ None
-  TellsFamily (call.IsFilled q) state = IsNamed q state → IsFilledIn q state
-  TellsFamily (call.Owns q count) state = count ≡ owned_by q state.family
-  TellsFamily call.IsFull state = length state.family.pools ≡ 2 ^ 32 - 1
+  -- what is told of a state, which keeps the connect options in a value of its own
+  abbrev pub TellsFamily : {P : Type 0} → (O → P) → Look ℕ (ℕ × MarkLog) P → FamilyState C O → Type 0
+  TellsFamily own (call.Size q count) state = count ≡ size (pool_in q state.family)
+  TellsFamily own (call.NumIdle q count) state = count ≡ length (pool_in q state.family).idle
+  TellsFamily own (call.IsClosed q closed) state = counts_as_closed q state.family ≡ closed
+  TellsFamily own (call.Closing q closing) state = closing ≡ closing_in q state.family
+  TellsFamily own (call.LogLen q count) state = count ≡ length (since_start_in state q)
+  TellsFamily own (call.LogIs q read) state = IsReadOf q read.0 read.1 state
+  TellsFamily own call.TicketsUsed state = AreTicketsUsed state
+  TellsFamily own call.LoansUsed state = AreLoansUsed state
+  TellsFamily own (call.TestsAt q created now at) state = IsNamed q state → at ≡ back_test_in q created now state
+  TellsFamily own (call.NothingToReap q now) state = IsNamed q state → to_reap_in q now state ≡ None
+  TellsFamily own (call.IsFilled q) state = IsNamed q state → IsFilledIn q state
+  TellsFamily own (call.Owns q count) state = count ≡ owned_by q state.family
+  TellsFamily own call.IsFull state = length state.family.pools ≡ 2 ^ 32 - 1
+  TellsFamily own (call.Connects options) state = own state.connect ≡ options
 
 module _ {C O : Type 0} (before after : FamilyState C O) where
   -- the logs are as they were

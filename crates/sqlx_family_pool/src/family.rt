@@ -53,7 +53,7 @@ impl<C: Depth + Drop, O: Drop, H: Ledger, L: Loans> PoolSteps<C, O>
 
     ghost does = { DoesFamily };
 
-    ghost tells = { TellsFamily };
+    ghost tells = { TellsFamily (λ connect. connect.value) };
 
     ghost max = { L.max };
 
@@ -104,8 +104,12 @@ impl<C: Depth + Drop, O: Drop, H: Ledger, L: Loans> PoolSteps<C, O>
         usize::MAX
     }
 
-    fn must_close(&self, name: u32, created: Moment, now: Moment) -> bool {
-        self.must_close(name, created, now)
+    fn tests_at(&self, name: u32, created: Moment, now: Moment) -> Option<Moment> {
+        if self.must_close(name, created, now) {
+            None
+        } else {
+            Some(self.moment(now))
+        }
     }
 
     fn size(&self, name: u32) -> u32 {

@@ -85,9 +85,10 @@ taken_if : {A : Type 0} (answer : Result A Fault) (N : Fault → Type 0) (X : Ty
 taken_if answer N X a has x = rw (has) (tt, x)
 
 -- what ran for a query whose arguments were taken ran for the query itself
-pub taken_ran : {A C T : Type 0} (runs : C → Handed A → List (Result T Error) → C → Type 0) (levels : C → ℕ) (f f1 : ℕ) (old new : Tallied)
+pub taken_ran : {A C T : Type 0} (runs : C → Handed A → List (Result T Error) → C → Type 0) (levels faults : C → ℕ) (f f1 : ℕ) (old new : Tallied)
     (list : List (Result T Error)) (N : Fault → Type 0) (query taken : Handed A) (a : Option A)
     → taken ≡ query → query.arguments ≡ Ok a
-    → WasRefused f f1 old new (λ e. list ≡ Err e ∷ []) ⊎ WorkedOn levels old new (λ first last. runs first taken list last)
-    → IfErr query.arguments N × IfOk query.arguments (λ _. WasRefused f f1 old new (λ e. list ≡ Err e ∷ []) ⊎ WorkedOn levels old new (λ first last. runs first query list last))
-taken_ran runs levels f f1 old new list N query taken a same has ran = taken_if query.arguments N _ a has (rw (← same) ran)
+    → WasRefused f f1 old new (λ e. list ≡ Err e ∷ []) ⊎ WorkedOn levels faults old new (λ first last. runs first taken list last) (λ before now. StepCauses before now taken.arguments list)
+    → IfErr query.arguments N × IfOk query.arguments (λ _. WasRefused f f1 old new (λ e. list ≡ Err e ∷ [])
+    ⊎ WorkedOn levels faults old new (λ first last. runs first query list last) (λ before now. StepCauses before now query.arguments list))
+taken_ran runs levels faults f f1 old new list N query taken a same has ran = taken_if query.arguments N _ a has (rw (← same) ran)

@@ -5,6 +5,7 @@ pub mod RefusalLemmas
 pub mod SeenLemmas
 pub mod LoneLemmas
 pub mod UpkeepLemmas
+pub mod ReapLemmas
 pub mod AskLemmas
 pub mod EndLemmas
 pub mod PollStages

@@ -9,7 +9,7 @@ use Rattle.sqlx_pool_marks.specs.EventTable.{has_place_at}
 use Rattle.sqlx_pool_lists.specs.Edits.{at_moment, asked}
 use Rattle.sqlx_pool_lists.specs.Limits.{limits_of}
 use Rattle.sqlx_pool_lists.specs.MaintenanceSteps.{placed}
-use Rattle.sqlx_pool_lists.specs.PollSteps.{try_marks, after_try}
+use Rattle.sqlx_pool_lists.specs.PollSteps.{try_lent, try_marks, after_try}
 use Rattle.sqlx_pool_lists.specs.declared.steps.Lent.{Lent}
 use Rattle.sqlx_pool_core.specs.Answers.{lent_conn}
 use Rattle.sqlx_pool_core.specs.Logs.{moment_of}
@@ -18,7 +18,7 @@ use Rattle.sqlx_pool_parts.specs.State.{PoolState}
 use Rattle.sqlx_pool.specs.Calls.{past_alone}
 use Rattle.sqlx_pool.specs.Calls as call
 use Rattle.sqlx_pool.specs.Lone.{DoesLone}
-use Rattle.sqlx_pool.specs.Steps.{deadline_at}
+use Rattle.sqlx_pool.specs.Steps.{deadline_at, passes}
 
 -- what holds on a refusal holds where the answer is one
 pub on_err : {T P : Type 0} (r : Result T Error) (e : Error) → OnErr r P → r ≡ Err e → P
@@ -43,12 +43,13 @@ module _ {C O : Type 0} (most : ℕ) (before after : PoolState C O) where
   -- a loan past the line
   pub lends_past : {S : Type 0} (P : Type 0) (now : Moment) (client : ℕ) (r : Result (Option (Lent C × S)) Error)
       → IfOk r (λ lent. option_map lent_conn (lent_alone lent) ≡ lent_past_at most before.core.places before.marks)
+      → IfOk r (λ lent. lent_alone lent ≡ try_lent (passes before.core) before.core.idle)
       → IfOk r (λ lent. after.marks ≡ before.marks ++ try_marks client (lent_alone lent))
       → IfOk r (λ lent. after.core ≡ after_try client (moment_of before.core now) (lent_alone lent) before.core)
       → OnErr r ((after ≡ before) × P)
       → DoesLone most (call.LendPast tt now client (past_alone r)) before after
-  lends_past P now client (Ok lent) answer marks becomes err = record { answer = answer; marks = marks; becomes = becomes }
-  lends_past P now client (Err e) answer marks becomes err = err.0
+  lends_past P now client (Ok lent) answer first marks becomes err = record { answer = answer; first = first; marks = marks; becomes = becomes }
+  lends_past P now client (Err e) answer first marks becomes err = err.0
 
   -- a place for one of so many, where memory was had
   pub places_first : (r : Result Bool OutOfMemory)

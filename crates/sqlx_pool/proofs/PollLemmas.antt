@@ -17,7 +17,7 @@ use Rattle.sqlx_pool_core.specs.Walk.{tried_of}
 use Rattle.sqlx_pool_core.specs.declared.idle_check.Opening.{Opening}
 use Rattle.sqlx_pool_core.specs.declared.idle_check.Check.TheVariants as check
 use Rattle.sqlx_pool_parts.specs.Checks.{Closes, TestsFlat}
-use Rattle.sqlx_pool.specs.Calls.{Step}
+use Rattle.sqlx_pool.specs.Calls.{Look, Step}
 use Rattle.sqlx_pool.specs.Calls as call
 use Rattle.sqlx_pool.specs.PollChain.{Began, Served, Untested, ToldTest, ToldTry, IfTested, BeginsAs, Ends, GoesFrom, LendsUntested, OpensFrom, OpensOne, Tells, TellsTry, Tests, TestsNothing, TestsFrom, TestsOne, TestsTo, TriesOrLacks, alone, next_test, opens_next, begun_stage, stage_by, tested_stage, tried_stage, without_test}
 use Rattle.sqlx_pool.specs.Seen.{SeesStep}
@@ -135,30 +135,30 @@ module _ {C O X N S H : Type 0} (does : Call C O → X → X → Type 0) (depth 
             (by_some (next_test told) i _ _ asked (record { told = ToldTest one.0 one.1; seen = mid; out = between }, first, behind.2)),
       )
 
-module _ {C O X N S H : Type 0} (does : Call C O → X → X → Type 0) (depth : X → C → ℕ) (levels : C → ℕ) (stands : S → Type 0) (goes : Step C N → S → S → Type 0) (name : N) (client ticket : ℕ) (now : Moment) (options : PoolOptions) where
+module _ {C O X N S L H : Type 0} (does : Call C O → X → X → Type 0) (depth : X → C → ℕ) (levels : C → ℕ) (stands : S → Type 0) (goes : Step C N → S → S → Type 0) (name : N) (client ticket : ℕ) (tells : Look N L O → S → Type 0) (now : Moment) (options : PoolOptions) where
   -- nothing is to be opened
-  pub opens_none : (s : Stage C H) (seen : List S) (out : X) → wants_connect s ≡ false → OpensFrom does depth levels stands goes name client ticket now options s seen out s seen out
+  pub opens_none : (s : Stage C H) (seen : List S) (out : X) → wants_connect s ≡ false → OpensFrom does depth levels stands goes name client ticket tells now options s seen out s seen out
   opens_none s seen out none m told is =
       let asked : opens_next told ≡ false = sym (connect-asked m told) ∙ (ap connect_in (sym is) ∙ none-opened s none) in
       (told, is, by_false (opens_next told) _ _ asked refl)
 
   -- a try is made
-  pub opens_one : (opening : Opening C) (told-of : Tried C) (s came : Stage C H) (seen seen_now : List S) (old new : X) → s ≡ stage.Connect → told-of ≡ tried_of opening
-      → TriesOrLacks does depth levels options.after_connect opening old new
-      → TellsTry stands goes name client ticket now opening told-of seen came seen_now
-      → OpensFrom does depth levels stands goes name client ticket now options s seen old came seen_now new
-  opens_one opening told-of s came seen seen_now old new connects same tries tells m told is =
+  pub opens_one : (opening : Opening C) (told-of : Tried C) (s came : Stage C H) (seen looked seen_now : List S) (old new : X) → s ≡ stage.Connect → told-of ≡ tried_of opening
+      → TriesOrLacks does depth levels stands tells options.after_connect opening seen looked old new
+      → TellsTry stands goes name client ticket now opening told-of looked came seen_now
+      → OpensFrom does depth levels stands goes name client ticket tells now options s seen old came seen_now new
+  opens_one opening told-of s came seen looked seen_now old new connects same tries end m told is =
       let asked : opens_next told ≡ true = sym (connect-asked m told) ∙ ap connect_in (sym is ∙ ap alone connects) in
-      let one : OpensOne does depth levels stands goes name client ticket now options (record { told = told; seen = seen; out = old }) (record { told = ToldTry opening tells.0; seen = seen_now; out = new }) =
-      record { opening = opening; answer = tells.0; tries = tries; tells = subst (λ t. SeesStep stands seen seen_now (goes (call.EndTry name client ticket now t tells.0))) same tells.2; told = refl } in
-      (ToldTry opening tells.0, tells.1 ∙ sym (without-none (tried_stage opening tells.0) (test-asked m (ToldTry opening tells.0) ∙ refl)), by_true (opens_next told) _ _ asked one)
+      let one : OpensOne does depth levels stands goes name client ticket tells now options (record { told = told; seen = seen; out = old }) (record { told = ToldTry opening end.0; seen = seen_now; out = new }) =
+      record { opening = opening; answer = end.0; looked = looked; tries = tries; ends = subst (λ t. SeesStep stands looked seen_now (goes (call.EndTry name client ticket now t end.0))) same end.2; told = refl } in
+      (ToldTry opening end.0, end.1 ∙ sym (without-none (tried_stage opening end.0) (test-asked m (ToldTry opening end.0) ∙ refl)), by_true (opens_next told) _ _ asked one)
 
   -- a poll goes on by its tests and its try
   pub goes_from : {T P : Type 0} (shows : T → Lent C) (left : ℕ) (begun tested came : Stage C H) (seen mid seen_now : List S) (old between opened new : X) (result : Polling T P) → left ≡ options.idle_tries
       → TestsFrom does depth levels stands goes name client ticket left options begun seen old tested mid between
-      → OpensFrom does depth levels stands goes name client ticket now options tested mid between came seen_now opened
+      → OpensFrom does depth levels stands goes name client ticket tells now options tested mid between came seen_now opened
       → Ends does depth levels shows (alone came) result opened new
-      → GoesFrom does depth levels stands goes name client ticket now options shows begun seen old seen_now result new
+      → GoesFrom does depth levels stands goes name client ticket tells now options shows begun seen old seen_now result new
   goes_from shows left begun tested came seen mid seen_now old between opened new result tries tests opens ends m told is =
       let t = tests m told is in
       let o = opens m t.0 t.1 in

@@ -43,20 +43,23 @@ pub data Step (C N : Type 0) : Type 0 where
   AddChild : PoolOptions → Result N Error → Step C N
   Retire : N → List (Idle C) → Step C N
 
--- What is told of a state: what a question is answered, and why a call did no more. `L` is what a copy of a log is.
-pub data Look (N L : Type 0) : Type 0 where
-  Size : N → ℕ → Look N L
-  NumIdle : N → ℕ → Look N L
-  IsClosed : N → Bool → Look N L
-  Closing : N → CloseState → Look N L
-  LogLen : N → ℕ → Look N L
-  LogIs : N → L → Look N L
-  TicketsUsed : Look N L
-  LoansUsed : Look N L
-  NothingToReap : N → Moment → Look N L
-  IsFilled : N → Look N L
-  Owns : N → ℕ → Look N L
-  IsFull : Look N L
+-- What is told of a state: what a question is answered, and why a call did no more. `L` is what a copy of a
+-- log is, and `O` the options by which connections are opened.
+pub data Look (N L O : Type 0) : Type 0 where
+  Size : N → ℕ → Look N L O
+  NumIdle : N → ℕ → Look N L O
+  IsClosed : N → Bool → Look N L O
+  Closing : N → CloseState → Look N L O
+  LogLen : N → ℕ → Look N L O
+  LogIs : N → L → Look N L O
+  TicketsUsed : Look N L O
+  LoansUsed : Look N L O
+  TestsAt : N → Moment → Moment → Option Moment → Look N L O
+  NothingToReap : N → Moment → Look N L O
+  IsFilled : N → Look N L O
+  Owns : N → ℕ → Look N L O
+  IsFull : Look N L O
+  Connects : O → Look N L O
 
 -- what came of a loan past the line, without the share of what it lent
 abbrev pub past_alone : {C S : Type 0} → Result (Option (Lent C × S)) Error → Result (Option (Lent C)) Error

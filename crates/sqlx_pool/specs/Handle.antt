@@ -21,9 +21,9 @@ told e = if is_of_no_driver e then error.Io Other else e
 abbrev pub WasRefused : ℕ → ℕ → Tallied → Tallied → (Error → Type 0) → Type 0
 WasRefused faults faults_now old new answers = (e : Error) × IsPollRefusal faults faults_now e × (new ≡ old) × answers (told e)
 
--- a connection without an open level was lent, one loan was counted, and the connection did this
-abbrev pub WorkedOn : {C : Type 0} → (C → ℕ) → Tallied → Tallied → (C → C → Type 0) → Type 0
-WorkedOn {C = C} levels old new did = (first : C) × (last : C) × (levels first ≡ 0) × CountsIf true old new × did first last
+-- a connection without an open level was lent, one loan was counted, and the connection did this; an error has a cause by its own count of faults
+abbrev pub WorkedOn : {C : Type 0} → (C → ℕ) → (C → ℕ) → Tallied → Tallied → (C → C → Type 0) → (ℕ → ℕ → Type 0) → Type 0
+WorkedOn {C = C} levels faults old new did causes = (first : C) × (last : C) × (levels first ≡ 0) × CountsIf true old new × did first last × causes (faults first) (faults last)
 
 -- a connection without an open level comes, or a refusal of the lending
 abbrev pub Lends : {C P : Type 0} → (C → ℕ) → (P → C) → ℕ → Result P Error → Type 0

@@ -11,6 +11,7 @@ pub mod Places
 pub mod Stage
 pub mod Polling
 pub mod Refusals
+pub mod Reaped
 pub mod Returned
 pub mod Seen
 pub mod Steps

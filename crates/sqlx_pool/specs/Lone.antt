@@ -15,7 +15,7 @@ use Rattle.sqlx_pool.specs.Calls.{Look, Step}
 use Rattle.sqlx_pool.specs.Calls as call
 use Rattle.sqlx_pool.specs.Refusals.{AreLoansUsed, AreTicketsUsed}
 use Rattle.sqlx_pool.specs.Steps.{Asks, Cancels, Closes, ClosesLoan, CutsIf, Detaches, EndsTest, EndsTry, Fills, Gives, GoesOn, HoldsPlace, Keeps, Leaks, LendsPast, Reaps, ServesNew, ServesPolled, Starts}
-use Rattle.sqlx_pool.specs.Upkeep.{IsFilled, to_reap}
+use Rattle.sqlx_pool.specs.Upkeep.{IsFilled, back_test, to_reap}
 
 module _ {C O : Type 0} where
   -- what a step of a pool of this maximum does; a lone pool has no children
@@ -49,20 +49,22 @@ module _ {C O : Type 0} where
   DoesLone most (call.AddChild options named) before after = ⊥
   DoesLone most (call.Retire n idle) before after = ⊥
 
-  -- what is told of a state
-  abbrev pub TellsLone : Look (⊤) MarkLog → PoolState C O → Type 0
-  TellsLone (call.Size n count) state = count ≡ size_at state.core.places state.marks
-  TellsLone (call.NumIdle n count) state = count ≡ length (idle_of state.marks)
-  TellsLone (call.IsClosed n closed) state = is_open state.marks ≡ not closed
-  TellsLone (call.Closing n closing) state = closing ≡ close_state_of state.marks
-  TellsLone (call.LogLen n count) state = count ≡ length (since_start state)
-  TellsLone (call.LogIs n log) state = IsCopyOf state log
-  TellsLone call.TicketsUsed state = AreTicketsUsed state
-  TellsLone call.LoansUsed state = AreLoansUsed state
-  TellsLone (call.NothingToReap n now) state = to_reap now state ≡ None
-  TellsLone (call.IsFilled n) state = IsFilled state
-  TellsLone (call.Owns n count) state = ⊥
-  TellsLone call.IsFull state = ⊥
+  -- what is told of a state, which keeps the connect options in a value of its own
+  abbrev pub TellsLone : {P : Type 0} → (O → P) → Look (⊤) MarkLog P → PoolState C O → Type 0
+  TellsLone own (call.Size n count) state = count ≡ size_at state.core.places state.marks
+  TellsLone own (call.NumIdle n count) state = count ≡ length (idle_of state.marks)
+  TellsLone own (call.IsClosed n closed) state = is_open state.marks ≡ not closed
+  TellsLone own (call.Closing n closing) state = closing ≡ close_state_of state.marks
+  TellsLone own (call.LogLen n count) state = count ≡ length (since_start state)
+  TellsLone own (call.LogIs n log) state = IsCopyOf state log
+  TellsLone own call.TicketsUsed state = AreTicketsUsed state
+  TellsLone own call.LoansUsed state = AreLoansUsed state
+  TellsLone own (call.TestsAt n created now at) state = at ≡ back_test created now state
+  TellsLone own (call.NothingToReap n now) state = to_reap now state ≡ None
+  TellsLone own (call.IsFilled n) state = IsFilled state
+  TellsLone own (call.Owns n count) state = ⊥
+  TellsLone own call.IsFull state = ⊥
+  TellsLone own (call.Connects options) state = own state.connect ≡ options
 
   -- a log without new marks goes on
   on-same : (before after : PoolState C O) → after.marks ≡ before.marks → GoesOn before after

@@ -1,6 +1,7 @@
 -- A whole poll over the lock: what the pool answered at each of its steps, what was asked of the outside between, and
 -- what the poll comes to.
 use Rattle.std.specs.Prelude.{◌≡◌, ◌⊎◌, ℕ, ⊤, zero, suc, Bool, true, false, MatchBool, List, Option, Some, None}
+use mathlib.Core.List.{IsPrefix}
 use Rattle.sqlx_text.specs.declared.Moment.{Moment}
 use Rattle.sqlx_text.specs.declared.error.Error.TheVariants as error
 use Rattle.sqlx_pool_lists.specs.declared.options.PoolOptions.{PoolOptions}
@@ -22,9 +23,9 @@ use Rattle.sqlx_pool_core.specs.declared.idle_check.Check.TheVariants as check
 use Rattle.sqlx_pool_core.specs.declared.idle_check.Opening.{Opening}
 use Rattle.sqlx_pool_core.specs.declared.idle_check.Opening.TheVariants as opening
 use Rattle.sqlx_pool_parts.specs.Checks.{Closes, TestsFlat, TriesFlat}
-use Rattle.sqlx_pool.specs.Calls.{Step}
+use Rattle.sqlx_pool.specs.Calls.{Look, Step}
 use Rattle.sqlx_pool.specs.Calls as call
-use Rattle.sqlx_pool.specs.Seen.{SeesStep}
+use Rattle.sqlx_pool.specs.Seen.{Sees, SeesStep}
 use Rattle.sqlx_pool.specs.declared.acquiring.Polling.{Polling}
 use Rattle.sqlx_pool.specs.declared.acquiring.Polling.TheVariants as polling
 use Rattle.sqlx_pool.specs.declared.stage.Stage.{Stage}
@@ -168,9 +169,10 @@ module _ {C O X : Type 0} (does : Call C O → X → X → Type 0) (depth : X �
   Ends shows (stage.Left raw false error) (polling.Failed e) old new = (e ≡ error) × Closes does check.Close raw old new
   Ends shows other result old new = ⊥
 
-  -- a try to open a connection; or memory was wanting before it
-  abbrev pub TriesOrLacks : Bool → Opening C → X → X → Type 0
-  TriesOrLacks hook came old new = ((connect : O) × TriesFlat does depth levels hook connect came old new) ⊎ ((came ≡ opening.Failed error.OutOfMemory) × (new ≡ old))
+  -- a try to open a connection, by the options that the pool was seen to have; or memory was wanting before it
+  abbrev pub TriesOrLacks : {N S L : Type 0} → (S → Type 0) → (Look N L O → S → Type 0) → Bool → Opening C → List S → List S → X → X → Type 0
+  TriesOrLacks stands tells hook came seen looked old new =
+      ((options : O) × Sees stands seen looked (tells (call.Connects options)) × TriesFlat does depth levels hook options came old new) ⊎ ((came ≡ opening.Failed error.OutOfMemory) × IsPrefix seen looked × (new ≡ old))
 
   module _ {N S : Type 0} (stands : S → Type 0) (steps : Step C N → S → S → Type 0) (name : N) (client ticket : ℕ) where
     -- An idle connection was tested at m, and the pool told.
@@ -195,13 +197,14 @@ module _ {C O X : Type 0} (does : Call C O → X → X → Type 0) (depth : X �
     TestsFrom left options stage seen old came seen_now new = (m : Moment) → (told : Told C) → alone stage ≡ stage_by m told →
         (last : Told C) × (alone came ≡ without_test (stage_by m last)) × Tests left options m (record { told = told; seen = seen; out = old }) (record { told = last; seen = seen_now; out = new })
 
-    module _ (now : Moment) where
+    module _ {L : Type 0} (tells : Look N L O → S → Type 0) (now : Moment) where
       -- A try to open a connection was made, and the pool told.
       pub record OpensOne (options : PoolOptions) (p q : Point C S X) : Type 0 where
         pub opening : Opening C
         pub answer : AfterConnect C
-        pub tries : TriesOrLacks options.after_connect opening p.out q.out
-        pub tells : SeesStep stands p.seen q.seen (steps (call.EndTry name client ticket now (tried_of opening) answer))
+        pub looked : List S
+        pub tries : TriesOrLacks stands tells options.after_connect opening p.seen looked p.out q.out
+        pub ends : SeesStep stands looked q.seen (steps (call.EndTry name client ticket now (tried_of opening) answer))
         pub told : q.told ≡ ToldTry opening answer
 
       -- a try was made, where the pool asked for it

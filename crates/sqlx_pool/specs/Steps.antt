@@ -6,7 +6,7 @@ use Rattle.sqlx_pool_marks.specs.declared.mark.Mark.{Mark}
 use Rattle.sqlx_pool_marks.specs.declared.mark.Mark.TheVariants.{Asked}
 use Rattle.sqlx_pool_marks.specs.Answers.{lent_past_at, owns}
 use Rattle.sqlx_pool_marks.specs.Cut.{cut_of}
-use Rattle.sqlx_pool_marks.specs.EventTable.{closed_at, has_place_at}
+use Rattle.sqlx_pool_marks.specs.EventTable.{closed_at, has_place_at, may_pass}
 use Rattle.sqlx_pool_marks.specs.Marks.{is_shut, next_conn, owner_of}
 use Rattle.sqlx_pool_lists.specs.declared.steps.AfterConnect.{AfterConnect}
 use Rattle.sqlx_pool_lists.specs.declared.steps.AfterTest.{AfterTest}
@@ -16,11 +16,11 @@ use Rattle.sqlx_pool_lists.specs.declared.steps.Start.{Start}
 use Rattle.sqlx_pool_lists.specs.declared.steps.Tried.{Tried}
 use Rattle.sqlx_pool_lists.specs.declared.steps.Verdict.{Verdict}
 use Rattle.sqlx_pool_lists.specs.declared.steps.Given.{Given}
-use Rattle.sqlx_pool_lists.specs.Core.{Core, loan_of, ticket_of}
+use Rattle.sqlx_pool_lists.specs.Core.{Core, free, loan_of, ticket_of, waiting}
 use Rattle.sqlx_pool_lists.specs.Edits.{at_moment, asked}
 use Rattle.sqlx_pool_lists.specs.Makes.{Makes}
 use Rattle.sqlx_pool_lists.specs.StandsFor.{StandsFor}
-use Rattle.sqlx_pool_lists.specs.MaintenanceSteps.{idle_conn, reap_marks, reaped, placed, close_marks, closed_from}
+use Rattle.sqlx_pool_lists.specs.MaintenanceSteps.{idle_conn, reap_answer, reap_marks, reaped, placed, close_marks, closed_from}
 use Rattle.sqlx_pool_lists.specs.Limits.{limits_of}
 use Rattle.sqlx_pool_lists.specs.PollSteps.{phase_for, judged, start_answer, start_marks, started, test_marks, after_test, connect_answer, connect_marks, after_connect, may_cancel, cancel_marks, cancelled, try_lent, try_marks, after_try, first_marks, after_first, serve_marks, after_serve}
 use Rattle.sqlx_pool_lists.specs.PollTable.{phase_turn}
@@ -35,6 +35,10 @@ use Rattle.sqlx_pool.specs.Upkeep.{to_reap}
 -- whatever marks the core stood for, it stands for them with these behind, where there is an answer
 abbrev pub LogsIf : {C T : Type 0} → Option T → Core C → (T → List Mark) → Core C → Type 0
 LogsIf answer old made new = (marks : List Mark) → StandsFor old marks → IfSome answer (λ x. Makes old.options.max_connections marks (made x) new)
+
+-- the line lets one pass
+abbrev pub passes : {C : Type 0} → Core C → Bool
+passes core = may_pass core.shut (waiting core.tickets) (free core)
 
 module _ {C O : Type 0} where
   -- the log went on, or was cut
@@ -54,6 +58,7 @@ module _ {C O : Type 0} where
   -- a connection was lent past the line, or none
   pub record LendsPast (max client : ℕ) (now : Moment) (lent : Option (Lent C)) (before after : PoolState C O) : Type 0 where
     pub answer : option_map lent_conn lent ≡ lent_past_at max before.core.places before.marks
+    pub first : lent ≡ try_lent (passes before.core) before.core.idle
     pub marks : after.marks ≡ before.marks ++ try_marks client lent
     pub becomes : after.core ≡ after_try client (moment_of before.core now) lent before.core
 
@@ -121,6 +126,7 @@ module _ {C O : Type 0} where
   -- this idle connection was taken to be closed, if one was to be
   pub record Reaps (now : Moment) (idle : Option (Idle C)) (before after : PoolState C O) : Type 0 where
     pub answer : option_map idle_conn idle ≡ to_reap now before
+    pub first : idle ≡ reap_answer (passes before.core) before.core.options (moment_of before.core now) before.core.idle
     pub marks : after.marks ≡ before.marks ++ reap_marks idle
     pub becomes : after.core ≡ reaped (moment_of before.core now) idle before.core
 

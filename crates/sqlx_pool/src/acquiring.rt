@@ -9,7 +9,7 @@ ghost use Rattle.sqlx_pool.specs.Polling.{is_ready, IfReady, IfFailed, IfPending
 ghost use Rattle.sqlx_pool.specs.Refusals.{IsEnd, IsPollRefusal};
 ghost use Rattle.sqlx_pool.specs.Seen.{SeesStep};
 ghost use Rattle.sqlx_pool.specs.Stage.{has_lent, IfLent, IfEnded};
-ghost use Rattle.sqlx_pool.specs.Lent.{lent_of};
+ghost use Rattle.sqlx_pool.specs.Lent.{as_lent};
 
 mod waits;
 
@@ -74,7 +74,7 @@ impl<C: Depth + Drop, O: Drop, S: PoolSteps<C, O>> AcquiringOf<C, O, S> {
         out: &mut X,
         tally: &mut S::Tally,
     ) -> PoolPollOf<C, O, S>
-        ensures polls { PollsUnseen X.does X.depth C.levels S.stands S.does self.pool.shared.value.name self.client self.ticket now self.pool.shared.value.options (λ c. lent_of c.id c.created c.raw) self.pool.shared.value.unseen result out.old out.new }
+        ensures polls { let pool = self.pool.shared.value in PollsUnseen X.does X.depth C.levels S.stands S.does pool.name self.client self.ticket S.tells now pool.options as_lent pool.unseen result out.old out.new }
         ensures tally { CountsIf (is_ready result) (S.Tally.counted tally.old) (S.Tally.counted tally.new) }
         ensures flat { IfReady result (λ conn. C.levels conn.raw ≡ 0) }
         ensures again { IfPending result (λ waits. (waits.pool.shared.value ≡ self.pool.shared.value) × (waits.client ≡ self.client) × (waits.ticket ≡ self.ticket)) }
@@ -95,7 +95,7 @@ impl<C: Depth + Drop, O: Drop, S: PoolSteps<C, O>> AcquiringOf<C, O, S> {
         tally: &mut S::Tally,
         me: &mut FrontOf<C, O, S>,
     ) -> PoolPollOf<C, O, S>
-        ensures polls { Polls X.does X.depth C.levels S.stands S.does self.pool.shared.value.name self.client self.ticket now self.pool.shared.value.options (λ c. lent_of c.id c.created c.raw) me.old me.new result out.old out.new }
+        ensures polls { Polls X.does X.depth C.levels S.stands S.does self.pool.shared.value.name self.client self.ticket S.tells now self.pool.shared.value.options as_lent me.old me.new result out.old out.new }
         ensures tally { CountsIf (is_ready result) (S.Tally.counted tally.old) (S.Tally.counted tally.new) }
         ensures flat { IfReady result (λ conn. C.levels conn.raw ≡ 0) }
         ensures again { IfPending result (λ waits. (waits.pool.shared.value ≡ self.pool.shared.value) × (waits.client ≡ self.client) × (waits.ticket ≡ self.ticket)) }
@@ -121,7 +121,7 @@ impl<C: Depth + Drop, O: Drop, S: PoolSteps<C, O>> AcquiringOf<C, O, S> {
     ) -> PoolPollOf<C, O, S>
         requires flat { IfLent begun (λ lent. C.levels lent.raw ≡ 0) }
         requires causes { IfEnded begun IsEnd }
-        ensures goes { GoesFrom X.does X.depth C.levels S.stands S.does self.pool.shared.value.name self.client self.ticket now self.pool.shared.value.options (λ c. lent_of c.id c.created c.raw) begun me.old out.old me.new result out.new }
+        ensures goes { GoesFrom X.does X.depth C.levels S.stands S.does self.pool.shared.value.name self.client self.ticket S.tells now self.pool.shared.value.options as_lent begun me.old out.old me.new result out.new }
         ensures parts { (S.Tally.counted tally.new).parts ≡ (S.Tally.counted tally.old).parts }
         ensures loans { (S.Tally.counted tally.new).loans + one_if (has_lent begun) ≡ (S.Tally.counted tally.old).loans + one_if (is_ready result) }
         ensures flat { IfReady result (λ conn. C.levels conn.raw ≡ 0) }
@@ -157,7 +157,7 @@ impl<C: Depth + Drop, O: Drop, S: PoolSteps<C, O>> AcquiringOf<C, O, S> {
     ) -> PoolPollOf<C, O, S>
         requires flat { IfLent begun (λ lent. C.levels lent.raw ≡ 0) }
         requires causes { IfEnded begun IsEnd }
-        ensures goes { GoesFrom X.does X.depth C.levels S.stands S.does self.pool.shared.value.name self.client self.ticket now self.pool.shared.value.options (λ c. lent_of c.id c.created c.raw) begun me.old out.old me.new result out.new }
+        ensures goes { GoesFrom X.does X.depth C.levels S.stands S.does self.pool.shared.value.name self.client self.ticket S.tells now self.pool.shared.value.options as_lent begun me.old out.old me.new result out.new }
         ensures parts { (S.Tally.counted tally.new).parts ≡ (S.Tally.counted tally.old).parts }
         ensures loans { (S.Tally.counted tally.new).loans + one_if (has_lent begun) ≡ (S.Tally.counted tally.old).loans + one_if (is_ready result) }
         ensures flat { IfReady result (λ conn. C.levels conn.raw ≡ 0) }

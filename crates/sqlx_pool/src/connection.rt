@@ -8,7 +8,7 @@ ghost use Rattle.sqlx_pool_parts.specs.Checks.{Closes};
 ghost use Rattle.sqlx_pool.specs.Returned.{GivesBack, TellsEnd, was_kept};
 ghost use Rattle.sqlx_pool.specs.Seen.{HasMade};
 ghost use Rattle.sqlx_pool.specs.Calls as call;
-ghost use Rattle.sqlx_pool.specs.Lent.{lent_of};
+ghost use Rattle.sqlx_pool.specs.Lent.{as_lent};
 ghost use Rattle.sqlx_pool.specs.contracts.connection.PoolConnectionOf.{the_row};
 
 use crate::PoolOf;
@@ -75,7 +75,7 @@ pub struct PoolConnectionOf<C: Depth, O, S: PoolSteps<C, O>> {
 
 impl<C: Depth + Drop, O: Drop, S: PoolSteps<C, O>> PoolConnectionOf<C, O, S> {
     pub(crate) fn new(pool: PoolOf<C, O, S>, client: u32, lent: Lent<C>, held: S::Held) -> Self
-        ensures lent { lent_of result.id result.created result.raw ≡ lent }
+        ensures lent { as_lent result ≡ lent }
         ensures raw { result.raw ≡ lent.raw }
         ensures closes { result.closes ≡ false }
     {
@@ -142,7 +142,7 @@ impl<C: Depth + Drop, O: Drop, S: PoolSteps<C, O>> PoolConnectionOf<C, O, S> {
         out: &mut X,
         me: &mut FrontOf<C, O, S>,
     ) -> Returned
-        ensures gives { GivesBack X.does X.depth C.levels S.stands S.does self.pool.shared.value.name self.pool.shared.value.options.after_release self.client self.id self.created now self.raw me.old me.new result out.old }
+        ensures gives { let pool = self.pool.shared.value in GivesBack X.does X.depth C.levels S.stands S.does S.tells pool.name self.closes pool.options self.client (as_lent self) now me.old me.new result out.old }
         ensures closed { self.closes ≡ true → was_kept result ≡ false }
         ensures counts { (X.faults out.old ≤ X.faults out.new) × (X.refusals out.old ≤ X.refusals out.new) }
     {
@@ -155,7 +155,7 @@ impl<C: Depth + Drop, O: Drop, S: PoolSteps<C, O>> PoolConnectionOf<C, O, S> {
             held,
             closes,
         } = self;
-        let check = pool.check::<R, X>(rt, closes, created, now, &mut raw, out);
+        let check = pool.check::<R, X>(rt, closes, created, now, &mut raw, out, me);
         if !passes(check) {
             close_by::<C, O, X>(check, raw, out);
             return pool.end_closed::<R, X>(rt, alloc, now, client, id, held, out, me);

@@ -90,8 +90,9 @@ impl<
         (clock, out, tally)
     }
 
-    // Waits for a connection. Each call is counted, since it may be refused.
-    fn lend(&mut self, alloc: Global) -> Result<PoolConnectionOf<C, O, S>, Error>
+    /// Waits for a connection, which the caller returns or ends itself: what `Acquire::acquire` of `&mut PoolHandle` does,
+    /// and says of the outside and the tally. Each call is counted, since it may be refused. Errors as of `acquire_wait`.
+    pub fn lend(&mut self, alloc: Global) -> Result<PoolConnectionOf<C, O, S>, Error>
         ensures lent { OnOk result (CountsIf true (S.Tally.counted self.old.tally) (S.Tally.counted self.new.tally)) }
         ensures refused { OnErr result (S.Tally.counted self.new.tally ≡ S.Tally.counted self.old.tally) }
         ensures flat { IfOk result (λ conn. C.levels conn.raw ≡ 0) }

@@ -55,7 +55,7 @@ impl<C: Depth + Drop, O: Drop, H: Ledger, L: Loans> PoolSteps<C, O>
 
     ghost does = { DoesLone L.max };
 
-    ghost tells = { TellsLone };
+    ghost tells = { TellsLone (λ connect. connect.value) };
 
     ghost max = { L.max };
 
@@ -106,8 +106,12 @@ impl<C: Depth + Drop, O: Drop, H: Ledger, L: Loans> PoolSteps<C, O>
         self.num_tickets()
     }
 
-    fn must_close(&self, _name: (), created: Moment, now: Moment) -> bool {
-        self.must_close(created, now)
+    fn tests_at(&self, _name: (), created: Moment, now: Moment) -> Option<Moment> {
+        if self.must_close(created, now) {
+            None
+        } else {
+            Some(self.moment(now))
+        }
     }
 
     fn size(&self, _name: ()) -> u32 {

@@ -278,11 +278,7 @@ impl<C: Depth + Drop, O: Drop, S: PoolSteps<C, O>> PoolOf<C, O, S> {
 
     /// The options by which connections are opened, in whichever pool of a family.
     pub fn connect_options<R: Wait>(&self, rt: &R) -> Result<Arc<O, Global>, OutOfMemory> {
-        let guard = self.lock(rt);
-        match Arc::try_clone(guard.locked().connect_options()) {
-            Ok(connect) => Ok(connect),
-            Err(_) => Err(OutOfMemory),
-        }
+        self.connect_options_seen(rt, &mut self.front())
     }
 
     /// Sets the options by which connections are opened from now on, in whichever pool of a family.

@@ -85,7 +85,7 @@ pub trait PoolSteps<C: Depth, O>: Stands<Self::Stood> + Drop + Sized {
     ghost does: { Step C Self.Name → Self.Stood → Self.Stood → Type 0 };
 
     /// What is told of a state.
-    ghost tells: { Look Self.Name Self.Log → Self.Stood → Type 0 };
+    ghost tells: { Look Self.Name Self.Log O → Self.Stood → Type 0 };
 
     /// How many connections it has at most.
     ghost max: { ℕ };
@@ -130,7 +130,8 @@ pub trait PoolSteps<C: Depth, O>: Stands<Self::Stood> + Drop + Sized {
         ensures { stands (Self.Stands.state self.now) };
 
     /// The options by which connections are opened.
-    fn connect_options(&self) -> &Arc<O, Global>;
+    fn connect_options(&self) -> &Arc<O, Global>
+        ensures { tells (call.Connects result.now.value) (Self.Stands.state self.now) };
 
     /// The moment that a step goes by.
     fn moment(&self, name: Self::Name, now: Moment) -> Moment;
@@ -138,8 +139,9 @@ pub trait PoolSteps<C: Depth, O>: Stands<Self::Stood> + Drop + Sized {
     /// How many tickets haven't ended.
     fn num_tickets(&self, name: Self::Name) -> usize;
 
-    /// Whether a connection of this opening would be closed rather than kept.
-    fn must_close(&self, name: Self::Name, created: Moment, now: Moment) -> bool;
+    /// The moment at which a connection of this opening that comes back is tested; None where it is to be closed anyway.
+    fn tests_at(&self, name: Self::Name, created: Moment, now: Moment) -> Option<Moment>
+        ensures { tells (call.TestsAt name created now result) (Self.Stands.state self.now) };
 
     /// How many connections there are or may be.
     fn size(&self, name: Self::Name) -> u32

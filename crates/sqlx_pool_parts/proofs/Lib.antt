@@ -1,3 +1,4 @@
 pub mod ReturnsLemmas
 pub mod CheckLemmas
+pub mod CloseLemmas
 pub mod MarkLemmas

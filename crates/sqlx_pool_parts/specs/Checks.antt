@@ -1,5 +1,5 @@
 -- What is asked of the outside between two locked steps: the core's own tests and tries, behind each of which the connection's own depth is read.
-use Rattle.std.specs.Prelude.{◌≡◌, ◌==◌, ℕ, ⊤, Bool, true, false, Result, Ok, if◌then◌else◌}
+use Rattle.std.specs.Prelude.{◌≡◌, ◌==◌, ℕ, ⊤, Bool, true, false, List, [], ◌∷◌, Result, Ok, if◌then◌else◌}
 use Rattle.sqlx_text.specs.declared.error.Error.{Error}
 use Rattle.sqlx_pool_lists.specs.declared.options.PoolOptions.{PoolOptions}
 use Rattle.sqlx_pool_core.specs.declared.outside.PoolConnectionMetadata.{PoolConnectionMetadata}
@@ -35,6 +35,11 @@ module _ {C O X : Type 0} (does : Call C O → X → X → Type 0) where
   abbrev pub Closes : Check → C → X → X → Type 0
   Closes check.CloseHard raw old new = does (close_hard raw) old new
   Closes other raw old new = does (close raw) old new
+
+  -- these idle connections are closed as a check says, the first of them first
+  unfoldable pub ClosesAll : Check → List (Idle C) → X → X → Type 0
+  ClosesAll how [] old new = new ≡ old
+  ClosesAll how (idle ∷ rest) old new = (between : X) × Closes how idle.lent.raw old between × ClosesAll how rest between new
 
   -- the connection is kept where it is flat, and else closed hard
   abbrev pub IfFlat : {T : Type 0} → Bool → C → T → T → T → X → X → Type 0

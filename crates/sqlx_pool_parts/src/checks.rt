@@ -9,7 +9,7 @@ ghost use Rattle.sqlx_pool_core.specs.Outside.{HasRisen};
 ghost use Rattle.sqlx_pool_core.specs.CameTo.{IfAccepted, IfOpened, IfFailed, IsForGood};
 ghost use Rattle.sqlx_pool_core.specs.Giving.{Returns, is_pass};
 ghost use Rattle.sqlx_pool_lists.specs.PollSteps.{judged};
-ghost use Rattle.sqlx_pool_parts.specs.Checks.{Closes, Hooks, IfPassed, ReturnsFlat, TestsFlat, TriesFlat, flat_check};
+ghost use Rattle.sqlx_pool_parts.specs.Checks.{Closes, ClosesAll, Hooks, IfPassed, ReturnsFlat, TestsFlat, TriesFlat, flat_check};
 ghost use Rattle.sqlx_pool_parts.specs.Opened.{IfUnopened, IsCounted, TellsLevels};
 
 use sqlx_pool_core::idle_check::{self, Check, Opening};
@@ -76,21 +76,20 @@ pub fn close_left<C, O, X: Outside<C, O>>(raw: C, hard: bool, out: &mut X)
     close_by::<C, O, X>(check, raw, out);
 }
 
-// Closes idle connections, hard or gently, and tells how many.
+// Closes idle connections, hard or gently, the first of them first, and tells how many.
 pub fn close_all<C: Drop, O, X: Outside<C, O>>(
     check: Check,
     idle: VecDeque<Idle<C>>,
     out: &mut X,
 ) -> usize
+    ensures closes { ClosesAll X.does check idle.items out.old out.new }
     ensures count { result ≡ length idle.items }
     ensures counts { (X.faults out.old ≤ X.faults out.new) × (X.refusals out.old ≤ X.refusals out.new) }
 {
     let mut idle = idle;
     let count = idle.len();
-    for _ in 0..count {
-        if let Some(closed) = idle.pop_front() {
-            close_by::<C, O, X>(check, closed.lent.raw, out);
-        }
+    while let Some(first) = idle.pop_front() {
+        close_by::<C, O, X>(check, first.lent.raw, out);
     }
     count
 }

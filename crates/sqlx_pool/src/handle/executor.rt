@@ -94,7 +94,8 @@ fn run<
 where
     DB::Connection: Executor<DB> + Drop,
     ensures ran { WasRefused (X.faults handle.old.out) (X.faults handle.new.out) (S.Tally.counted handle.old.tally) (S.Tally.counted handle.new.tally) (λ e. result ≡ Err e ∷ [])
-        ⊎ WorkedOn DB.Connection.levels (S.Tally.counted handle.old.tally) (S.Tally.counted handle.new.tally) (λ first last. DB.Connection.runs first (handed Q.text Q.arguments Q.kept query) result last) }
+        ⊎ WorkedOn DB.Connection.levels DB.Connection.faults (S.Tally.counted handle.old.tally) (S.Tally.counted handle.new.tally)
+        (λ first last. DB.Connection.runs first (handed Q.text Q.arguments Q.kept query) result last) (λ before now. StepCauses before now (Q.arguments query) result) }
     ensures rises { handle.old.calls ≤ handle.new.calls }
     ensures causes { StepCauses handle.old.calls handle.new.calls (Q.arguments query) result }
 {
@@ -129,7 +130,8 @@ fn prepare<
 where
     DB::Connection: Executor<DB> + Drop,
     ensures ran { WasRefused (X.faults handle.old.out) (X.faults handle.new.out) (S.Tally.counted handle.old.tally) (S.Tally.counted handle.new.tally) (λ e. result ≡ Err e)
-        ⊎ WorkedOn DB.Connection.levels (S.Tally.counted handle.old.tally) (S.Tally.counted handle.new.tally) (λ first last. DB.Connection.prepares first sql parameters.now result last) }
+        ⊎ WorkedOn DB.Connection.levels DB.Connection.faults (S.Tally.counted handle.old.tally) (S.Tally.counted handle.new.tally)
+        (λ first last. DB.Connection.prepares first sql parameters.now result last) (λ before now. IfErr result (FaultCause before now)) }
     ensures text { IfOk result (λ statement. DB.Statement.text statement ≡ sql) }
     ensures rises { handle.old.calls ≤ handle.new.calls }
     ensures cause { IfErr result (FaultCause handle.old.calls handle.new.calls) }
@@ -160,15 +162,18 @@ where
     DB::Connection: Executor<DB> + Drop,
 {
     ghost use Rattle.std.specs.Prelude.{◌≡◌, ◌⊎◌, ◌∷◌, [], Err, IfErr, IfOk};
-    ghost use Rattle.sqlx_traits.specs.StepList.{RunsNothing};
+    ghost use Rattle.sqlx_traits.specs.Faults.{FaultCause};
+    ghost use Rattle.sqlx_traits.specs.StepList.{RunsNothing, StepCauses};
     ghost use Rattle.sqlx_pool.specs.Handle.{WasRefused, WorkedOn};
 
     ghost runs = { λ handle query list after. IfErr query.arguments (RunsNothing handle after (λ e. list ≡ Err e ∷ [])) × IfOk query.arguments (λ _.
         WasRefused (X.faults handle.out) (X.faults after.out) (S.Tally.counted handle.tally) (S.Tally.counted after.tally) (λ e. list ≡ Err e ∷ [])
-        ⊎ WorkedOn DB.Connection.levels (S.Tally.counted handle.tally) (S.Tally.counted after.tally) (λ first last. DB.Connection.runs first query list last)) };
+        ⊎ WorkedOn DB.Connection.levels DB.Connection.faults (S.Tally.counted handle.tally) (S.Tally.counted after.tally)
+        (λ first last. DB.Connection.runs first query list last) (λ before now. StepCauses before now query.arguments list)) };
 
     ghost prepares = { λ handle sql parameters answer after. WasRefused (X.faults handle.out) (X.faults after.out) (S.Tally.counted handle.tally) (S.Tally.counted after.tally) (λ e. answer ≡ Err e)
-        ⊎ WorkedOn DB.Connection.levels (S.Tally.counted handle.tally) (S.Tally.counted after.tally) (λ first last. DB.Connection.prepares first sql parameters answer last) };
+        ⊎ WorkedOn DB.Connection.levels DB.Connection.faults (S.Tally.counted handle.tally) (S.Tally.counted after.tally)
+        (λ first last. DB.Connection.prepares first sql parameters answer last) (λ before now. IfErr answer (FaultCause before now)) };
 
     fn fetch_many<Q: Execute<DB>>(&mut self, alloc: Global, query: Q) -> FetchMany<DB> {
         match Taken::<DB, Q>::new(query) {

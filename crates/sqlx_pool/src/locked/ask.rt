@@ -5,17 +5,15 @@ ghost use Rattle.sqlx_text.specs.declared.error.Error.{Error};
 ghost use Rattle.sqlx_pool_marks.specs.declared.mark.Mark.{Mark};
 ghost use Rattle.sqlx_pool_marks.specs.Marks.{is_open, next_ticket};
 ghost use Rattle.sqlx_pool_marks.specs.Answers.{lent_past_at};
-ghost use Rattle.sqlx_pool_marks.specs.EventTable.{may_pass};
 ghost use Rattle.sqlx_pool_core.specs.Answers.{lent_conn};
 ghost use Rattle.sqlx_pool_lists.specs.Balance.{Balance, ask_room, marks_due};
-ghost use Rattle.sqlx_pool_lists.specs.Core.{free, waiting};
 ghost use Rattle.sqlx_pool_lists.specs.Edits.{at_moment, asked};
 ghost use Rattle.sqlx_pool_core.specs.Logs.{moment_of};
 ghost use Rattle.sqlx_pool_lists.specs.PollSteps.{asked_marks, try_lent, try_marks, after_try, serve_marks, after_serve};
 ghost use Rattle.sqlx_pool_lists.specs.StandsFor.{StandsFor};
 ghost use Rattle.sqlx_pool_parts.specs.Answers.{lent_alone, marks_served};
 ghost use Rattle.sqlx_pool_parts.specs.Booked.{CountsIf};
-ghost use Rattle.sqlx_pool.specs.Steps.{LogsIf};
+ghost use Rattle.sqlx_pool.specs.Steps.{LogsIf, passes};
 
 use super::Locked;
 use crate::{Held, Loans, Tally};
@@ -131,9 +129,9 @@ fn lend_past<C>(
     now: Moment,
     client: u32,
 ) -> Option<Lent<C>>
-    requires may { is_some (try_lent (may_pass core.old.pool.shut (waiting core.old.pool.tickets) (free core.old.pool)) core.old.pool.idle) ≡ true }
+    requires may { is_some (try_lent (passes core.old.pool) core.old.pool.idle) ≡ true }
     requires room { length log.old.items + marks_due core.old.pool ≤ log.old.capacity }
-    ensures first { IfSome result (λ lent. Some lent ≡ try_lent (may_pass core.old.pool.shut (waiting core.old.pool.tickets) (free core.old.pool)) core.old.pool.idle) }
+    ensures first { IfSome result (λ lent. Some lent ≡ try_lent (passes core.old.pool) core.old.pool.idle) }
     ensures answer { (marks : List Mark) → StandsFor core.old.pool marks → IfSome result (λ lent. Some (lent_conn lent) ≡ lent_past_at core.old.pool.options.max_connections core.old.pool.places marks) }
     ensures makes { LogsIf result core.old.pool (λ lent. try_marks client (Some lent)) core.new.pool }
     ensures balance { IfSome result (λ lent. Balance core.old.pool core.new.pool (try_marks client (Some lent)) 0 4) }
@@ -216,6 +214,7 @@ impl<C: Depth, O, H: Ledger, L: Loans> Locked<C, O, H, L> {
         tally: &mut Tally<L>,
     ) -> Result<Option<(Lent<C>, Held<H>)>, Error>
         ensures answer { IfOk result (λ lent. option_map lent_conn (lent_alone lent) ≡ lent_past_at L.max self.old.core.places self.old.marks) }
+        ensures first { IfOk result (λ lent. lent_alone lent ≡ try_lent (passes self.old.core) self.old.core.idle) }
         ensures marks { IfOk result (λ lent. self.new.marks ≡ self.old.marks ++ try_marks client (lent_alone lent)) }
         ensures becomes { IfOk result (λ lent. self.new.core ≡ after_try client (moment_of self.old.core now) (lent_alone lent) self.old.core) }
         ensures tally { IfOk result (λ lent. CountsIf (is_some lent) tally.old tally.new) }

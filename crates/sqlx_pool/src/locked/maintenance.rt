@@ -4,10 +4,11 @@ ghost use Rattle.std.specs.Prelude.{◌≡◌, ℕ, ◌+◌, ◌++◌, List, tru
 ghost use Rattle.std.specs.List.{list_any};
 ghost use Rattle.sqlx_pool_marks.specs.Marks.{is_shut, next_conn};
 ghost use Rattle.sqlx_pool_marks.specs.EventTable.{reaped_at, has_place_at, closed_at};
-ghost use Rattle.sqlx_pool_lists.specs.MaintenanceSteps.{idle_conn, reap_marks, reaped, placed, close_marks, closed_from, close_answer};
+ghost use Rattle.sqlx_pool_lists.specs.MaintenanceSteps.{idle_conn, reap_answer, reap_marks, reaped, placed, close_marks, closed_from, close_answer};
 ghost use Rattle.sqlx_pool_lists.specs.Limits.{limits_of};
 ghost use Rattle.sqlx_pool_core.specs.Logs.{moment_of};
 ghost use Rattle.sqlx_pool.specs.Places.{holds_place, done_if, done_if_marks, back_if};
+ghost use Rattle.sqlx_pool.specs.Steps.{passes};
 
 use super::Locked;
 use crate::Loans;
@@ -27,6 +28,7 @@ impl<C: Depth, O, H: Ledger, L: Loans> Locked<C, O, H, L> {
     /// the caller closes: where the pool is open and fewer tickets wait than permits are free. Otherwise nothing changes.
     pub fn reap(&mut self, now: Moment) -> Option<Idle<C>>
         ensures answer { option_map idle_conn result ≡ reaped_at (limits_of self.old.core.options) self.old.core.places self.old.marks (moment_of self.old.core now) }
+        ensures first { result ≡ reap_answer (passes self.old.core) self.old.core.options (moment_of self.old.core now) self.old.core.idle }
         ensures marks { self.new.marks ≡ self.old.marks ++ reap_marks result }
         ensures becomes { self.new.core ≡ reaped (moment_of self.old.core now) result self.old.core }
         ensures connect { self.new.connect ≡ self.old.connect }

@@ -1,7 +1,8 @@
 //! Whose turn it is.
 
-ghost use Rattle.std.specs.Prelude.{◌≡◌, length};
+ghost use Rattle.std.specs.Prelude.{◌≡◌, length, IfSome};
 ghost use Rattle.sqlx_pool_marks.specs.Marks.{tickets_of};
+ghost use Rattle.sqlx_pool.specs.Upkeep.{AreEntitledTo};
 
 use super::Locked;
 use crate::Loans;
@@ -12,14 +13,15 @@ impl<C: Depth, O, H: Ledger, L: Loans> Locked<C, O, H, L> {
     /// The ticket that became entitled since this was asked last; the last one, where several did. A step entitles one
     /// ticket at most.
     pub fn entitled(&mut self) -> Option<u64>
-        ensures { self.new ≡ self.old }
+        ensures turn { IfSome result (λ last. AreEntitledTo last self.old.core) }
+        ensures same { self.new ≡ self.old }
     {
         let edge = self.core.edge();
         if edge == self.edge {
             return None;
         }
         self.edge = edge;
-        edge.checked_sub(1)
+        if edge == 0 { None } else { Some(edge - 1) }
     }
 
     /// How many tickets haven't ended.

@@ -1,11 +1,15 @@
 //! What keeps a pool in shape, and closing it: one locked step a connection, with the connects and closes between.
 
-ghost use Rattle.std.specs.Prelude.{◌≡◌, ◌⊎◌, ℕ, ◌≤◌, true, false};
+ghost use Rattle.std.specs.Prelude.{◌≡◌, ◌⊎◌, ℕ, ◌≤◌, true, false, List, Option};
 ghost use mathlib.Core.List.{IsPrefix};
+ghost use Rattle.sqlx_text.specs.declared.Moment.{Moment};
+ghost use Rattle.sqlx_pool_marks.specs.EventTable.{is_too_old};
+ghost use Rattle.sqlx_pool_lists.specs.Limits.{limits_of};
 ghost use Rattle.sqlx_pool_core.specs.Giving.{is_pass};
 ghost use Rattle.sqlx_pool_parts.specs.Checks.{IfPassed};
 ghost use Rattle.sqlx_pool_parts.specs.Opened.{IsCounted, TellsLevels};
-ghost use Rattle.sqlx_pool.specs.Returned.{ChecksReturn};
+ghost use Rattle.sqlx_pool.specs.Reaped.{ReapsSome};
+ghost use Rattle.sqlx_pool.specs.Returned.{ChecksReturn, IsTestedAt};
 ghost use Rattle.sqlx_pool.specs.Seen.{HasSeen};
 ghost use Rattle.sqlx_pool.specs.Calls as call;
 ghost use Rattle.sqlx_pool.specs.Upkeep.{EndsKeeping, IfUnfilled};
@@ -15,6 +19,7 @@ use crate::steps::PoolSteps;
 use crate::stood::FrontOf;
 use sqlx_pool_core::idle_check::{Check, Opening};
 use sqlx_pool_core::{Openings, Outside, PoolConnectionMetadata, PoolOptions};
+use sqlx_pool_lists::beyond;
 use sqlx_pool_parts::checks;
 use sqlx_pool_parts::filled::Filled;
 use sqlx_text::{Depth, Error, Moment};
@@ -23,11 +28,10 @@ use std::sync::Wait;
 use std::sync::atomic::Ordering;
 
 // A connection that was opened at this moment is too old.
-fn is_too_old(options: &PoolOptions, created: Moment, now: Moment) -> bool {
-    match options.get_max_lifetime() {
-        Some(limit) => limit < now.0.saturating_sub(created.0),
-        None => false,
-    }
+fn is_too_old(options: &PoolOptions, created: Moment, now: Moment) -> bool
+    ensures { result ≡ is_too_old (limits_of options.now) created.0 now.0 }
+{
+    beyond(options.get_max_lifetime(), now.0.saturating_sub(created.0))
 }
 
 impl<C: Depth + Drop, O: Drop, S: PoolSteps<C, O>> PoolOf<C, O, S> {
@@ -40,16 +44,15 @@ impl<C: Depth + Drop, O: Drop, S: PoolSteps<C, O>> PoolOf<C, O, S> {
         now: Moment,
         raw: &mut C,
         out: &mut X,
+        me: &mut FrontOf<C, O, S>,
     ) -> Check
-        ensures checks { ChecksReturn X.does X.depth C.levels self.now.shared.value.options.after_release raw.old raw.new result out.old out.new }
+        ensures checks { (at : Option Moment) × IsTestedAt S.stands S.tells self.now.shared.value.name closes self.now.shared.value.options created now me.old me.new at
+            × ChecksReturn X.does X.depth C.levels at self.now.shared.value.options.after_release created raw.old raw.new result out.old out.new }
         ensures flat { IfPassed result (C.levels raw.new ≡ 0) }
         ensures closes { closes ≡ true → is_pass result ≡ false }
         ensures counts { (X.faults out.old ≤ X.faults out.new) × (X.refusals out.old ≤ X.refusals out.new) }
     {
-        if closes {
-            return Check::Close;
-        }
-        match self.tests_at(rt, created, now) {
+        match self.tests_at(rt, closes, created, now, me) {
             None => Check::Close,
             Some(moment) => {
                 let meta = PoolConnectionMetadata {
@@ -64,15 +67,24 @@ impl<C: Depth + Drop, O: Drop, S: PoolSteps<C, O>> PoolOf<C, O, S> {
     // The moment at which a connection that comes back is tested; None where it is to be closed anyway. Without a hook no
     // test looks at the moment, and the lock isn't taken: what is pinged goes by the caller's moment, what is kept by the
     // pool's.
-    fn tests_at<R: Wait>(&self, rt: &R, created: Moment, now: Moment) -> Option<Moment> {
+    fn tests_at<R: Wait>(
+        &self,
+        rt: &R,
+        closes: bool,
+        created: Moment,
+        now: Moment,
+        me: &mut FrontOf<C, O, S>,
+    ) -> Option<Moment>
+        ensures { IsTestedAt S.stands S.tells self.now.shared.value.name closes self.now.shared.value.options created now me.old me.new result }
+    {
+        if closes {
+            return None;
+        }
         let options = &self.shared.options;
         if options.get_after_release() || self.shared.all.closed.load(Ordering::SeqCst) {
-            let guard = self.lock(rt);
-            let locked = guard.locked();
-            if locked.must_close(self.shared.name, created, now) {
-                return None;
-            }
-            return Some(locked.moment(self.shared.name, now));
+            return self
+                .lock(rt)
+                .tests_at(rt, self.shared.name, created, now, me);
         }
         if is_too_old(options, created, now) {
             None
@@ -114,6 +126,7 @@ impl<C: Depth + Drop, O: Drop, S: PoolSteps<C, O>> PoolOf<C, O, S> {
         me: &mut FrontOf<C, O, S>,
     ) -> (u32, Openings)
         ensures most { (result.0 ≤ self.now.shared.value.options.max_connections) × (result.1.opened ≤ self.now.shared.value.options.max_connections) }
+        ensures reaps { (seen : List S.Stood) × (between : X) × ReapsSome X.does S.stands S.does self.now.shared.value.name now result.0 me.old seen out.old between × IsPrefix seen me.new }
         ensures reaped { (result.0 ≡ self.now.shared.value.options.max_connections) ⊎ HasSeen S.stands me.old me.new (S.tells (call.NothingToReap self.now.shared.value.name now)) }
         ensures ends { TellsLevels X.depth C.levels → EndsKeeping self.now.shared.value.options (HasSeen S.stands me.old me.new (S.tells (call.IsFilled self.now.shared.value.name))) (IsCounted X.faults X.refusals out.old out.new) result.1 }
         ensures later { IsPrefix me.old me.new }
@@ -132,6 +145,7 @@ impl<C: Depth + Drop, O: Drop, S: PoolSteps<C, O>> PoolOf<C, O, S> {
         out: &mut X,
         me: &mut FrontOf<C, O, S>,
     ) -> u32
+        ensures reaps { (seen : List S.Stood) × ReapsSome X.does S.stands S.does self.now.shared.value.name now result me.old seen out.old out.new × IsPrefix seen me.new }
         ensures most { result ≤ self.now.shared.value.options.max_connections }
         ensures ends { (result ≡ self.now.shared.value.options.max_connections) ⊎ HasSeen S.stands me.old me.new (S.tells (call.NothingToReap self.now.shared.value.name now)) }
         ensures later { IsPrefix me.old me.new }
@@ -263,7 +277,7 @@ impl<C: Depth + Drop, O: Drop, S: PoolSteps<C, O>> PoolOf<C, O, S> {
         ensures later { IsPrefix me.old me.new }
         ensures counts { (X.faults out.old ≤ X.faults out.new) × (X.refusals out.old ≤ X.refusals out.new) }
     {
-        match self.open::<R, X>(rt, alloc, out) {
+        match self.open::<R, X>(rt, alloc, out, &mut self.front()) {
             Opening::Opened(raw) => self.keep_new::<R, X>(rt, now, raw, out, me),
             Opening::Rejected | Opening::Transient => {
                 self.let_go(rt, now, me);

@@ -93,14 +93,15 @@ impl<C: Depth + Drop, O: Drop, S: PoolSteps<C, O>> PoolOf<C, O, S> {
         rt: &R,
         alloc: Global,
         out: &mut X,
+        me: &mut FrontOf<C, O, S>,
     ) -> Opening<C>
-        ensures tries { TriesOrLacks X.does X.depth C.levels self.now.shared.value.options.after_connect result out.old out.new }
+        ensures tries { TriesOrLacks X.does X.depth C.levels S.stands S.tells self.now.shared.value.options.after_connect result me.old me.new out.old out.new }
         ensures flat { IfOpened result (λ raw. C.levels raw ≡ 0) }
         ensures unopened { TellsLevels X.depth C.levels → IfUnopened result (IsCounted X.faults X.refusals out.old out.new) }
         ensures cause { IfFailed result (λ e. IsForGood (X.faults out.old) (X.faults out.new) e) }
         ensures counts { (X.faults out.old ≤ X.faults out.new) × (X.refusals out.old ≤ X.refusals out.new) }
     {
-        let Ok(connect) = self.connect_options(rt) else {
+        let Ok(connect) = self.connect_options_seen(rt, me) else {
             return Opening::Failed(Error::OutOfMemory);
         };
         let opening = checks::try_open::<C, O, X>(alloc, &self.shared.options, &*connect, out);
@@ -193,7 +194,7 @@ impl<C: Depth + Drop, O: Drop, S: PoolSteps<C, O>> PoolOf<C, O, S> {
         tally: &mut S::Tally,
         me: &mut FrontOf<C, O, S>,
     ) -> Stage<C, S::Held>
-        ensures chain { OpensFrom X.does X.depth C.levels S.stands S.does self.now.shared.value.name client ticket now self.now.shared.value.options stage me.old out.old result me.new out.new }
+        ensures chain { OpensFrom X.does X.depth C.levels S.stands S.does self.now.shared.value.name client ticket S.tells now self.now.shared.value.options stage me.old out.old result me.new out.new }
         ensures parts { (S.Tally.counted tally.new).parts ≡ (S.Tally.counted tally.old).parts }
         ensures loans { (S.Tally.counted tally.new).loans + one_if (has_lent stage) ≡ (S.Tally.counted tally.old).loans + one_if (has_lent result) }
         ensures flat { IfLent stage (λ lent. C.levels lent.raw ≡ 0) → IfLent result (λ lent. C.levels lent.raw ≡ 0) }
@@ -203,7 +204,7 @@ impl<C: Depth + Drop, O: Drop, S: PoolSteps<C, O>> PoolOf<C, O, S> {
         ensures counts { (X.faults out.old ≤ X.faults out.new) × (X.refusals out.old ≤ X.refusals out.new) }
     {
         match stage {
-            Stage::Connect => match self.open::<R, X>(rt, alloc, out) {
+            Stage::Connect => match self.open::<R, X>(rt, alloc, out, me) {
                 Opening::Opened(raw) => self.tell(
                     rt,
                     client,

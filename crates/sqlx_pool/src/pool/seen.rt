@@ -2,10 +2,13 @@
 //! which the call tells.
 
 ghost use Rattle.std.specs.Prelude.{◌≡◌, ℕ, ◌≤◌, List, length, true, is_some, option_map, Ok, IfOk, IfErr, IfSome, OnErr};
+ghost use mathlib.Core.List.{IsPrefix};
 ghost use Rattle.sqlx_pool_parts.specs.Booked.{CountsIf};
 ghost use Rattle.sqlx_pool_lists.specs.declared.steps.Idle.{Idle};
+ghost use Rattle.sqlx_pool_core.specs.declared.idle_check.Check.{Check};
+ghost use Rattle.sqlx_pool_parts.specs.Checks.{ClosesAll};
 ghost use Rattle.sqlx_pool.specs.Calls as call;
-ghost use Rattle.sqlx_pool.specs.Lent.{lent_of};
+ghost use Rattle.sqlx_pool.specs.Lent.{as_lent};
 ghost use Rattle.sqlx_pool.specs.Refusals.{IsAskRefusal, IsTryRefusal};
 ghost use Rattle.sqlx_pool.specs.Seen.{Sees, SeesStep};
 
@@ -18,8 +21,8 @@ use sqlx_pool_core::{CloseState, Outside};
 use sqlx_pool_parts::checks;
 use sqlx_text::{Depth, Error, Moment, OutOfMemory};
 use std::alloc::Global;
-use std::sync::Wait;
 use std::sync::atomic::Ordering;
+use std::sync::{Arc, Wait};
 
 impl<C: Depth + Drop, O: Drop, S: PoolSteps<C, O>> PoolOf<C, O, S> {
     /// As `acquire`.
@@ -60,7 +63,7 @@ impl<C: Depth + Drop, O: Drop, S: PoolSteps<C, O>> PoolOf<C, O, S> {
         tally: &mut S::Tally,
         me: &mut FrontOf<C, O, S>,
     ) -> Result<Option<PoolConnectionOf<C, O, S>>, Error>
-        ensures saw { IfOk result (λ lent. SeesStep S.stands me.old me.new (S.does (call.LendPast self.now.shared.value.name now client (Ok (option_map (λ conn. lent_of conn.id conn.created conn.raw) lent))))) }
+        ensures saw { IfOk result (λ lent. SeesStep S.stands me.old me.new (S.does (call.LendPast self.now.shared.value.name now client (Ok (option_map as_lent lent))))) }
         ensures tally { IfOk result (λ lent. CountsIf (is_some lent) (S.Tally.counted tally.old) (S.Tally.counted tally.new)) }
         ensures flat { IfOk result (λ lent. IfSome lent (λ conn. C.levels conn.raw ≡ 0)) }
         ensures refused { IfErr result (IsTryRefusal (Sees S.stands me.old me.new (S.tells call.LoansUsed))) }
@@ -108,6 +111,18 @@ impl<C: Depth + Drop, O: Drop, S: PoolSteps<C, O>> PoolOf<C, O, S> {
         self.lock(rt).is_closed(rt, self.shared.name, me)
     }
 
+    /// As `connect_options`.
+    pub fn connect_options_seen<R: Wait>(
+        &self,
+        rt: &R,
+        me: &mut FrontOf<C, O, S>,
+    ) -> Result<Arc<O, Global>, OutOfMemory>
+        ensures saw { IfOk result (λ options. Sees S.stands me.old me.new (S.tells (call.Connects options.value))) }
+        ensures later { IsPrefix me.old me.new }
+    {
+        self.lock(rt).connect_options(rt, me)
+    }
+
     /// As `closing`.
     pub fn closing_seen<R: Wait>(&self, rt: &R, me: &mut FrontOf<C, O, S>) -> CloseState
         ensures { Sees S.stands me.old me.new (S.tells (call.Closing self.now.shared.value.name result)) }
@@ -142,7 +157,7 @@ impl<C: Depth + Drop, O: Drop, S: PoolSteps<C, O>> PoolOf<C, O, S> {
         out: &mut X,
         me: &mut FrontOf<C, O, S>,
     ) -> usize
-        ensures saw { (idle : List (Idle C)) × (length idle ≡ result) × SeesStep S.stands me.old me.new (S.does (call.Close self.now.shared.value.name idle)) }
+        ensures saw { (idle : List (Idle C)) × (length idle ≡ result) × SeesStep S.stands me.old me.new (S.does (call.Close self.now.shared.value.name idle)) × ClosesAll X.does Check.Close idle out.old out.new }
         ensures counts { (X.faults out.old ≤ X.faults out.new) × (X.refusals out.old ≤ X.refusals out.new) }
     {
         let mut guard = self.lock(rt);

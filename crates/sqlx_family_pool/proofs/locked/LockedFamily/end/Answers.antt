@@ -1,6 +1,6 @@
-use Rattle.std.proofs.Common.{◌<◌, length, inl, arith}
+use Rattle.std.proofs.Common.{inl, arith}
 use Rattle.sqlx_family.specs.Pools.{pool_in}
-use Rattle.sqlx_family_pool.proofs.StepLemmas.{in-logs, room-there, logs-grow, written}
+use Rattle.sqlx_family_pool.proofs.StepLemmas.{room-there, written-within, logs-written}
 use Rattle.sqlx_pool_core.specs.ReturnSteps.{end_marks}
 use Rattle.sqlx_pool.proofs.LeavesLemmas.{released-leaves}
 use Rattle.sqlx_pool.proofs.StepLemmas.{end-lends}
@@ -8,25 +8,17 @@ use Rattle.sqlx_family_pool.proofs.Replaces.{replaces-step}
 use Rattle.sqlx_family_pool.proofs.locked.LockedFamily.end.Goals as goal
 
 pub end-ends-requires-clause-room : goal.end-ends-requires-clause-room
-end-ends-requires-clause-room g c =
-    let here : c.args.pool < length c.self.inside.family.pools = grind arith in
-    room-there c.self.inside.logs.items c.self.invariant c.args.pool here c.index_mut-log.result.now c.index_mut-log.ensures.value
+end-ends-requires-clause-room g c = room-there c.self.inside.logs.items c.self.invariant c.args.pool (grind arith) c.index_mut-log.result.now c.index_mut-log.ensures.value
 
 pub invariant_of-self : goal.invariant_of-self
 invariant_of-self g c =
-    let here : c.args.pool < length c.self.inside.family.pools = grind arith in
-    let room = room-there c.self.inside.logs.items c.self.invariant c.args.pool here c.index_mut-log.result.now c.index_mut-log.ensures.value in
-    let capacity = c.end-ends.ensures.capacity in
-    written c.self.inside.logs.items c.self.invariant c.args.pool here c.index_mut-log.result.now c.index_mut-log.ensures.value
-    (replaces-step c.args.pool c.self.inside.family here c.end-ends.ensures.becomes) c.end-ends.ensures.makes c.end-ends.ensures.balance
+    written-within c.self.inside.logs.items c.self.invariant c.args.pool (grind arith) c.index_mut-log.result.now c.index_mut-log.ensures.value
+    (replaces-step c.args.pool c.self.inside.family (grind arith) c.end-ends.ensures.becomes) c.end-ends.ensures.makes c.end-ends.ensures.balance
     (released-leaves g.C.Depth.levels c.args.id c.end-ends.result (pool_in c.args.pool c.self.inside.family))
-    c.self.inside.connect (let none = end-lends c.args.id c.end-ends.result in let owned = c.take_back_if.ensures.owned in let made = c.take_back_if.ensures.made in record { owned = omega (arith, none, owned); made_is = omega (arith, none, made); few = inl (omega (arith, none)) }) c.end-ends.new.log c.end-ends.ensures.marks (omega (arith, room, capacity))
+    c.self.inside.connect (let none = end-lends c.args.id c.end-ends.result in let owned = c.take_back_if.ensures.owned in let made = c.take_back_if.ensures.made in record { owned = omega (arith, none, owned); made_is = omega (arith, none, made); few = inl (omega (arith, none)) }) c.end-ends.new.log c.end-ends.ensures.marks c.end-ends.ensures.capacity
 
 pub returns-clause-marks : goal.returns-clause-marks
-returns-clause-marks g c =
-    let here : c.args.pool < length c.self.inside.family.pools = grind arith in
-    rw (← c.self.view_is)
-    (λ named. logs-grow c.self.inside.logs.items c.args.pool c.index_mut-log.result.now (in-logs c.self.inside.logs.items c.self.invariant c.args.pool here c.index_mut-log.result.now c.index_mut-log.ensures.value) c.index_mut-log.ensures.value c.end-ends.new.log (end_marks c.args.id c.end-ends.result) c.end-ends.ensures.marks)
+returns-clause-marks g c = rw (← c.self.view_is) (λ named. logs-written c.self.inside.logs.items c.self.invariant c.args.pool (grind arith) c.index_mut-log.result.now c.index_mut-log.ensures.value c.end-ends.new.log (end_marks c.args.id c.end-ends.result) c.end-ends.ensures.marks)
 
 pub returns-clause-becomes : goal.returns-clause-becomes
 returns-clause-becomes g c = rw (← c.self.view_is) (λ named. c.end-ends.ensures.becomes)

@@ -1,4 +1,4 @@
-use Rattle.std.proofs.Common.{◌<◌, [], List, length, append-nil, refl, ap, ◌∙◌, sym, arith}
+use Rattle.std.proofs.Common.{[], List, append-nil, refl, ap, ◌∙◌, sym, arith}
 use Rattle.sqlx_pool_marks.specs.declared.mark.Mark.{Mark}
 use Rattle.sqlx_pool_log.specs.PackedLog.{marks_of}
 use Rattle.sqlx_family.specs.Pools.{pool_in}
@@ -11,25 +11,18 @@ use Rattle.sqlx_family_pool.proofs.PoolLemmas.{reserved, reserved-same}
 use Rattle.sqlx_family_pool.proofs.locked.LockedFamily.minimum_place.Goals as goal
 
 pub reserve-requires-clause-room : goal.reserve-requires-clause-room
-reserve-requires-clause-room g c =
-    let here : c.args.pool < length c.self.inside.family.pools = grind arith in
-    room-there c.self.inside.logs.items c.self.invariant c.args.pool here c.index_mut.result.now c.index_mut.ensures.value
+reserve-requires-clause-room g c = room-there c.self.inside.logs.items c.self.invariant c.args.pool (grind arith) c.index_mut.result.now c.index_mut.ensures.value
 
 pub invariant_of-self : goal.invariant_of-self
-invariant_of-self g c =
-    let here : c.args.pool < length c.self.inside.family.pools = grind arith in
-    reserved c.self.inside.logs.items c.self.invariant c.args.pool c.index_mut.result.now c.reserve.new.log (in-logs c.self.inside.logs.items c.self.invariant c.args.pool here c.index_mut.result.now c.index_mut.ensures.value) c.index_mut.ensures.value c.reserve.ensures.marks c.reserve.ensures.capacity
+invariant_of-self g c = reserved c.self.inside.logs.items c.self.invariant c.args.pool c.index_mut.result.now c.reserve.new.log (in-logs c.self.inside.logs.items c.self.invariant c.args.pool (grind arith) c.index_mut.result.now c.index_mut.ensures.value) c.index_mut.ensures.value c.reserve.ensures.marks c.reserve.ensures.capacity
 
 pub invariant_of-self-2 : goal.invariant_of-self-2
 invariant_of-self-2 g c =
-    let here : c.args.pool < length c.self.inside.family.pools = grind arith in
-    let room = c.reserve.ensures.room c.if-not-reserve.false in
-    let few = place-few c.minimum_place.result in
-    written c.self.inside.logs.items c.self.invariant c.args.pool here c.index_mut.result.now c.index_mut.ensures.value
-    (replaces-put c.args.pool c.self.inside.family here c.minimum_place.ensures.becomes) c.minimum_place.ensures.makes c.minimum_place.ensures.balance
+    written c.self.inside.logs.items c.self.invariant c.args.pool (grind arith) c.index_mut.result.now c.index_mut.ensures.value
+    (replaces-put c.args.pool c.self.inside.family (grind arith) c.minimum_place.ensures.becomes) c.minimum_place.ensures.makes c.minimum_place.ensures.balance
     (placed-leaves g.C.Depth.levels c.minimum_place.result (pool_in c.args.pool c.self.inside.family))
     c.self.inside.connect (kept-books c.self.inside.books [] refl) c.reserve.new.log (c.reserve.ensures.marks ∙ sym (append-nil (marks_of c.index_mut.result.now)))
-    (omega (arith, room, few))
+    (let room = c.reserve.ensures.room c.if-not-reserve.false in let few = place-few c.minimum_place.result in omega (arith, room, few))
 
 pub returns-then-not-reserve-clause-logs : goal.returns-then-not-reserve-clause-logs
 returns-then-not-reserve-clause-logs g c = rw (← c.self.view_is) (reserved-same c.self.inside.logs.items c.args.pool c.index_mut.result.now c.reserve.new.log c.index_mut.ensures.value c.reserve.ensures.marks)

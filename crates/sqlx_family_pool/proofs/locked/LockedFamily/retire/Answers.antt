@@ -1,6 +1,6 @@
-use Rattle.std.proofs.Common.{◌<◌, length, arith}
+use Rattle.std.proofs.Common.{arith}
 use Rattle.sqlx_family.specs.Pools.{pool_in}
-use Rattle.sqlx_family_pool.proofs.StepLemmas.{in-logs, room-there, logs-grow, written}
+use Rattle.sqlx_family_pool.proofs.StepLemmas.{room-there, written-within, logs-written}
 use Rattle.sqlx_pool_lists.specs.MaintenanceSteps.{close_marks}
 use Rattle.sqlx_pool.proofs.LeavesLemmas.{closed-leaves}
 use Rattle.sqlx_pool.proofs.StepLemmas.{kept-books, close-lends}
@@ -8,25 +8,17 @@ use Rattle.sqlx_family_pool.proofs.Replaces.{replaces-retire}
 use Rattle.sqlx_family_pool.proofs.locked.LockedFamily.retire.Goals as goal
 
 pub retire-requires-clause-room : goal.retire-requires-clause-room
-retire-requires-clause-room g c =
-    let here : c.args.pool < length c.self.inside.family.pools = grind arith in
-    room-there c.self.inside.logs.items c.self.invariant c.args.pool here c.index_mut.result.now c.index_mut.ensures.value
+retire-requires-clause-room g c = room-there c.self.inside.logs.items c.self.invariant c.args.pool (grind arith) c.index_mut.result.now c.index_mut.ensures.value
 
 pub invariant_of-self : goal.invariant_of-self
 invariant_of-self g c =
-    let here : c.args.pool < length c.self.inside.family.pools = grind arith in
-    let room = room-there c.self.inside.logs.items c.self.invariant c.args.pool here c.index_mut.result.now c.index_mut.ensures.value in
-    let capacity = c.retire.ensures.capacity in
-    written c.self.inside.logs.items c.self.invariant c.args.pool here c.index_mut.result.now c.index_mut.ensures.value
-    (replaces-retire c.args.pool c.self.inside.family here c.retire.ensures.becomes) c.retire.ensures.makes c.retire.ensures.balance
+    written-within c.self.inside.logs.items c.self.invariant c.args.pool (grind arith) c.index_mut.result.now c.index_mut.ensures.value
+    (replaces-retire c.args.pool c.self.inside.family (grind arith) c.retire.ensures.becomes) c.retire.ensures.makes c.retire.ensures.balance
     (closed-leaves g.C.Depth.levels (pool_in c.args.pool c.self.inside.family).shut (pool_in c.args.pool c.self.inside.family))
-    c.self.inside.connect (kept-books c.self.inside.books (close_marks (pool_in c.args.pool c.self.inside.family).shut c.retire.result.items) (close-lends (pool_in c.args.pool c.self.inside.family).shut c.retire.result.items)) c.retire.new.log c.retire.ensures.marks (omega (arith, room, capacity))
+    c.self.inside.connect (kept-books c.self.inside.books (close_marks (pool_in c.args.pool c.self.inside.family).shut c.retire.result.items) (close-lends (pool_in c.args.pool c.self.inside.family).shut c.retire.result.items)) c.retire.new.log c.retire.ensures.marks c.retire.ensures.capacity
 
 pub returns-clause-marks : goal.returns-clause-marks
-returns-clause-marks g c =
-    let here : c.args.pool < length c.self.inside.family.pools = grind arith in
-    rw (← c.self.view_is)
-    (λ named. logs-grow c.self.inside.logs.items c.args.pool c.index_mut.result.now (in-logs c.self.inside.logs.items c.self.invariant c.args.pool here c.index_mut.result.now c.index_mut.ensures.value) c.index_mut.ensures.value c.retire.new.log (close_marks (pool_in c.args.pool c.self.inside.family).shut c.retire.result.items) c.retire.ensures.marks)
+returns-clause-marks g c = rw (← c.self.view_is) (λ named. logs-written c.self.inside.logs.items c.self.invariant c.args.pool (grind arith) c.index_mut.result.now c.index_mut.ensures.value c.retire.new.log (close_marks (pool_in c.args.pool c.self.inside.family).shut c.retire.result.items) c.retire.ensures.marks)
 
 pub returns-clause-becomes : goal.returns-clause-becomes
 returns-clause-becomes g c = rw (← c.self.view_is) (λ named. c.retire.ensures.becomes)

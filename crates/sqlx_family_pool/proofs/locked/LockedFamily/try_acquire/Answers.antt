@@ -8,14 +8,12 @@ use Rattle.sqlx_family.specs.RootLine.{passes_in}
 use Rattle.sqlx_pool.proofs.LeavesLemmas.{try-leaves, try-flat}
 use Rattle.sqlx_family_pool.specs.FamilyState.{family_state}
 use Rattle.sqlx_family_pool.proofs.Replaces.{replaces-put}
-use Rattle.sqlx_family_pool.proofs.StepLemmas.{is-named, in-logs, room-there, logs-grow, written, few-held}
+use Rattle.sqlx_family_pool.proofs.StepLemmas.{in-logs, logs-written, room-there, written, is-named, few-held}
 use Rattle.sqlx_family_pool.proofs.PoolLemmas.{reserved, reserved-same}
 use Rattle.sqlx_family_pool.proofs.locked.LockedFamily.try_acquire.Goals as goal
 
 pub lend_past-requires-clause-room : goal.lend_past-requires-clause-room
-lend_past-requires-clause-room g c =
-    let here : c.args.pool < length c.self.inside.family.pools = is-named {b = c.is_named.result} (rw (← c.self.view_is) at c.is_named.ensures) c.if-not-is_named.false in
-    room-there c.self.inside.logs.items c.self.invariant c.args.pool here c.index_mut-log.result.now c.index_mut-log.ensures.value
+lend_past-requires-clause-room g c = room-there c.self.inside.logs.items c.self.invariant c.args.pool (is-named {b = c.is_named.result} (rw (← c.self.view_is) at c.is_named.ensures) c.if-not-is_named.false) c.index_mut-log.result.now c.index_mut-log.ensures.value
 
 pub invariant_of-self : goal.invariant_of-self
 invariant_of-self g c =
@@ -38,16 +36,10 @@ invariant_of-self-in-None g c =
     (reserved c.self.inside.logs.items c.self.invariant c.args.pool c.index_mut-log.result.now c.lend_past.new.log (in-logs c.self.inside.logs.items c.self.invariant c.args.pool here c.index_mut-log.result.now c.index_mut-log.ensures.value) c.index_mut-log.ensures.value (c.in-None.ensures.marks ∙ append-nil (marks_of c.index_mut-log.result.now)) c.lend_past.ensures.capacity)
 
 pub returns-in-Some-clause-flat : goal.returns-in-Some-clause-flat
-returns-in-Some-clause-flat g c =
-    let here : c.args.pool < length c.self.inside.family.pools = is-named {b = c.is_named.result} (rw (← c.self.view_is) at c.is_named.ensures) c.if-not-is_named.false in
-    let core = pool_in c.args.pool c.self.inside.family in
-    try-flat g.C.Depth.levels (passes_in c.args.pool c.self.inside.family) core.idle c.in-Some.lent (sym c.in-Some.ensures.first) (c.self.invariant.standing.rest c.args.pool here)
+returns-in-Some-clause-flat g c = try-flat g.C.Depth.levels (passes_in c.args.pool c.self.inside.family) (pool_in c.args.pool c.self.inside.family).idle c.in-Some.lent (sym c.in-Some.ensures.first) (c.self.invariant.standing.rest c.args.pool (is-named {b = c.is_named.result} (rw (← c.self.view_is) at c.is_named.ensures) c.if-not-is_named.false))
 
 pub returns-in-Some-clause-marks : goal.returns-in-Some-clause-marks
-returns-in-Some-clause-marks g c =
-    let here : c.args.pool < length c.self.inside.family.pools = is-named {b = c.is_named.result} (rw (← c.self.view_is) at c.is_named.ensures) c.if-not-is_named.false in
-    rw (← c.self.view_is)
-    (logs-grow c.self.inside.logs.items c.args.pool c.index_mut-log.result.now (in-logs c.self.inside.logs.items c.self.invariant c.args.pool here c.index_mut-log.result.now c.index_mut-log.ensures.value) c.index_mut-log.ensures.value c.lend_past.new.log (try_marks c.args.client (Some c.in-Some.lent)) c.in-Some.ensures.marks)
+returns-in-Some-clause-marks g c = rw (← c.self.view_is) (logs-written c.self.inside.logs.items c.self.invariant c.args.pool (is-named {b = c.is_named.result} (rw (← c.self.view_is) at c.is_named.ensures) c.if-not-is_named.false) c.index_mut-log.result.now c.index_mut-log.ensures.value c.lend_past.new.log (try_marks c.args.client (Some c.in-Some.lent)) c.in-Some.ensures.marks)
 
 pub lend-held-requires-clause-part : goal.lend-held-requires-clause-part
 lend-held-requires-clause-part g c = let owned = c.self.invariant.standing.owned in let few = few-held c.self.inside.family c.bounds.ensures in omega (arith, owned, few)

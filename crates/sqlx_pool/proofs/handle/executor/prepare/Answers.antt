@@ -5,7 +5,7 @@ use Rattle.sqlx_pool.proofs.handle.executor.prepare.Goals as goal
 
 pub returns-in-Ok-clause-ran : goal.returns-in-Ok-clause-ran
 returns-in-Ok-clause-ran g c =
-    inr (c.in-Ok.lent.raw, c.prepare_on-prepared.new.conn.raw, c.in-Ok.ensures.flat, lent_back _ _ _ c.in-Ok.ensures.lent c.give_back.ensures.tally, c.prepare_on-prepared.ensures.prepared)
+    inr (c.in-Ok.lent.raw, c.prepare_on-prepared.new.conn.raw, c.in-Ok.ensures.flat, lent_back _ _ _ c.in-Ok.ensures.lent c.give_back.ensures.tally, c.prepare_on-prepared.ensures.prepared, c.prepare_on-prepared.ensures.cause)
 
 pub returns-in-Ok-clause-cause : goal.returns-in-Ok-clause-cause
 returns-in-Ok-clause-cause g c =

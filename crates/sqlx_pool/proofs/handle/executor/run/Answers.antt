@@ -5,7 +5,7 @@ use Rattle.sqlx_pool.proofs.handle.executor.run.Goals as goal
 
 pub returns-in-Ok-clause-ran : goal.returns-in-Ok-clause-ran
 returns-in-Ok-clause-ran g c =
-    inr (c.in-Ok.lent.raw, c.run_on-list.new.conn.raw, c.in-Ok.ensures.flat, lent_back _ _ _ c.in-Ok.ensures.lent c.give_back.ensures.tally, c.run_on-list.ensures.steps)
+    inr (c.in-Ok.lent.raw, c.run_on-list.new.conn.raw, c.in-Ok.ensures.flat, lent_back _ _ _ c.in-Ok.ensures.lent c.give_back.ensures.tally, c.run_on-list.ensures.steps, c.run_on-list.ensures.causes)
 
 pub returns-in-Ok-clause-causes : goal.returns-in-Ok-clause-causes
 returns-in-Ok-clause-causes g c =

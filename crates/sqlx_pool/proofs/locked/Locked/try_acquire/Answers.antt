@@ -1,9 +1,8 @@
 use Rattle.std.proofs.Common.{Some, inr, sym, arith}
-use Rattle.sqlx_pool_marks.specs.EventTable.{may_pass}
-use Rattle.sqlx_pool_lists.specs.Core.{waiting, free}
 use Rattle.sqlx_pool_core.specs.Logs.{moment_of}
 use Rattle.sqlx_pool.proofs.LeavesLemmas.{leaves-along, try-leaves, try-flat}
 use Rattle.sqlx_pool.proofs.StepLemmas.{stepped}
+use Rattle.sqlx_pool.specs.Steps.{passes}
 use Rattle.sqlx_pool.proofs.locked.Locked.try_acquire.Goals as goal
 
 pub invariant_of-self : goal.invariant_of-self
@@ -21,4 +20,4 @@ invariant_of-self g c =
 pub returns-in-Some-clause-flat : goal.returns-in-Some-clause-flat
 returns-in-Some-clause-flat g c =
     let core = c.self.inside.core.pool in
-    try-flat g.C.Depth.levels (may_pass core.shut (waiting core.tickets) (free core)) core.idle c.in-Some.lent (sym c.in-Some.ensures.first) c.self.invariant.standing.rest
+    try-flat g.C.Depth.levels (passes core) core.idle c.in-Some.lent (sym c.in-Some.ensures.first) c.self.invariant.standing.rest

@@ -8,4 +8,5 @@ returns-clause-saw g c = (
   c.close-idle.result.items,
   sym c.close_all.ensures.count,
   subst (λ s. SeesStep g.S.PoolSteps.stands c.args.me.now c.close-idle.new.me (g.S.PoolSteps.does (call.Close s.name c.close-idle.result.items))) c.deref.ensures c.close-idle.ensures,
+  c.close_all.ensures.closes,
 )

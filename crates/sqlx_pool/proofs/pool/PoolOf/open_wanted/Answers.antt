@@ -30,16 +30,16 @@ returns-in-Failed-clause-causes g c = λ _. ended_for_good _ _ c.in-Failed.error
 
 pub returns-in-Opened-clause-chain : goal.returns-in-Opened-clause-chain
 returns-in-Opened-clause-chain g c =
-    opens_one _ _ _ g.S.PoolSteps.stands g.S.PoolSteps.does c.args.self.now.shared.value.name c.args.client c.args.ticket c.args.now c.args.self.now.shared.value.options (opening.Opened c.in-Opened.raw) _ c.args.stage c.tell.result c.args.me.now _ _ _ c.in-Connect.is refl c.in-Opened.ensures.tries (c.tell.ensures.tells (opening.Opened c.in-Opened.raw))
+    opens_one _ _ _ g.S.PoolSteps.stands g.S.PoolSteps.does c.args.self.now.shared.value.name c.args.client c.args.ticket g.S.PoolSteps.tells c.args.now c.args.self.now.shared.value.options (opening.Opened c.in-Opened.raw) _ c.args.stage c.tell.result c.args.me.now _ _ _ _ c.in-Connect.is refl c.in-Opened.ensures.tries (c.tell.ensures.tells (opening.Opened c.in-Opened.raw))
 
 pub returns-in-Rejected-clause-chain : goal.returns-in-Rejected-clause-chain
 returns-in-Rejected-clause-chain g c =
-    opens_one _ _ _ g.S.PoolSteps.stands g.S.PoolSteps.does c.args.self.now.shared.value.name c.args.client c.args.ticket c.args.now c.args.self.now.shared.value.options (opening.Rejected) _ c.args.stage c.tell-in-Rejected.result c.args.me.now _ _ _ c.in-Connect.is refl c.in-Rejected.ensures.tries (c.tell-in-Rejected.ensures.tells opening.Rejected)
+    opens_one _ _ _ g.S.PoolSteps.stands g.S.PoolSteps.does c.args.self.now.shared.value.name c.args.client c.args.ticket g.S.PoolSteps.tells c.args.now c.args.self.now.shared.value.options (opening.Rejected) _ c.args.stage c.tell-in-Rejected.result c.args.me.now _ _ _ _ c.in-Connect.is refl c.in-Rejected.ensures.tries (c.tell-in-Rejected.ensures.tells opening.Rejected)
 
 pub returns-in-Transient-clause-chain : goal.returns-in-Transient-clause-chain
 returns-in-Transient-clause-chain g c =
-    opens_one _ _ _ g.S.PoolSteps.stands g.S.PoolSteps.does c.args.self.now.shared.value.name c.args.client c.args.ticket c.args.now c.args.self.now.shared.value.options (opening.Transient) _ c.args.stage c.tell-in-Transient.result c.args.me.now _ _ _ c.in-Connect.is refl c.in-Transient.ensures.tries (c.tell-in-Transient.ensures.tells opening.Transient)
+    opens_one _ _ _ g.S.PoolSteps.stands g.S.PoolSteps.does c.args.self.now.shared.value.name c.args.client c.args.ticket g.S.PoolSteps.tells c.args.now c.args.self.now.shared.value.options (opening.Transient) _ c.args.stage c.tell-in-Transient.result c.args.me.now _ _ _ _ c.in-Connect.is refl c.in-Transient.ensures.tries (c.tell-in-Transient.ensures.tells opening.Transient)
 
 pub returns-in-Failed-clause-chain : goal.returns-in-Failed-clause-chain
 returns-in-Failed-clause-chain g c =
-    opens_one _ _ _ g.S.PoolSteps.stands g.S.PoolSteps.does c.args.self.now.shared.value.name c.args.client c.args.ticket c.args.now c.args.self.now.shared.value.options (opening.Failed c.in-Failed.error) _ c.args.stage c.tell_fatal.result c.args.me.now _ _ _ c.in-Connect.is refl c.in-Failed.ensures.tries c.tell_fatal.ensures.tells
+    opens_one _ _ _ g.S.PoolSteps.stands g.S.PoolSteps.does c.args.self.now.shared.value.name c.args.client c.args.ticket g.S.PoolSteps.tells c.args.now c.args.self.now.shared.value.options (opening.Failed c.in-Failed.error) _ c.args.stage c.tell_fatal.result c.args.me.now _ _ _ _ c.in-Connect.is refl c.in-Failed.ensures.tries c.tell_fatal.ensures.tells

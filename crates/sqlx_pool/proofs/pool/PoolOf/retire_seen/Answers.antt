@@ -8,4 +8,5 @@ returns-clause-saw g c = (
   c.retire-idle.result.items,
   sym c.close_all.ensures.count,
   subst (λ s. SeesStep g.S.PoolSteps.stands c.args.me.now c.retire-idle.new.me (g.S.PoolSteps.does (call.Retire s.name c.retire-idle.result.items))) c.deref.ensures c.retire-idle.ensures,
+  c.close_all.ensures.closes,
 )
