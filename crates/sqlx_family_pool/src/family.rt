@@ -291,7 +291,7 @@ impl<C: Depth + Drop, O: Drop, H: Ledger, L: Loans> PoolSteps<C, O>
         self.cut(name)
     }
 
-    fn cut_if_long(&mut self, name: u32) {
+    fn cut_if_long(&mut self, name: u32) -> bool {
         self.cut_if_long(name)
     }
 

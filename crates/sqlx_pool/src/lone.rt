@@ -294,7 +294,7 @@ impl<C: Depth + Drop, O: Drop, H: Ledger, L: Loans> PoolSteps<C, O>
         self.cut()
     }
 
-    fn cut_if_long(&mut self, _name: ()) {
+    fn cut_if_long(&mut self, _name: ()) -> bool {
         self.cut_if_long()
     }
 

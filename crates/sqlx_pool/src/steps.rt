@@ -355,9 +355,10 @@ pub trait PoolSteps<C: Depth, O>: Stands<Self::Stood> + Drop + Sized {
         requires { cuts ≡ true }
         ensures { does (call.Cut name) (Self.Stands.state self.old) (Self.Stands.state self.new) };
 
-    /// Cuts the log where it is long.
-    fn cut_if_long(&mut self, name: Self::Name)
-        ensures { does (call.CutIfLong name) (Self.Stands.state self.old) (Self.Stands.state self.new) };
+    /// Cuts the log where it is long, and tells whether it was.
+    fn cut_if_long(&mut self, name: Self::Name) -> bool
+        ensures becomes { does (call.CutIfLong name) (Self.Stands.state self.old) (Self.Stands.state self.new) }
+        ensures same { result ≡ false → Self.Stands.state self.new ≡ Self.Stands.state self.old };
 
     /// Sets by how many marks behind its start the log is one to be cut.
     fn set_log_limit(&mut self, name: Self::Name, limit: Option<usize>)

@@ -1,6 +1,6 @@
 //! Cutting the log of a pool.
 
-ghost use Rattle.std.specs.Prelude.{◌≡◌, ◌+◌, ◌<◌, ◌≤◌, true, length, if◌then◌else◌};
+ghost use Rattle.std.specs.Prelude.{◌≡◌, ◌+◌, ◌<◌, ◌≤◌, true, false, length, if◌then◌else◌};
 ghost use Rattle.sqlx_pool_parts.specs.LogStart.{is_long};
 ghost use Rattle.sqlx_family_pool.specs.FamilyState.{IsNamed, IsUnnamed, IsWithinLimitIn, cut_at, limited_at, log_of, start_at};
 
@@ -30,16 +30,20 @@ impl<C: Depth, O, H: Ledger, L: Loans> LockedFamily<C, O, H, L> {
     }
 
     /// Cuts a pool's log where it has a limit, and behind its start there are at least as many marks as that, and as the
-    /// start has. Where it has none nothing changes.
-    pub fn cut_if_long(&mut self, pool: u32)
+    /// start has, and tells whether it did. Where it has none nothing changes.
+    pub fn cut_if_long(&mut self, pool: u32) -> bool
+        ensures told { result ≡ is_long (start_at self.old pool) (length (log_of self.old pool)) }
+        ensures same { result ≡ false → self.new ≡ self.old }
         ensures becomes { IsNamed pool self.old → self.new ≡ (if is_long (start_at self.old pool) (length (log_of self.old pool)) then cut_at pool self.old else self.old) }
         ensures within { IsWithinLimitIn self.new pool }
         ensures unnamed { IsUnnamed pool self.old → self.new ≡ self.old }
     {
         self.facts();
-        if self.is_long(pool) {
+        let long = self.is_long(pool);
+        if long {
             self.cut(pool);
         }
+        long
     }
 
     // A pool's log is to be cut. One that nobody added has none.

@@ -135,11 +135,12 @@ impl<C: Depth, O, S: PoolSteps<C, O>> Kept<C, O, S> {
         history.add(rt, &*locked);
     }
 
-    // Cuts the log where it is long.
+    // Cuts the log where it is long. Where nothing is cut, no state is added to the history.
     pub(crate) fn cut_if_long<R: Wait>(&mut self, rt: &R, name: S::Name) {
         let Kept { locked, history } = self;
-        locked.cut_if_long(name);
-        history.add(rt, &*locked);
+        if locked.cut_if_long(name) {
+            history.add(rt, &*locked);
+        }
     }
 
     // Sets by how many marks behind its start the log is one to be cut.

@@ -1,6 +1,6 @@
 //! Cutting the log.
 
-ghost use Rattle.std.specs.Prelude.{◌≡◌, ◌+◌, ◌≤◌, ℕ, true, None, length, if◌then◌else◌};
+ghost use Rattle.std.specs.Prelude.{◌≡◌, ◌+◌, ◌≤◌, ℕ, true, false, None, length, if◌then◌else◌};
 ghost use Rattle.sqlx_pool_marks.specs.Cut.{cut_of};
 ghost use Rattle.sqlx_pool_parts.specs.LogStart.{is_long};
 ghost use Rattle.sqlx_pool_parts.specs.State.{IsWithinLimit};
@@ -34,8 +34,10 @@ impl<C: Depth, O, H: Ledger, L: Loans> Locked<C, O, H, L> {
     }
 
     /// Cuts the log where a limit is set, and behind the start there are at least as many marks as that, and as the
-    /// start has. Where none is set nothing changes.
-    pub fn cut_if_long(&mut self)
+    /// start has, and tells whether it did. Where none is set nothing changes.
+    pub fn cut_if_long(&mut self) -> bool
+        ensures told { result ≡ is_long self.old.start (length self.old.marks) }
+        ensures same { result ≡ false → self.new ≡ self.old }
         ensures marks { self.new.marks ≡ (if is_long self.old.start (length self.old.marks) then cut_of self.old.marks else self.old.marks) }
         ensures within { IsWithinLimit self.new }
         ensures unset { self.old.start.limit ≡ None → self.new ≡ self.old }
@@ -44,9 +46,11 @@ impl<C: Depth, O, H: Ledger, L: Loans> Locked<C, O, H, L> {
         ensures connect { self.new.connect ≡ self.old.connect }
         ensures booked { self.new.booked ≡ self.old.booked }
     {
-        if self.start.is_long(self.log.len()) {
+        let long = self.start.is_long(self.log.len());
+        if long {
             self.cut();
         }
+        long
     }
 
     /// Sets by how many marks behind its start the log is one to be cut.
