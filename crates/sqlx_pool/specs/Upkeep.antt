@@ -1,5 +1,5 @@
 -- What a pool has to reap, to test and to open, whose turn it is, and when a call that opens for the minimum ends.
-use Rattle.std.specs.Prelude.{◌≡◌, ◌⊎◌, ℕ, ◌+◌, ⊤, Bool, true, false, Option, Some, None, nat_lt}
+use Rattle.std.specs.Prelude.{◌≡◌, ◌⊎◌, ℕ, ◌+◌, ⊤, Bool, true, false, List, Option, Some, None, nat_lt}
 use Rattle.std.specs.List.{list_any}
 use Rattle.sqlx_text.specs.declared.Moment.{Moment}
 use Rattle.sqlx_pool_marks.specs.EventTable.{closes, reaped_at, has_place_at}
@@ -11,7 +11,10 @@ use Rattle.sqlx_pool_lists.specs.CoreTurn.{is_first_in_line}
 use Rattle.sqlx_pool_lists.specs.Limits.{limits_of}
 use Rattle.sqlx_pool_lists.specs.PollSteps.{phase_for, is_in_line}
 use Rattle.sqlx_pool_core.specs.Logs.{moment_of}
+use Rattle.sqlx_pool.specs.Calls.{Look}
+use Rattle.sqlx_pool.specs.Calls as call
 use Rattle.sqlx_pool.specs.Places.{holds_place}
+use Rattle.sqlx_pool.specs.Seen.{HasSeen}
 use Rattle.sqlx_pool_parts.specs.State.{PoolState}
 use Rattle.sqlx_pool_parts.specs.declared.filled.Filled.{Filled}
 use Rattle.sqlx_pool_parts.specs.declared.filled.Filled.TheVariants as filled
@@ -41,6 +44,11 @@ module _ {C O : Type 0} where
   -- no connection may be opened for the minimum, or no place is held for one
   abbrev pub IsFilled : PoolState C O → Type 0
   IsFilled state = (has_room state ≡ false) ⊎ (holds_place state.core ≡ false)
+
+-- a state was seen in which no connection may be opened for the minimum, or no place is held for one
+module _ {N L O S : Type 0} (stands : S → Type 0) (tells : Look N L O → S → Type 0) (name : N) where
+  abbrev pub SawFilled : List S → List S → Type 0
+  SawFilled seen seen_now = HasSeen stands seen seen_now (tells (call.IsFilled name))
 
 -- why a try for the minimum opened nothing, but for want of memory: the pool had no place, or a refusal was counted
 abbrev pub IfUnfilled : Filled → Type 0 → Type 0 → Type 0

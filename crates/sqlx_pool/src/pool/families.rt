@@ -1,12 +1,10 @@
 //! What a pool of a family has besides: children of a root, and the permits that each owns.
 
-ghost use Rattle.std.specs.Prelude.{◌≡◌, ◌⊎◌, ◌≤◌, ℕ, List, length, Err, Ok, IfOk, IfErr};
+ghost use Rattle.std.specs.Prelude.{◌≡◌, ◌⊎◌, ◌≤◌, ℕ, Err, Ok, IfOk, IfErr};
 ghost use Rattle.sqlx_text.specs.declared.error.Error.{Error};
-ghost use Rattle.sqlx_pool_lists.specs.declared.steps.Idle.{Idle};
-ghost use Rattle.sqlx_pool_core.specs.declared.idle_check.Check.{Check};
-ghost use Rattle.sqlx_pool_parts.specs.Checks.{ClosesAll};
 ghost use Rattle.sqlx_pool.specs.Calls as call;
 ghost use Rattle.sqlx_pool.specs.Families.{IsChildOf};
+ghost use Rattle.sqlx_pool.specs.Reaped.{ClosesIdle};
 ghost use Rattle.sqlx_pool.specs.Seen.{HasSeen, Sees, SeesStep};
 
 use super::PoolOf;
@@ -82,7 +80,7 @@ impl<C: Depth + Drop, O: Drop, S: FamilySteps<C, O>> PoolOf<C, O, S> {
         me: &mut FrontOf<C, O, S>,
     ) -> usize
         requires child { S.FamilySteps.is_child self.now.shared.value.name }
-        ensures saw { (idle : List (Idle C)) × (length idle ≡ result) × SeesStep S.PoolSteps.stands me.old me.new (S.PoolSteps.does (call.Retire self.now.shared.value.name idle)) × ClosesAll X.does Check.Close idle out.old out.new }
+        ensures saw { ClosesIdle X.does S.PoolSteps.stands (λ idle. S.PoolSteps.does (call.Retire self.now.shared.value.name idle)) result me.old me.new out.old out.new }
         ensures counts { (X.faults out.old ≤ X.faults out.new) × (X.refusals out.old ≤ X.refusals out.new) }
     {
         let mut guard = self.lock(rt);

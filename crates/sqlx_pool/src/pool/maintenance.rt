@@ -12,7 +12,7 @@ ghost use Rattle.sqlx_pool.specs.Reaped.{ReapsSome};
 ghost use Rattle.sqlx_pool.specs.Returned.{ChecksReturn, IsTestedAt};
 ghost use Rattle.sqlx_pool.specs.Seen.{HasSeen};
 ghost use Rattle.sqlx_pool.specs.Calls as call;
-ghost use Rattle.sqlx_pool.specs.Upkeep.{EndsKeeping, IfUnfilled};
+ghost use Rattle.sqlx_pool.specs.Upkeep.{EndsKeeping, IfUnfilled, SawFilled};
 
 use super::PoolOf;
 use crate::steps::PoolSteps;
@@ -128,7 +128,7 @@ impl<C: Depth + Drop, O: Drop, S: PoolSteps<C, O>> PoolOf<C, O, S> {
         ensures most { (result.0 ≤ self.now.shared.value.options.max_connections) × (result.1.opened ≤ self.now.shared.value.options.max_connections) }
         ensures reaps { (seen : List S.Stood) × (between : X) × ReapsSome X.does S.stands S.does self.now.shared.value.name now result.0 me.old seen out.old between × IsPrefix seen me.new }
         ensures reaped { (result.0 ≡ self.now.shared.value.options.max_connections) ⊎ HasSeen S.stands me.old me.new (S.tells (call.NothingToReap self.now.shared.value.name now)) }
-        ensures ends { TellsLevels X.depth C.levels → EndsKeeping self.now.shared.value.options (HasSeen S.stands me.old me.new (S.tells (call.IsFilled self.now.shared.value.name))) (IsCounted X.faults X.refusals out.old out.new) result.1 }
+        ensures ends { TellsLevels X.depth C.levels → EndsKeeping self.now.shared.value.options (SawFilled S.stands S.tells self.now.shared.value.name me.old me.new) (IsCounted X.faults X.refusals out.old out.new) result.1 }
         ensures later { IsPrefix me.old me.new }
         ensures counts { (X.faults out.old ≤ X.faults out.new) × (X.refusals out.old ≤ X.refusals out.new) }
     {
@@ -213,7 +213,7 @@ impl<C: Depth + Drop, O: Drop, S: PoolSteps<C, O>> PoolOf<C, O, S> {
         me: &mut FrontOf<C, O, S>,
     ) -> Openings
         ensures most { result.opened ≤ self.now.shared.value.options.max_connections }
-        ensures ends { TellsLevels X.depth C.levels → EndsKeeping self.now.shared.value.options (HasSeen S.stands me.old me.new (S.tells (call.IsFilled self.now.shared.value.name))) (IsCounted X.faults X.refusals out.old out.new) result }
+        ensures ends { TellsLevels X.depth C.levels → EndsKeeping self.now.shared.value.options (SawFilled S.stands S.tells self.now.shared.value.name me.old me.new) (IsCounted X.faults X.refusals out.old out.new) result }
         ensures later { IsPrefix me.old me.new }
         ensures counts { (X.faults out.old ≤ X.faults out.new) × (X.refusals out.old ≤ X.refusals out.new) }
     {
@@ -250,7 +250,7 @@ impl<C: Depth + Drop, O: Drop, S: PoolSteps<C, O>> PoolOf<C, O, S> {
         out: &mut X,
         me: &mut FrontOf<C, O, S>,
     ) -> Filled
-        ensures unfilled { TellsLevels X.depth C.levels → IfUnfilled result (HasSeen S.stands me.old me.new (S.tells (call.IsFilled self.now.shared.value.name))) (IsCounted X.faults X.refusals out.old out.new) }
+        ensures unfilled { TellsLevels X.depth C.levels → IfUnfilled result (SawFilled S.stands S.tells self.now.shared.value.name me.old me.new) (IsCounted X.faults X.refusals out.old out.new) }
         ensures later { IsPrefix me.old me.new }
         ensures counts { (X.faults out.old ≤ X.faults out.new) × (X.refusals out.old ≤ X.refusals out.new) }
     {
@@ -273,7 +273,7 @@ impl<C: Depth + Drop, O: Drop, S: PoolSteps<C, O>> PoolOf<C, O, S> {
         out: &mut X,
         me: &mut FrontOf<C, O, S>,
     ) -> Filled
-        ensures unfilled { TellsLevels X.depth C.levels → IfUnfilled result (HasSeen S.stands me.old me.new (S.tells (call.IsFilled self.now.shared.value.name))) (IsCounted X.faults X.refusals out.old out.new) }
+        ensures unfilled { TellsLevels X.depth C.levels → IfUnfilled result (SawFilled S.stands S.tells self.now.shared.value.name me.old me.new) (IsCounted X.faults X.refusals out.old out.new) }
         ensures later { IsPrefix me.old me.new }
         ensures counts { (X.faults out.old ≤ X.faults out.new) × (X.refusals out.old ≤ X.refusals out.new) }
     {
@@ -305,7 +305,7 @@ impl<C: Depth + Drop, O: Drop, S: PoolSteps<C, O>> PoolOf<C, O, S> {
         me: &mut FrontOf<C, O, S>,
     ) -> Filled
         requires { C.levels raw ≡ 0 }
-        ensures unfilled { IfUnfilled result (HasSeen S.stands me.old me.new (S.tells (call.IsFilled self.now.shared.value.name))) (IsCounted X.faults X.refusals out.old out.new) }
+        ensures unfilled { IfUnfilled result (SawFilled S.stands S.tells self.now.shared.value.name me.old me.new) (IsCounted X.faults X.refusals out.old out.new) }
         ensures later { IsPrefix me.old me.new }
         ensures counts { (X.faults out.old ≤ X.faults out.new) × (X.refusals out.old ≤ X.refusals out.new) }
     {

@@ -1,15 +1,13 @@
 //! The calls that are handed a front of their caller's. It goes on, and then ends with the state, or with the step, of
 //! which the call tells.
 
-ghost use Rattle.std.specs.Prelude.{◌≡◌, ℕ, ◌≤◌, List, length, true, is_some, option_map, Ok, IfOk, IfErr, IfSome, OnErr};
+ghost use Rattle.std.specs.Prelude.{◌≡◌, ℕ, ◌≤◌, true, is_some, option_map, Ok, IfOk, IfErr, IfSome, OnErr};
 ghost use mathlib.Core.List.{IsPrefix};
 ghost use Rattle.sqlx_pool_parts.specs.Booked.{CountsIf};
-ghost use Rattle.sqlx_pool_lists.specs.declared.steps.Idle.{Idle};
-ghost use Rattle.sqlx_pool_core.specs.declared.idle_check.Check.{Check};
-ghost use Rattle.sqlx_pool_parts.specs.Checks.{ClosesAll};
 ghost use Rattle.sqlx_pool.specs.Calls as call;
 ghost use Rattle.sqlx_pool.specs.Lent.{as_lent};
 ghost use Rattle.sqlx_pool.specs.Refusals.{IsAskRefusal, IsTryRefusal};
+ghost use Rattle.sqlx_pool.specs.Reaped.{ClosesIdle};
 ghost use Rattle.sqlx_pool.specs.Seen.{Sees, SeesStep};
 
 use super::PoolOf;
@@ -157,7 +155,7 @@ impl<C: Depth + Drop, O: Drop, S: PoolSteps<C, O>> PoolOf<C, O, S> {
         out: &mut X,
         me: &mut FrontOf<C, O, S>,
     ) -> usize
-        ensures saw { (idle : List (Idle C)) × (length idle ≡ result) × SeesStep S.stands me.old me.new (S.does (call.Close self.now.shared.value.name idle)) × ClosesAll X.does Check.Close idle out.old out.new }
+        ensures saw { ClosesIdle X.does S.stands (λ idle. S.does (call.Close self.now.shared.value.name idle)) result me.old me.new out.old out.new }
         ensures counts { (X.faults out.old ≤ X.faults out.new) × (X.refusals out.old ≤ X.refusals out.new) }
     {
         let mut guard = self.lock(rt);
