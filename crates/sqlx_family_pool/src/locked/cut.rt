@@ -39,11 +39,12 @@ impl<C: Depth, O, H: Ledger, L: Loans> LockedFamily<C, O, H, L> {
         ensures unnamed { IsUnnamed pool self.old → self.new ≡ self.old }
     {
         self.facts();
-        let long = self.is_long(pool);
-        if long {
+        if self.is_long(pool) {
             self.cut(pool);
+            true
+        } else {
+            false
         }
-        long
     }
 
     // A pool's log is to be cut. One that nobody added has none.
